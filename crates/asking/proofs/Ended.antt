@@ -27,12 +27,12 @@ use Rattle.asking.specs.declared.run.RunEnd.TheVariants.{Whole, Stopped}
 use Rattle.asking.specs.declared.said.Said.{Said}
 use Rattle.asking.specs.AskOptions.{AskOptions, ask_keys_of, ask_values}
 use Rattle.asking.specs.Asking.{AsksDirectory, AsksSome, StopsAsking}
-use Rattle.asking.specs.Ending.{AsksNext, AsksOverSocket, AsksPart, AsksSomeLine, BeginsNone, DoesSome, end_status, EndsEarly, FailsAs, FailsOverSocket, Leaves, PreparesSome, RunsAs, stopped_status}
+use Rattle.asking.specs.Ending.{AsksNext, AsksOverSocket, AsksPart, AsksSomeLine, BeginsNone, DoesSome, end_status, EndsEarly, FailsAs, FailsOverSocket, HoldsBack, PreparesSome, RunsAs, stopped_status}
 use Rattle.asking.specs.Exchanges.{ExchangesFrames}
 use Rattle.asking.specs.Following.{Follows, StopsAfter, TakesSome}
 use Rattle.asking.specs.Joining.{BeginsSome, BeginsWatch}
 use Rattle.asking.specs.Reports.{Report, report_of}
-use Rattle.asking.specs.Runs.{AsksLines, BeginsAsking, BeginsRun, emptied, Background, lines_asked, Prepares, RunsWhole, Writes}
+use Rattle.asking.specs.Runs.{AsksLines, BeginsAsking, StartsRun, emptied, Background, lines_asked, Prepares, RunsWhole, Writes}
 use Rattle.asking.specs.Scenes.{HaltsAfter, Scene, StopsAtHead}
 use Rattle.asking.specs.Visiting.{TestsAll, TestsSome}
 use Rattle.asking.proofs.Ran.{LeadsOn, none_before}
@@ -64,11 +64,11 @@ pub some_not : (old : Option (List ℕ)) (text : List ℕ) → WritesSome old ol
 some_not old text = (text, ([], refl, Appends-nil old))
 
 -- all is still said
-pub leaves_same : (old : Option (List ℕ)) (said : Said) (told : Report) → report_of said ≡ told → Leaves old said told old
+pub leaves_same : (old : Option (List ℕ)) (said : Said) (told : Report) → report_of said ≡ told → HoldsBack old said told old
 leaves_same old said told same = (ap (λ (r : Report). r.status) same, [], [], sym (append-nil said.text.items ∙ ap (λ (r : Report). r.lines) same), Appends-nil old)
 
 -- it is written, and nothing is said any more
-pub leaves_written : (old new : Option (List ℕ)) (said said' : Said) (told : Report) → report_of said ≡ told → WritesSome old new said.text.items → said'.text.items ≡ [] → said'.status ≡ said.status → Leaves new said' told old
+pub leaves_written : (old new : Option (List ℕ)) (said said' : Said) (told : Report) → report_of said ≡ told → WritesSome old new said.text.items → said'.text.items ≡ [] → said'.status ≡ said.status → HoldsBack new said' told old
 leaves_written old new said said' told same (rest, (front, parts, appends)) empty status = (
   status ∙ ap (λ (r : Report). r.status) same,
   front,
@@ -78,7 +78,7 @@ leaves_written old new said said' told same (rest, (front, parts, appends)) empt
 )
 
 -- what is still said is written
-pub written_then : (old now new : Option (List ℕ)) (said : Said) (told : Report) → Leaves now said told old → WritesSome now new said.text.items → WritesSome old new told.lines
+pub written_then : (old now new : Option (List ℕ)) (said : Said) (told : Report) → HoldsBack now said told old → WritesSome now new said.text.items → WritesSome old new told.lines
 written_then old now new said told (status, text, rest, is, appends) (more, (front, parts, further)) = (
   more ++ rest,
   (
@@ -90,9 +90,9 @@ written_then old now new said told (status, text, rest, is, appends) (more, (fro
 
 -- such a scene is reached, and what was told in it is written or said
 pub reaches_so : {T E : Type 0} (result : Result (Unit {0}) E) (Reaches : Scene T → Type 0) (told : Report) (old new : Option (List ℕ)) (said : Said) → (reached : Scene T) × Reaches reached × (told ≡ reached.told)
-    → OnErr result (Leaves new said told old) → OnErr result ((reached : Scene T) × Reaches reached × Leaves new said reached.told old)
+    → OnErr result (HoldsBack new said told old) → OnErr result ((reached : Scene T) × Reaches reached × HoldsBack new said reached.told old)
 reaches_so (Ok done) Reaches told old new said reaches leaves = tt
-reaches_so (Err why) Reaches told old new said (reached, is, same) leaves = (reached, is, subst (λ (r : Report). Leaves new said r old) same leaves)
+reaches_so (Err why) Reaches told old new said (reached, is, same) leaves = (reached, is, subst (λ (r : Report). HoldsBack new said r old) same leaves)
 
 -- ---- the status
 
@@ -165,7 +165,7 @@ module _ (hash : List ℕ → List ℕ) (accepted verified : List ℕ → List �
 
     -- nothing of it is asked
     pub line_not : (line : List ℕ) (before : Scene T) (old : Option (List ℕ)) (said : Said) → report_of said ≡ before.told
-        → (reached : Scene T) × AsksSomeLine hash accepted verified exchanged background line before reached × Leaves old said reached.told old
+        → (reached : Scene T) × AsksSomeLine hash accepted verified exchanged background line before reached × HoldsBack old said reached.told old
     line_not line before old said same = (before, inl refl, leaves_same old said before.told same)
 
     -- ---- among which lines
@@ -175,8 +175,8 @@ module _ (hash : List ℕ → List ℕ) (accepted verified : List ℕ → List �
     next-here (line ∷ more) here = inl refl
 
     -- no more is asked of the lines that are left
-    pub part_here : (start here : Scene T) (input old left now new : Option (List ℕ)) (said : Said) → LeadsOn hash accepted verified exchanged background start input old here left now → Leaves new said here.told now
-        → IfSome input (λ all. (told : Report) × (next : Option (List ℕ)) × AsksPart hash accepted verified exchanged background (lines_of all) start told old next × Leaves new said told next)
+    pub part_here : (start here : Scene T) (input old left now new : Option (List ℕ)) (said : Said) → LeadsOn hash accepted verified exchanged background start input old here left now → HoldsBack new said here.told now
+        → IfSome input (λ all. (told : Report) × (next : Option (List ℕ)) × AsksPart hash accepted verified exchanged background (lines_of all) start told old next × HoldsBack new said told next)
     part_here start here None old left now new said leads leaves = tt
     part_here start here (Some all) old left now new said leads leaves =
         let (rest, at, done, parts, asks) = leads all refl in (
@@ -188,8 +188,8 @@ module _ (hash : List ℕ → List ℕ) (accepted verified : List ℕ → List �
 
     -- some of the next line is asked
     pub part_line : (start here : Scene T) (input old left left' now new : Option (List ℕ)) (line : List ℕ) (said : Said) → LeadsOn hash accepted verified exchanged background start input old here left now → TakesWholeLine left left' true line
-        → (reached : Scene T) × AsksSomeLine hash accepted verified exchanged background line here reached × Leaves new said reached.told now
-        → IfSome input (λ all. (told : Report) × (next : Option (List ℕ)) × AsksPart hash accepted verified exchanged background (lines_of all) start told old next × Leaves new said told next)
+        → (reached : Scene T) × AsksSomeLine hash accepted verified exchanged background line here reached × HoldsBack new said reached.told now
+        → IfSome input (λ all. (told : Report) × (next : Option (List ℕ)) × AsksPart hash accepted verified exchanged background (lines_of all) start told old next × HoldsBack new said told next)
     part_line start here None old left left' now new line said leads takes part = tt
     part_line start here (Some all) old left left' now new line said leads takes (reached, some, leaves) =
         let (rest, at, done, parts, asks) = leads all refl in
@@ -197,7 +197,7 @@ module _ (hash : List ℕ → List ℕ) (accepted verified : List ℕ → List �
       where
         by : (rest : List ℕ) (done : List (List ℕ)) → lines_of all ≡ done ++ lines_of rest → AsksLines hash accepted verified exchanged background done start old now here
             → (left' : Option (List ℕ)) → TakesWholeLine (Some rest) left' true line
-            → (told : Report) × (next : Option (List ℕ)) × AsksPart hash accepted verified exchanged background (lines_of all) start told old next × Leaves new said told next
+            → (told : Report) × (next : Option (List ℕ)) × AsksPart hash accepted verified exchanged background (lines_of all) start told old next × HoldsBack new said told next
         by rest done parts asks None bad = absurd bad
         by rest done parts asks (Some rest') is = (
           reached.told,
@@ -217,8 +217,8 @@ module _ (hash : List ℕ → List ℕ) (accepted verified : List ℕ → List �
 
     -- some of one line, which is all that is asked
     pub part_once : (line : List ℕ) (ready : Scene T) (now new : Option (List ℕ)) (said : Said)
-        → (reached : Scene T) × AsksSomeLine hash accepted verified exchanged background line ready reached × Leaves new said reached.told now
-        → (told : Report) × (next : Option (List ℕ)) × AsksPart hash accepted verified exchanged background (line ∷ []) ready told now next × Leaves new said told next
+        → (reached : Scene T) × AsksSomeLine hash accepted verified exchanged background line ready reached × HoldsBack new said reached.told now
+        → (told : Report) × (next : Option (List ℕ)) × AsksPart hash accepted verified exchanged background (line ∷ []) ready told now next × HoldsBack new said told next
     part_once line ready now new said (reached, some, leaves) = (
       reached.told,
       now,
@@ -228,8 +228,8 @@ module _ (hash : List ℕ → List ℕ) (accepted verified : List ℕ → List �
 
   -- what stays is known under another name
   pub line_known : (background background' : Background) (line : List ℕ) (before : Scene T) (old new : Option (List ℕ)) (said : Said) → background' ≡ background
-      → (reached : Scene T) × AsksSomeLine hash accepted verified exchanged background' line before reached × Leaves new said reached.told old
-      → (reached : Scene T) × AsksSomeLine hash accepted verified exchanged background line before reached × Leaves new said reached.told old
+      → (reached : Scene T) × AsksSomeLine hash accepted verified exchanged background' line before reached × HoldsBack new said reached.told old
+      → (reached : Scene T) × AsksSomeLine hash accepted verified exchanged background line before reached × HoldsBack new said reached.told old
   line_known background background' line before old new said same (reached, some, leaves) = (reached, subst (λ (k : Background). AsksSomeLine hash accepted verified exchanged k line before reached) same some, leaves)
 
   -- ---- a run
@@ -237,34 +237,34 @@ module _ (hash : List ℕ → List ℕ) (accepted verified : List ℕ → List �
   module _ (key token : List ℕ) (options : AskOptions) (HasNoState : Type 0) (stream : T) (input old : Option (List ℕ)) where
     -- it does not begin
     pub early_none : (first : Report) (said : Said) → BeginsNone verified exchanged key stream first (report_of said) → first ≡ emptied 0
-        → EndsEarly hash accepted verified exchanged key token options HasNoState stream input old (Leaves old said)
+        → EndsEarly hash accepted verified exchanged key token options HasNoState stream input old (HoldsBack old said)
     early_none first said begins none =
         (report_of said, old, leaves_same old said (report_of said) refl, inl (subst (λ (r : Report). BeginsNone verified exchanged key stream r (report_of said)) none begins, refl))
 
-    module _ (background : Background) (start : Scene T) (new : Option (List ℕ)) (said : Said) (first : Report) (begun : first ≡ emptied 0 → BeginsRun hash accepted verified exchanged key token HasNoState stream background start) where
+    module _ (background : Background) (start : Scene T) (new : Option (List ℕ)) (said : Said) (first : Report) (begun : first ≡ emptied 0 → StartsRun hash accepted verified exchanged key token HasNoState stream background start) where
       -- it ends while what is new is followed
-      pub early_preparing : (reached : Scene T) × PreparesSome hash accepted verified exchanged background start reached × Leaves new said reached.told old
-          → first ≡ emptied 0 → EndsEarly hash accepted verified exchanged key token options HasNoState stream input old (Leaves new said)
+      pub early_preparing : (reached : Scene T) × PreparesSome hash accepted verified exchanged background start reached × HoldsBack new said reached.told old
+          → first ≡ emptied 0 → EndsEarly hash accepted verified exchanged key token options HasNoState stream input old (HoldsBack new said)
       early_preparing (reached, some, leaves) none = (reached.told, old, leaves, inr (background, start, begun none, inl (reached, some, refl, refl)))
 
       -- it ends at a line
       pub early_asking : (background' : Background) (ready : Scene T) (now : Option (List ℕ)) → Writes (Prepares hash accepted verified exchanged background) start old now ready → background' ≡ background
-          → IfSome (lines_asked options.words input) (λ lines. (told : Report) × (next : Option (List ℕ)) × AsksPart hash accepted verified exchanged background' lines ready told now next × Leaves new said told next)
-          → first ≡ emptied 0 → EndsEarly hash accepted verified exchanged key token options HasNoState stream input old (Leaves new said)
+          → IfSome (lines_asked options.words input) (λ lines. (told : Report) × (next : Option (List ℕ)) × AsksPart hash accepted verified exchanged background' lines ready told now next × HoldsBack new said told next)
+          → first ≡ emptied 0 → EndsEarly hash accepted verified exchanged key token options HasNoState stream input old (HoldsBack new said)
       early_asking background' ready now prepares same part none =
           let (told, next, leaves, at) = by (lines_asked options.words input) part in
           (told, next, leaves, inr (background, start, begun none, inr (ready, now, prepares, subst (λ (k : Background). IfSome (lines_asked options.words input) (λ lines. AsksPart hash accepted verified exchanged k lines ready told now next)) same at)))
         where
           by : (asked : Option (List (List ℕ)))
-              → IfSome asked (λ lines. (told : Report) × (next : Option (List ℕ)) × AsksPart hash accepted verified exchanged background' lines ready told now next × Leaves new said told next)
-              → (told : Report) × (next : Option (List ℕ)) × Leaves new said told next × IfSome asked (λ lines. AsksPart hash accepted verified exchanged background' lines ready told now next)
+              → IfSome asked (λ lines. (told : Report) × (next : Option (List ℕ)) × AsksPart hash accepted verified exchanged background' lines ready told now next × HoldsBack new said told next)
+              → (told : Report) × (next : Option (List ℕ)) × HoldsBack new said told next × IfSome asked (λ lines. AsksPart hash accepted verified exchanged background' lines ready told now next)
           by None part = (report_of said, new, leaves_same new said (report_of said) refl, tt)
           by (Some lines) (told, next, at, leaves) = (told, next, leaves, at)
 
   -- ---- with the state that an order names
 
   module _ (key token : List ℕ) (options : AskOptions) (NoState None' : Type 0) (without : None' → NoState) where
-    begun-with : (background : Background) (stream : T) (start : Scene T) → BeginsRun hash accepted verified exchanged key token NoState stream background start → BeginsRun hash accepted verified exchanged key token None' stream background start
+    begun-with : (background : Background) (stream : T) (start : Scene T) → StartsRun hash accepted verified exchanged key token NoState stream background start → StartsRun hash accepted verified exchanged key token None' stream background start
     begun-with background stream start begun = record { silent = begun.silent; begins = by begun.begins; knows = begun.knows }
       where
         by : BeginsAsking hash accepted verified exchanged key token NoState stream background start.client start.stream → BeginsAsking hash accepted verified exchanged key token None' stream background start.client start.stream
@@ -306,36 +306,36 @@ module _ (hash : List ℕ → List ℕ) (accepted verified : List ℕ → List �
 
     module _ {E F : Type 0} (outcome : Result (Unit {0}) E) (result : Result RunEnd F) (stream stream' : T) (input old new new' : Option (List ℕ)) (said : Said) (first : Report) (empty : first ≡ emptied 0) where
       pub ends_so : OnOk outcome (first ≡ emptied 0 → RunsWhole hash accepted verified exchanged key token options NoState stream stream' input said.status old new)
-          → OnErr outcome (first ≡ emptied 0 → EndsEarly hash accepted verified exchanged key token options NoState stream input old (Leaves new said))
+          → OnErr outcome (first ≡ emptied 0 → EndsEarly hash accepted verified exchanged key token options NoState stream input old (HoldsBack new said))
           → OnOk outcome ((result ≡ Ok (Whole said.status)) × (new' ≡ new)) → OnErr outcome (IfOk result (λ ended. ended ≡ Stopped (stopped_status said.status))) → OnErr outcome (WritesSome new new' said.text.items)
           → IfOk result (λ ended. RunsAs hash accepted verified exchanged key token options None' stream stream' input ended old new')
       ends_so = by outcome result
         where
           by : (outcome : Result (Unit {0}) E) (result : Result RunEnd F) → OnOk outcome (first ≡ emptied 0 → RunsWhole hash accepted verified exchanged key token options NoState stream stream' input said.status old new)
-              → OnErr outcome (first ≡ emptied 0 → EndsEarly hash accepted verified exchanged key token options NoState stream input old (Leaves new said))
+              → OnErr outcome (first ≡ emptied 0 → EndsEarly hash accepted verified exchanged key token options NoState stream input old (HoldsBack new said))
               → OnOk outcome ((result ≡ Ok (Whole said.status)) × (new' ≡ new)) → OnErr outcome (IfOk result (λ ended. ended ≡ Stopped (stopped_status said.status))) → OnErr outcome (WritesSome new new' said.text.items)
               → IfOk result (λ ended. RunsAs hash accepted verified exchanged key token options None' stream stream' input ended old new')
           by (Err why) (Err given) whole early ends stops wrote = tt
           by (Err why) (Ok ended) whole early ends stops wrote =
               subst (λ (e : RunEnd). RunsAs hash accepted verified exchanged key token options None' stream stream' input e old new') (sym stops)
-              (early-with (Leaves new said) (λ told now. (stopped_status said.status ≡ stopped_status told.status) × WritesSome now new' told.lines) stream input old
+              (early-with (HoldsBack new said) (λ told now. (stopped_status said.status ≡ stopped_status told.status) × WritesSome now new' told.lines) stream input old
               (λ told now leaves. (ap (λ (n : ℕ). stopped_status n) leaves.0, written_then now new new' said told leaves wrote)) (early empty))
           by (Ok done) result whole early (is, same) stops wrote =
               subst (λ (r : Result RunEnd F). IfOk r (λ ended. RunsAs hash accepted verified exchanged key token options None' stream stream' input ended old new')) (sym is) (
               subst (λ (text : Option (List ℕ)). RunsWhole hash accepted verified exchanged key token options None' stream stream' input said.status old text) (sym same)
               (whole-with stream stream' input old new said.status (whole empty)))
 
-      pub fails_so : OnErr outcome (first ≡ emptied 0 → EndsEarly hash accepted verified exchanged key token options NoState stream input old (Leaves new said))
+      pub fails_so : OnErr outcome (first ≡ emptied 0 → EndsEarly hash accepted verified exchanged key token options NoState stream input old (HoldsBack new said))
           → OnOk outcome ((result ≡ Ok (Whole said.status)) × (new' ≡ new)) → OnErr outcome (IfErr result (λ given. said.status < 3)) → OnErr outcome (WritesSome new new' said.text.items)
           → OnErr result (FailsAs hash accepted verified exchanged key token options None' stream input old new')
       fails_so = by outcome result
         where
-          by : (outcome : Result (Unit {0}) E) (result : Result RunEnd F) → OnErr outcome (first ≡ emptied 0 → EndsEarly hash accepted verified exchanged key token options NoState stream input old (Leaves new said))
+          by : (outcome : Result (Unit {0}) E) (result : Result RunEnd F) → OnErr outcome (first ≡ emptied 0 → EndsEarly hash accepted verified exchanged key token options NoState stream input old (HoldsBack new said))
               → OnOk outcome ((result ≡ Ok (Whole said.status)) × (new' ≡ new)) → OnErr outcome (IfErr result (λ given. said.status < 3)) → OnErr outcome (WritesSome new new' said.text.items)
               → OnErr result (FailsAs hash accepted verified exchanged key token options None' stream input old new')
           by (Err why) (Ok ended) early ends low wrote = tt
           by (Err why) (Err given) early ends low wrote =
-              early-with (Leaves new said) (λ told now. (told.status < 3) × WritesSome now new' told.lines) stream input old
+              early-with (HoldsBack new said) (λ told now. (told.status < 3) × WritesSome now new' told.lines) stream input old
               (λ told now leaves. (subst (λ (n : ℕ). n < 3) leaves.0 low, written_then now new new' said told leaves wrote)) (early empty)
           by (Ok done) result early (is, same) low wrote = subst (λ (r : Result RunEnd F). OnErr r (FailsAs hash accepted verified exchanged key token options None' stream input old new')) (sym is) tt
 

@@ -19,7 +19,7 @@ use Rattle.asking.specs.declared.order.AskOrder.{AskOrder}
 use Rattle.asking.specs.declared.said.Said.{Said}
 use Rattle.asking.specs.AskOptions.{AskOptions, ask_values}
 use Rattle.asking.specs.Reports.{Report, report_of}
-use Rattle.asking.specs.Runs.{AsksLine, AsksLines, BeginsAsking, BeginsRun, emptied, Background, new_background, background_of, lines_asked, Prepares, RunsWhole, words_line, Writes}
+use Rattle.asking.specs.Runs.{AsksLine, AsksLines, BeginsAsking, StartsRun, emptied, Background, new_background, background_of, lines_asked, Prepares, RunsWhole, words_line, Writes}
 use Rattle.asking.specs.Scenes.{Scene, scene, Remains, StartsAtHead}
 use Rattle.asking.proofs.Joined.{scene_of}
 
@@ -130,13 +130,13 @@ begins_at_head hash accepted verified exchanged key token HasNoState (Err why) s
 pub begins_run : {T : Type 0} (hash : List ℕ → List ℕ) (accepted verified : List ℕ → List ℕ → List ℕ → Type 0) (exchanged : T → RequestContent → Frame → T → Type 0) (key token : List ℕ) (HasNoState : Type 0)
     (background : Background) (stream : T) (start : Scene T) (first : Report) → start.told ≡ first
     → BeginsAsking hash accepted verified exchanged key token HasNoState stream background start.client start.stream → (background.key ≡ key) × (background.token ≡ token) × (start.monitors ≡ [])
-    → first ≡ emptied 0 → BeginsRun hash accepted verified exchanged key token HasNoState stream background start
+    → first ≡ emptied 0 → StartsRun hash accepted verified exchanged key token HasNoState stream background start
 begins_run hash accepted verified exchanged key token HasNoState background stream start first told begins knows none = record { silent = told ∙ none; begins = begins; knows = knows }
 
 -- a run is whole, where its lines are asked to the end
 pub whole : {T E : Type 0} (hash : List ℕ → List ℕ) (accepted verified : List ℕ → List ℕ → List ℕ → Type 0) (exchanged : T → RequestContent → Frame → T → Type 0) (key token : List ℕ) (options : AskOptions) (HasNoState : Type 0)
     (result : Result (Unit {0}) E) (background background' : Background) (stream : T) (start ready last : Scene T) (input old now new : Option (List ℕ)) (first : Report)
-    → (first ≡ emptied 0 → BeginsRun hash accepted verified exchanged key token HasNoState stream background start)
+    → (first ≡ emptied 0 → StartsRun hash accepted verified exchanged key token HasNoState stream background start)
     → Writes (Prepares hash accepted verified exchanged background) start old now ready → background' ≡ background
     → OnOk result (IfSome (lines_asked options.words input) (λ lines. AsksLines hash accepted verified exchanged background' lines ready now new last))
     → OnOk result (first ≡ emptied 0 → RunsWhole hash accepted verified exchanged key token options HasNoState stream last.stream input last.told.status old new)

@@ -16,7 +16,7 @@ use Rattle.asking.specs.Exchanges.{ExchangesFrames}
 use Rattle.asking.specs.Following.{Follows, StopsAfter, TakesSome}
 use Rattle.asking.specs.Joining.{BeginsSome}
 use Rattle.asking.specs.Reports.{Report}
-use Rattle.asking.specs.Runs.{AsksLines, BeginsRun, DoesLine, emptied, Background, lines_asked, Prepares, RunsWhole, Writes}
+use Rattle.asking.specs.Runs.{AsksLines, StartsRun, DoesLine, emptied, Background, lines_asked, Prepares, RunsWhole, Writes}
 use Rattle.asking.specs.Scenes.{Scene, StopsAtHead}
 use Rattle.asking.specs.Visiting.{TestsSome}
 use Rattle.asking.specs.declared.run.RunEnd.{RunEnd}
@@ -33,8 +33,8 @@ abbrev pub stopped_status : ℕ → ℕ
 stopped_status told = if nat_lt told 3 then 1 else 3
 
 -- of what was told a beginning is written, and a part behind it is still said
-abbrev pub Leaves : Option (List ℕ) → Said → Report → Option (List ℕ) → Type 0
-Leaves new said told old = (said.status ≡ told.status) × (text : List ℕ) × (rest : List ℕ) × (told.lines ≡ text ++ (said.text.items ++ rest)) × Appends old new text
+abbrev pub HoldsBack : Option (List ℕ) → Said → Report → Option (List ℕ) → Type 0
+HoldsBack new said told old = (said.status ≡ told.status) × (text : List ℕ) × (rest : List ℕ) × (told.lines ≡ text ++ (said.text.items ++ rest)) × Appends old new text
 
 -- this is told where no client starts: what was told before, or also a frame with which none starts
 abbrev pub BeginsNone : {T : Type 0} → (List ℕ → List ℕ → List ℕ → Type 0) → (T → RequestContent → Frame → T → Type 0) → List ℕ → T → Report → Report → Type 0
@@ -82,8 +82,8 @@ module _ (hash : List ℕ → List ℕ) (accepted verified : List ℕ → List �
       pub tells : told ≡ reached.told
 
     -- where a run ends: while what is new is followed; or behind that, at one of its lines
-    abbrev pub EndsAt : AskOptions → Option (List ℕ) → Scene T → Option (List ℕ) → Report → Option (List ℕ) → Type 0
-    EndsAt options input start old told now =
+    abbrev pub RunEndsAt : AskOptions → Option (List ℕ) → Scene T → Option (List ℕ) → Report → Option (List ℕ) → Type 0
+    RunEndsAt options input start old told now =
         ((reached : Scene T) × PreparesSome start reached × (told ≡ reached.told) × (now ≡ old))
         ⊎ ((ready : Scene T) × (next : Option (List ℕ)) × Writes (Prepares hash accepted verified exchanged background) start old next ready
         × IfSome (lines_asked options.words input) (λ lines. AsksPart lines ready told next now))
@@ -93,7 +93,7 @@ module _ (hash : List ℕ → List ℕ) (accepted verified : List ℕ → List �
   abbrev pub EndsEarly : List ℕ → List ℕ → AskOptions → Type 0 → T → Option (List ℕ) → Option (List ℕ) → (Report → Option (List ℕ) → Type 0) → Type 0
   EndsEarly key token options HasNoState stream input old Then = (told : Report) × (now : Option (List ℕ)) × Then told now
       × ((BeginsNone verified exchanged key stream (emptied 0) told × (now ≡ old))
-      ⊎ ((background : Background) × (start : Scene T) × BeginsRun hash accepted verified exchanged key token HasNoState stream background start × EndsAt background options input start old told now))
+      ⊎ ((background : Background) × (start : Scene T) × StartsRun hash accepted verified exchanged key token HasNoState stream background start × RunEndsAt background options input start old told now))
 
   -- a run that is whole, or was stopped: what was told is then written, or a beginning of it, and the status is
   -- that of an alarm exactly where one was told

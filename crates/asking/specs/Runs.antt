@@ -114,7 +114,7 @@ module _ (hash : List ℕ → List ℕ) (accepted verified : List ℕ → List �
       ⊎ ((¬ HasNoState) × (after ≡ stream) × IsSoundFor hash accepted verified key client × KeepsAll client background.earlier)
 
   -- a run begins: nothing is told yet, and there is no monitor
-  pub record BeginsRun (key token : List ℕ) (HasNoState : Type 0) (stream : T) (background : Background) (start : Scene T) : Type 0 where
+  pub record StartsRun (key token : List ℕ) (HasNoState : Type 0) (stream : T) (background : Background) (start : Scene T) : Type 0 where
     pub silent : start.told ≡ emptied 0
     pub begins : BeginsAsking key token HasNoState stream background start.client start.stream
     pub knows : (background.key ≡ key) × (background.token ≡ token) × (start.monitors ≡ [])
@@ -124,7 +124,7 @@ module _ (hash : List ℕ → List ℕ) (accepted verified : List ℕ → List �
   pub record RunsWhole (key token : List ℕ) (options : AskOptions) (HasNoState : Type 0) (stream stream' : T) (input : Option (List ℕ)) (status : ℕ) (old new : Option (List ℕ)) : Type 0 where
     pub background : Background
     pub start : Scene T
-    pub begun : BeginsRun key token HasNoState stream background start
+    pub begun : StartsRun key token HasNoState stream background start
     pub ready : Scene T
     pub now : Option (List ℕ)
     pub prepares : Writes (Prepares background) start old now ready

@@ -6,7 +6,7 @@ ghost use Rattle.textio.specs.Output.{WritesSome};
 ghost use Rattle.textio.specs.declared.program_fault.ProgramFault.TheVariants.{CannotWrite, NotACommand, OutOfMemory};
 ghost use Rattle.play.specs.Scripts.{line_of, line_seen};
 ghost use Rattle.asking.specs.AskOptions.{ask_values};
-ghost use Rattle.asking.specs.Ending.{AsksPart, AsksSomeLine, BeginsNone, DoesSome, end_status, EndsEarly, Leaves, PreparesSome, stopped_status};
+ghost use Rattle.asking.specs.Ending.{AsksPart, AsksSomeLine, BeginsNone, DoesSome, end_status, EndsEarly, HoldsBack, PreparesSome, stopped_status};
 ghost use Rattle.asking.specs.Exchanges.{ExchangesFrames};
 ghost use Rattle.asking.specs.Reports.{report_of, Report};
 ghost use Rattle.asking.specs.RunFaults.{AsksInput, CannotBeAsked, IsFaultOfSaving, IsFaultOfState, IsFaultWith, IsFirstUnasked, StopsOr};
@@ -189,7 +189,7 @@ where
         ensures faults { IfErr result (StopsOr (IsFaultWith (¬ ((self.old).state ≡ None)) (AsksInput (ask_values order.entry).words)
             (λ number. IfSome (lines_asked (ask_values order.entry).words (R.remaining reader.old)) (λ lines. IsFirstUnasked 1 lines number)))) }
         ensures part { OnErr result (report_of (self.old).said ≡ emptied 0 → EndsEarly H.digest_of V.accepted S.verified (ExchangesFrames T.contents T.remaining) keys.now.provider keys.now.token (ask_values order.entry)
-            ((self.old).state ≡ None) stream.old (R.remaining reader.old) (W.contents writer.old) (Leaves (W.contents writer.new) (self.new).said)) }
+            ((self.old).state ≡ None) stream.old (R.remaining reader.old) (W.contents writer.old) (HoldsBack (W.contents writer.new) (self.new).said)) }
         ensures unread { ¬ AsksInput (ask_values order.entry).words → reader.new ≡ reader.old }
         ensures grows { Grows (W.contents writer.old) (W.contents writer.new) }
         ensures rises { (self.old).said.status ≤ (self.new).said.status }
@@ -306,7 +306,7 @@ where
         ensures prepares { OnOk result (Writes (Prepares H.digest_of V.accepted S.verified (ExchangesFrames T.contents T.remaining) (background_of asker.old))
             (scene asker.old (self.old).said stream.old) (W.contents writer.old) (W.contents writer.new) (scene asker.new (self.new).said stream.new)) }
         ensures part { OnErr result ((reached : Scene T) × PreparesSome H.digest_of V.accepted S.verified (ExchangesFrames T.contents T.remaining) (background_of asker.old) (scene asker.old (self.old).said stream.old) reached
-            × Leaves (W.contents writer.new) (self.new).said reached.told (W.contents writer.old)) }
+            × HoldsBack (W.contents writer.new) (self.new).said reached.told (W.contents writer.old)) }
         ensures stays { background_of asker.new ≡ background_of asker.old }
         ensures faults { IfErr result (StopsOr IsFaultOfSaving) }
         ensures grows { Grows (W.contents writer.old) (W.contents writer.new) }
@@ -336,7 +336,7 @@ where
         ensures asks { OnOk result (IfSome (R.remaining reader.old) (λ input. AsksLines H.digest_of V.accepted S.verified (ExchangesFrames T.contents T.remaining) (background_of asker.old) (lines_of input)
             (scene asker.old (self.old).said stream.old) (W.contents writer.old) (W.contents writer.new) (scene asker.new (self.new).said stream.new))) }
         ensures part { OnErr result (IfSome (R.remaining reader.old) (λ input. (told : Report) × (now : Option (List ℕ)) × AsksPart H.digest_of V.accepted S.verified (ExchangesFrames T.contents T.remaining) (background_of asker.old) (lines_of input)
-            (scene asker.old (self.old).said stream.old) told (W.contents writer.old) now × Leaves (W.contents writer.new) (self.new).said told now)) }
+            (scene asker.old (self.old).said stream.old) told (W.contents writer.old) now × HoldsBack (W.contents writer.new) (self.new).said told now)) }
         ensures faults { IfErr result (StopsOr (IsFaultWith ⊥ ⊤ (λ number. IfSome (R.remaining reader.old) (λ input. IsFirstUnasked 1 (lines_of input) number)))) }
         ensures grows { Grows (W.contents writer.old) (W.contents writer.new) }
         ensures rises { (self.old).said.status ≤ (self.new).said.status }
@@ -372,7 +372,7 @@ where
         ensures asks { OnOk result (Writes (AsksLine H.digest_of V.accepted S.verified (ExchangesFrames T.contents T.remaining) (background_of asker.old) line.now)
             (scene asker.old (self.old).said stream.old) (W.contents writer.old) (W.contents writer.new) (scene asker.new (self.new).said stream.new)) }
         ensures part { OnErr result ((reached : Scene T) × AsksSomeLine H.digest_of V.accepted S.verified (ExchangesFrames T.contents T.remaining) (background_of asker.old) line.now (scene asker.old (self.old).said stream.old) reached
-            × Leaves (W.contents writer.new) (self.new).said reached.told (W.contents writer.old)) }
+            × HoldsBack (W.contents writer.new) (self.new).said reached.told (W.contents writer.old)) }
         ensures stays { background_of asker.new ≡ background_of asker.old }
         ensures faults { IfErr result (StopsOr (λ fault. IsFaultOfSaving fault ⊎ ((fault ≡ NotACommand number) × CannotBeAsked (line_of line.now)))) }
         ensures grows { Grows (W.contents writer.old) (W.contents writer.new) }
@@ -406,7 +406,7 @@ where
         S: Verifier + Drop,
         ensures asked { OnOk result (asked ≡ Ok tt) }
         ensures writes { OnOk result (Appends (W.contents writer.old) (W.contents writer.new) (self.old).said.text.items × (report_of (self.new).said ≡ emptied (self.old).said.status)) }
-        ensures leaves { OnErr result (Leaves (W.contents writer.new) (self.new).said (report_of (self.old).said) (W.contents writer.old)) }
+        ensures leaves { OnErr result (HoldsBack (W.contents writer.new) (self.new).said (report_of (self.old).said) (W.contents writer.old)) }
         ensures faults { IfErr result (StopsOr IsFaultOfSaving) }
         ensures grows { Grows (W.contents writer.old) (W.contents writer.new) }
         ensures status { (self.new).said.status ≡ (self.old).said.status }

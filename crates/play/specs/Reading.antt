@@ -12,8 +12,8 @@ TakesWholeLine (Some input) left false line = input ≡ []
 TakesWholeLine (Some input) left true line = IsSomeAnd left (λ rest. lines_of input ≡ line ∷ lines_of rest)
 
 -- known bytes lose these, which have no LF but at their end
-abbrev pub TakesPart : Option (List ℕ) → Option (List ℕ) → List ℕ → Type 0
-TakesPart input left part = Consumes input left part × StopsAt part 10
+abbrev pub TakesBeginning : Option (List ℕ) → Option (List ℕ) → List ℕ → Type 0
+TakesBeginning input left part = Consumes input left part × StopsAt part 10
 
 -- without the LF at the end, if one is there
 abbrev pub IsTrimmed : List ℕ → List ℕ → Type 0

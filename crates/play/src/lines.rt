@@ -1,6 +1,6 @@
 ghost use Rattle.std.specs.Prelude.{◌≡◌, [], false, IfErr, IfOk, OnErr};
 ghost use Rattle.textio.specs.Faults.{IsDeviceFault};
-ghost use Rattle.play.specs.Reading.{IsTrimmed, TakesPart, TakesWholeLine};
+ghost use Rattle.play.specs.Reading.{IsTrimmed, TakesBeginning, TakesWholeLine};
 
 use std::io::BufRead;
 use textio::ProgramFault;
@@ -15,7 +15,7 @@ pub fn next_line<R: BufRead>(reader: &mut R, line: &mut Vec<u8>) -> Result<bool,
     ensures ok { IfOk result (λ more. TakesWholeLine (R.remaining reader.old) (R.remaining reader.new) more line.new.items) }
     ensures end { IfOk result (λ more. more ≡ false → line.new.items ≡ []) }
     ensures err { IfErr result (λ fault. IsDeviceFault fault) }
-    ensures part { OnErr result (TakesPart (R.remaining reader.old) (R.remaining reader.new) line.new.items) }
+    ensures part { OnErr result (TakesBeginning (R.remaining reader.old) (R.remaining reader.new) line.new.items) }
 {
     line.clear();
     match reader.read_until(b'\n', line) {

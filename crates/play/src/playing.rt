@@ -1,3 +1,6 @@
+// Lines are taken one by one and played, and what they print is kept together. It is written before a read that
+// may wait, once it is long, and at the end or at a fault.
+
 ghost use Rattle.std.specs.Prelude.{◌≡◌, [], IfErr, IfOk, IsNone, List, OnOk};
 ghost use Rattle.std.specs.Io.KnownBytes.{IsAtEnd, Keeps};
 ghost use Rattle.textio.specs.Faults.{IsDeviceFault};
@@ -26,7 +29,7 @@ use std::mem;
 use textio::{ProgramFault, StreamFault, file_fault, write_text};
 use vrfiface::Vuf;
 
-/// So many bytes of text are written, though the reader has more lines.
+/// The text is written once it has so many bytes, though the reader has more lines.
 const FULL_TEXT: usize = 65_536;
 
 /// What is kept from one line to the next: room for the line, and for what it prints; and how many of the next
@@ -39,8 +42,8 @@ struct Room {
 }
 
 /// Plays the script that the reader has, and writes what it prints (CONIKS, sections 3 and 4: a directory,
-/// its users, the owners of names and an auditor). What the parties hold is not freed: whoever plays a script
-/// ends then.
+/// its users, the owners of names and an auditor). What the parties hold is never freed: `play` is for a process
+/// that ends then.
 ///
 /// # Errors
 ///

@@ -1,5 +1,5 @@
 // The words of the lines that a script prints. Each function appends to the text; an `Err` says that memory
-// ran out, and the text then ends anywhere behind what it was.
+// ran out, and some of the words may then stand behind what the text was.
 
 ghost use Rattle.std.specs.Prelude.{◌≡◌, ◌++◌, ◌∷◌, [], OnErr, OnOk, codes, decimal};
 ghost use Rattle.std.specs.Io.{StartsWith};

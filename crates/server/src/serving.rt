@@ -109,7 +109,7 @@ where
 }
 
 /// The same, where the records of a journal are put on their disk before the answers that tell of them
-/// leave. If that fails, so did the write of these answers, and none of them has left.
+/// leave. A failed sync counts as a failed write, and none of these answers leaves.
 pub(crate) fn serve_on<H, V, S, G, K, R, W>(
     alloc: Global,
     hub: &mut Hub<Desk<H, V, S, G, K>>,

@@ -44,7 +44,7 @@ impl<'a, R: BufRead> StopInput<'a, R> {
             INPUT,
             Interest::READABLE,
         );
-        // The system reports no file.
+        // The system cannot report a file.
         let readiness = if registered.is_err() {
             Readiness::Always
         } else {

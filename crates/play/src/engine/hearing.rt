@@ -1,3 +1,6 @@
+// A piece goes to its session in the hub. Of what comes back each frame is read, and told as a line; then what
+// follows from new pages is done, as after a line that asks.
+
 ghost use Rattle.std.specs.Prelude.{◌≡◌, ◌≢◌, ◌∷◌, ◌++◌, [], List, IfOk, OnOk};
 ghost use Rattle.std.specs.Int.NonZero.{non_zero_u32_get};
 ghost use Rattle.wire.specs.FrameViews.{frame_seen};

@@ -1,3 +1,6 @@
+// A monitor asks for each new epoch of its chain in order, steps through it by the reply, and what it says is
+// told. It stops at an epoch whose reply its client refuses, and stays there.
+
 ghost use Rattle.std.specs.Prelude.{◌≡◌, ◌<◌, ◌++◌, ◌∷◌, [], IfOk, OnOk, Some, length, option_map, slice_get, slice_set};
 ghost use Rattle.encoding.specs.Limits.{IsName};
 ghost use Rattle.rootchain.specs.declared.signed_root.SignedRoot.{SignedRoot};

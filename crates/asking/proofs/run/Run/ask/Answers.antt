@@ -2,7 +2,7 @@ use Rattle.std.proofs.Common.{◌≡◌, ◌⊎◌, ◌∷◌, [], Err, None, re
 use Rattle.std.specs.Prelude.{List, ℕ, IfSome, Ok, Option}
 use Rattle.textio.specs.declared.program_fault.ProgramFault.TheVariants.{OutOfMemory}
 use Rattle.asking.specs.AskOptions.{ask_values}
-use Rattle.asking.specs.Ending.{AsksPart, Leaves}
+use Rattle.asking.specs.Ending.{AsksPart, HoldsBack}
 use Rattle.asking.specs.Exchanges.{ExchangesFrames}
 use Rattle.asking.specs.Reports.{report_of, Report}
 use Rattle.asking.specs.RunFaults.{AsksInput, IsFaultOfSaving, IsFaultOfState, IsFaultWith, IsFirstUnasked}
@@ -99,7 +99,7 @@ returns-in_err-line-in-Some-clause-part g c =
     (report_of c.args.self.now.said) (begins_run g.H.NodeHash.digest_of g.V.VufCheck.accepted g.S.Verifier.verified (ExchangesFrames g.T.Write.contents g.T.Read.remaining) c.args.keys.now.provider c.args.keys.now.token (c.args.self.now.state ≡ None) (background_of c.in_ok-asker.asker) c.args.stream.now start (report_of c.args.self.now.said)
     c.in_ok-asker.ensures.said c.in_ok-asker.ensures.begins c.in_ok-asker.ensures.knows) (background_of c.prepare.new.asker) ready (g.W.Write.contents c.prepare.new.writer) c.in_ok-prepare.ensures.prepares c.in_ok-prepare.ensures.stays
     (asks_words {E = RunFault} (λ lines. (told : Report) × (next : Option (List ℕ)) × AsksPart g.H.NodeHash.digest_of g.V.VufCheck.accepted g.S.Verifier.verified (ExchangesFrames g.T.Write.contents g.T.Read.remaining) (background_of c.prepare.new.asker) lines ready told (g.W.Write.contents c.prepare.new.writer) next
-    × Leaves (g.W.Write.contents c.prepare.new.writer) c.prepare.new.self.said told next) (Ok tt) (g.R.Read.remaining c.args.reader.now) c.args.order c.in-Some.field-0 c.in-Some.is
+    × HoldsBack (g.W.Write.contents c.prepare.new.writer) c.prepare.new.self.said told next) (Ok tt) (g.R.Read.remaining c.args.reader.now) c.args.order c.in-Some.field-0 c.in-Some.is
     (part_once g.H.NodeHash.digest_of g.V.VufCheck.accepted g.S.Verifier.verified (ExchangesFrames g.T.Write.contents g.T.Read.remaining) (background_of c.prepare.new.asker) (words_line (ask_values c.args.order).words) ready (g.W.Write.contents c.prepare.new.writer) (g.W.Write.contents c.prepare.new.writer) c.prepare.new.self.said (line_not g.H.NodeHash.digest_of g.V.VufCheck.accepted g.S.Verifier.verified (ExchangesFrames g.T.Write.contents g.T.Read.remaining) (background_of c.prepare.new.asker) (words_line (ask_values c.args.order).words) ready (g.W.Write.contents c.prepare.new.writer) c.prepare.new.self.said refl))))
 
 pub returns-in-Some-clause-part : goal.returns-in-Some-clause-part
@@ -110,7 +110,7 @@ returns-in-Some-clause-part g c =
     (report_of c.args.self.now.said) (begins_run g.H.NodeHash.digest_of g.V.VufCheck.accepted g.S.Verifier.verified (ExchangesFrames g.T.Write.contents g.T.Read.remaining) c.args.keys.now.provider c.args.keys.now.token (c.args.self.now.state ≡ None) (background_of c.in_ok-asker.asker) c.args.stream.now start (report_of c.args.self.now.said)
     c.in_ok-asker.ensures.said c.in_ok-asker.ensures.begins c.in_ok-asker.ensures.knows) (background_of c.prepare.new.asker) ready (g.W.Write.contents c.prepare.new.writer) c.in_ok-prepare.ensures.prepares c.in_ok-prepare.ensures.stays
     (asks_words {E = RunFault} (λ lines. (told : Report) × (next : Option (List ℕ)) × AsksPart g.H.NodeHash.digest_of g.V.VufCheck.accepted g.S.Verifier.verified (ExchangesFrames g.T.Write.contents g.T.Read.remaining) (background_of c.prepare.new.asker) lines ready told (g.W.Write.contents c.prepare.new.writer) next
-    × Leaves (g.W.Write.contents c.ask_line.new.writer) c.ask_line.new.self.said told next) (Ok tt) (g.R.Read.remaining c.args.reader.now) c.args.order c.in-Some.field-0 c.in-Some.is
+    × HoldsBack (g.W.Write.contents c.ask_line.new.writer) c.ask_line.new.self.said told next) (Ok tt) (g.R.Read.remaining c.args.reader.now) c.args.order c.in-Some.field-0 c.in-Some.is
     (part_once g.H.NodeHash.digest_of g.V.VufCheck.accepted g.S.Verifier.verified (ExchangesFrames g.T.Write.contents g.T.Read.remaining) (background_of c.prepare.new.asker) (words_line (ask_values c.args.order).words) ready (g.W.Write.contents c.prepare.new.writer) (g.W.Write.contents c.ask_line.new.writer) c.ask_line.new.self.said found)))
 
 pub returns-clause-part : goal.returns-clause-part
@@ -121,4 +121,4 @@ returns-clause-part g c =
     (report_of c.args.self.now.said) (begins_run g.H.NodeHash.digest_of g.V.VufCheck.accepted g.S.Verifier.verified (ExchangesFrames g.T.Write.contents g.T.Read.remaining) c.args.keys.now.provider c.args.keys.now.token (c.args.self.now.state ≡ None) (background_of c.in_ok-asker.asker) c.args.stream.now start (report_of c.args.self.now.said)
     c.in_ok-asker.ensures.said c.in_ok-asker.ensures.begins c.in_ok-asker.ensures.knows) (background_of c.prepare.new.asker) ready (g.W.Write.contents c.prepare.new.writer) c.in_ok-prepare.ensures.prepares c.in_ok-prepare.ensures.stays
     (asks_input {E = RunFault} (λ lines. (told : Report) × (next : Option (List ℕ)) × AsksPart g.H.NodeHash.digest_of g.V.VufCheck.accepted g.S.Verifier.verified (ExchangesFrames g.T.Write.contents g.T.Read.remaining) (background_of c.prepare.new.asker) lines ready told (g.W.Write.contents c.prepare.new.writer) next
-    × Leaves (g.W.Write.contents c.ask_lines.new.writer) c.ask_lines.new.self.said told next) (Ok tt) (g.R.Read.remaining c.args.reader.now) c.args.order c.in-None.is found))
+    × HoldsBack (g.W.Write.contents c.ask_lines.new.writer) c.ask_lines.new.self.said told next) (Ok tt) (g.R.Read.remaining c.args.reader.now) c.args.order c.in-None.is found))
