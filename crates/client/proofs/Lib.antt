@@ -9,4 +9,5 @@ pub mod Seen
 pub mod Others
 pub mod Unlikes
 pub mod Telling
+pub mod InBytes
 pub mod InPieces

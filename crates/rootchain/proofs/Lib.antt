@@ -11,6 +11,7 @@ pub mod RootLists
 pub mod Sizes
 pub mod Spelled
 pub mod Taking
+pub mod TakingBytes
 pub mod TakingLists
 pub mod TakingPieces
 pub mod Telling

@@ -54,7 +54,7 @@ pub roots_begin : (count : ℕ) (start : List ℕ) → Leads count start count s
 roots_begin count start = ((λ more rest e. (more, e)), (λ fault e. e))
 
 -- the first of the roots that are left, and then the others
-one_more : (left : ℕ) (now : List ℕ) (root : SignedRoot) (after : List ℕ) (more : List SignedRoot) (rest : List ℕ)
+pub one_more : (left : ℕ) (now : List ℕ) (root : SignedRoot) (after : List ℕ) (more : List SignedRoot) (rest : List ℕ)
     → read_signed_root now ≡ Ok (root, after) → read_roots left after ≡ Ok (more, rest) → read_roots (suc left) now ≡ Ok (root ∷ more, rest)
 unfolding read_roots
 one_more left now root after more rest one others = rw (one, others) refl
@@ -64,7 +64,7 @@ one_less : (left : ℕ) (now : List ℕ) (root : SignedRoot) (after : List ℕ) 
 unfolding read_roots
 one_less left now root after fault one others = rw (one, others) refl
 
-none_more : (left : ℕ) (now : List ℕ) (fault : Fault) → read_signed_root now ≡ Err fault → read_roots (suc left) now ≡ Err fault
+pub none_more : (left : ℕ) (now : List ℕ) (fault : Fault) → read_signed_root now ≡ Err fault → read_roots (suc left) now ≡ Err fault
 unfolding read_roots
 none_more left now fault one = rw one refl
 
@@ -83,7 +83,7 @@ roots_fault count start left next now fault same one leads =
     let L : ℕ → Type 0 = λ n. Leads count start n now in
     (subst L same leads).1 fault (none_more next now fault one)
 
-no_roots : (now : List ℕ) → read_roots 0 now ≡ Ok ([], now)
+pub no_roots : (now : List ℕ) → read_roots 0 now ≡ Ok ([], now)
 unfolding read_roots
 no_roots now = refl
 
@@ -104,6 +104,10 @@ read_many (suc count) bytes z e =
     let made : List SignedRoot × List ℕ = (u.0.0 ∷ v.0.0, v.0.1) in
     let many = read_many count u.0.1 v.0 v.1 in
     ap (λ (w : List SignedRoot × List ℕ). length w.0) (sym (ok_is made z v.2)) ∙ (refl ∙ omega (arith, many))
+
+pub roots_many : (count : ℕ) (bytes : List ℕ) (roots : List SignedRoot) (rest : List ℕ) → read_roots count bytes ≡ Ok (roots, rest) → length roots ≡ count
+unfolding read_roots
+roots_many count bytes roots rest e = read_many count bytes (roots, rest) e
 
 -- so many roots are left
 pub listed_many : (count : ℕ) (bytes : List ℕ) → IsListed count bytes → length (roots_in count bytes) ≡ count
@@ -163,7 +167,12 @@ found_listed count rest found =
 pub is_listed : (bytes : List ℕ) (count : ℕ) (rest : List ℕ) → IsBytes bytes → read_root_count bytes ≡ Ok (count, rest) → HasRoots count rest → IsListed count rest
 is_listed bytes count rest small e found = (few count (count_field.spelled bytes (count, rest) small e).1.1, found_listed count rest found)
 
+-- roots that were read are spelled
+pub are_spelled : (bytes : List ℕ) (count : ℕ) (rest : List ℕ) (roots : List SignedRoot) → IsBytes bytes → read_root_count bytes ≡ Ok (count, rest) → read_roots count rest ≡ Ok (roots, [])
+    → Spells root_list_bytes IsRootList bytes roots
+are_spelled bytes count rest roots small e found = whole-read read_root_list root_list_bytes IsRootList root_list_field bytes roots small (list_is bytes count rest e ∙ found)
+
 pub is_spelled : (bytes : List ℕ) (count : ℕ) (rest : List ℕ) → IsBytes bytes → read_root_count bytes ≡ Ok (count, rest) → HasRoots count rest
     → Spells root_list_bytes IsRootList bytes (roots_in count rest)
 is_spelled bytes count rest small e found =
-    whole-read read_root_list root_list_bytes IsRootList root_list_field bytes (roots_in count rest) small (list_is bytes count rest e ∙ found_listed count rest found)
+    are_spelled bytes count rest (roots_in count rest) small e (found_listed count rest found)

@@ -31,7 +31,7 @@ module _ (hash : List ℕ → List ℕ) (verified : List ℕ → List ℕ → Li
 
   -- ---- roots in two parts
 
-  takes-append : (roots more : List SignedRoot) (chain middle after : KeyedRoots) → Takes hash verified chain roots middle → Takes hash verified middle more after → Takes hash verified chain (roots ++ more) after
+  pub takes-append : (roots more : List SignedRoot) (chain middle after : KeyedRoots) → Takes hash verified chain roots middle → Takes hash verified middle more after → Takes hash verified chain (roots ++ more) after
   takes-append [] more chain middle after takes later = subst (λ (c : KeyedRoots). Takes hash verified c more after) takes later
   takes-append (root ∷ roots) more chain middle after takes later = (takes.0, takes.1, takes-append roots more takes.0 middle after takes.2 later)
 

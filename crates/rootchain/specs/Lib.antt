@@ -11,6 +11,7 @@ pub mod RootFeeds
 pub mod RootLists
 pub mod SignedRoots
 pub mod Taking
+pub mod TakingBytes
 pub mod TakingLists
 pub mod TakingPieces
 pub mod Walks

@@ -17,7 +17,7 @@ abbrev pub joined : List (List ℕ) → List ℕ
 joined [] = []
 joined (piece ∷ pieces) = piece ++ joined pieces
 
--- the refusal of a piece for that of one of its roots
+-- the refusal of a piece, or of a list in bytes, for that of one of its roots
 abbrev pub of_piece : ListRefusal → PieceRefusal
 of_piece list.Memory = Memory
 of_piece list.BadSignature = Root list.BadSignature
@@ -25,7 +25,7 @@ of_piece list.BeforeStart = Root list.BeforeStart
 of_piece list.Ahead = Root list.Ahead
 of_piece (list.Evidence evidence) = Root (list.Evidence evidence)
 
--- what comes of a piece: it is taken, or refused in this way
+-- what comes of a piece, or of a list in bytes: it is taken, or refused in this way
 abbrev pub piece_answer : Outcome → ListRefusal → Result Unit PieceRefusal
 piece_answer outcome.Taken why = Ok tt
 piece_answer outcome.Malformed why = Err Malformed

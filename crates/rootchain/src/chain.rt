@@ -124,6 +124,7 @@ impl<H: NodeHash, S: Verifier> Chain<H, S> {
 }
 
 mod taking;
+mod taking_bytes;
 mod taking_lists;
 mod taking_one;
 mod taking_pieces;

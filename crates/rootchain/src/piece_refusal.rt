@@ -1,14 +1,14 @@
 use crate::ListRefusal;
 use thiserror::Error;
 
-/// Why a chain refuses a piece of a list of roots.
+/// Why a chain refuses the bytes of a list of roots, or a piece of them.
 #[derive(Debug, Drop, PartialEq, Eq, Error)]
 pub enum PieceRefusal {
-    /// The list has no such bytes there, or the feed failed before.
+    /// The bytes spell no list. Of a piece: the list has no such bytes there, or the feed failed before.
     #[error("the bytes are not of the form")]
     Malformed,
 
-    /// A root is refused as in a whole list, but never for want of memory.
+    /// A root is refused as in a list that was read, but never for want of memory.
     #[error("{0}")]
     Root(ListRefusal),
 

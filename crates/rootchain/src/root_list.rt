@@ -91,7 +91,7 @@ pub(crate) fn read_count(cursor: &mut Cursor<'_>) -> Result<usize, Fault>
 }
 
 /// Whether so many roots stand there, and nothing after them.
-fn has_roots(count: usize, cursor: &Cursor<'_>) -> bool
+pub(crate) fn has_roots(count: usize, cursor: &Cursor<'_>) -> bool
     ensures { IsTrue result ↔ HasRoots count cursor.now }
 {
     let mut ahead = cursor.copied();

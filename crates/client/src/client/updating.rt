@@ -1,11 +1,12 @@
 ghost use Rattle.std.specs.Prelude.{◌≡◌, IfErr, OnOk};
 ghost use Rattle.rootchain.specs.Chains.{IsChain};
 ghost use Rattle.client.specs.Updating.{told_as, RefusalHolds, Updates};
+ghost use Rattle.client.specs.UpdatingFrom.{piece_told_as};
 
 use super::Client;
 use crate::{Refusal, RootRefusal};
 use nodehash::NodeHash;
-use rootchain::{ListRefusal, RootList};
+use rootchain::{ListRefusal, PieceRefusal};
 use sigiface::Verifier;
 use vrfiface::VufCheck;
 
@@ -24,19 +25,26 @@ impl<H: NodeHash, V: VufCheck, S: Verifier> Client<H, V, S> {
         ensures chain { OnOk result (IsChain H.digest_of S.verified self.new.chain) }
         ensures evidence { IfErr result (RefusalHolds H.digest_of S.verified self.old.chain.key) }
     {
-        let list = match RootList::read(bytes) {
-            Ok(list) => list,
-            Err(why) => return Err(why.into()),
-        };
-        match self.chain.take_list(hash, verifier, list) {
+        match self.chain.take_bytes(hash, verifier, bytes) {
             Ok(()) => Ok(()),
             Err(why) => Err(tell(why)),
         }
     }
 }
 
+/// The client's refusal for its chain's refusal of a list in bytes, or of a piece.
+pub(super) fn tell(why: PieceRefusal) -> Refusal
+    ensures { result ≡ piece_told_as why }
+{
+    match why {
+        PieceRefusal::Malformed => Refusal::Root(RootRefusal::Malformed),
+        PieceRefusal::Root(why) => tell_list(why),
+        PieceRefusal::Memory => Refusal::Memory,
+    }
+}
+
 /// The client's refusal for its chain's refusal of a list.
-pub(super) fn tell(why: ListRefusal) -> Refusal
+fn tell_list(why: ListRefusal) -> Refusal
     ensures { result ≡ told_as why }
 {
     match why {

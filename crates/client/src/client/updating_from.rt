@@ -1,13 +1,13 @@
-ghost use Rattle.std.specs.Prelude.{◌≡◌, IfErr};
+ghost use Rattle.std.specs.Prelude.{IfErr};
 ghost use Rattle.rootchain.specs.Chains.{IsChain};
 ghost use Rattle.client.specs.Updating.{RefusalHolds};
-ghost use Rattle.client.specs.UpdatingFrom.{piece_told_as, UpdatesFrom};
+ghost use Rattle.client.specs.UpdatingFrom.{UpdatesFrom};
 
 use super::Client;
 use super::updating::tell;
-use crate::{Refusal, RootRefusal};
+use crate::Refusal;
 use nodehash::NodeHash;
-use rootchain::{PieceRefusal, RootFeed};
+use rootchain::RootFeed;
 use sigiface::Verifier;
 use vrfiface::VufCheck;
 
@@ -55,18 +55,7 @@ impl<H: NodeHash, V: VufCheck, S: Verifier> Client<H, V, S> {
     {
         match self.chain.take_piece(hash, verifier, feed, piece) {
             Ok(()) => Ok(()),
-            Err(why) => Err(tell_piece(why)),
+            Err(why) => Err(tell(why)),
         }
-    }
-}
-
-/// The client's refusal for its chain's refusal of a piece.
-fn tell_piece(why: PieceRefusal) -> Refusal
-    ensures { result ≡ piece_told_as why }
-{
-    match why {
-        PieceRefusal::Malformed => Refusal::Root(RootRefusal::Malformed),
-        PieceRefusal::Root(why) => tell(why),
-        PieceRefusal::Memory => Refusal::Memory,
     }
 }

@@ -22,12 +22,12 @@ use crate::{ListRefusal, PieceRefusal, RootFeed};
 use nodehash::NodeHash;
 use sigiface::Verifier;
 
-/// What comes of a piece.
+/// What comes of a piece, or of a list in bytes.
 #[derive(Clone, Copy, Debug)]
-enum Outcome {
+pub(super) enum Outcome {
     /// Its roots are taken.
     Taken,
-    /// The list has no such bytes there.
+    /// The list has no such bytes there, or the bytes spell none.
     Malformed,
     /// A root is refused.
     Refused,
@@ -159,10 +159,10 @@ fn is_memory(why: &ListRefusal) -> bool
     matches!(why, ListRefusal::Memory)
 }
 
-/// The refusal of a piece for that of one of its roots.
+/// The refusal of a piece, or of a list in bytes, for that of one of its roots.
 #[cold]
 #[inline(never)]
-fn of_piece(why: ListRefusal) -> PieceRefusal
+pub(super) fn of_piece(why: ListRefusal) -> PieceRefusal
     ensures { result ≡ of_piece why }
 {
     match why {

@@ -22,7 +22,7 @@ returns-clause-updates g c = elim c.match-take_piece.branch [
     w.in-Err.why,
     subst (λ (before : Client). TakesPiece g.H.NodeHash.digest_of g.S.Verifier.verified {A = Unit} before.chain c.args.feed.now c.args.piece.now (Err w.in-Err.why) c.take_piece.new.self c.take_piece.new.feed) c.self.view_is w.in-Err.ensures.takes,
     ap (λ (before : Client). with_chain before c.take_piece.new.self) c.self.view_is,
-    w.tell_piece.ensures,
+    w.tell.ensures,
   )
 ]
 
