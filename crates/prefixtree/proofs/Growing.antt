@@ -16,14 +16,14 @@ use Rattle.prefixtree.specs.Node.{half, node_count}
 use Rattle.prefixtree.specs.Under.{IsUnder}
 use Rattle.prefixtree.specs.Changes.{made_count}
 use Rattle.prefixtree.specs.Built.{contents, IsBuilt}
-use Rattle.prefixtree.specs.Growth.{grown_count, standing, AreSides, Comes, MayGrow}
+use Rattle.prefixtree.specs.Growth.{grown_count, parted, standing, AreSides, Comes, MayGrow}
 use Rattle.prefixtree.specs.declared.node.Children.{Children}
 use Rattle.prefixtree.specs.declared.node.Node.{Node}
 use Rattle.prefixtree.specs.declared.node.Node.TheVariants.{Interior}
 use Rattle.prefixtree.specs.declared.place.Before.{Before}
 use Rattle.prefixtree.specs.declared.place.Before.TheVariants.{Made, Moved, Nothing, Stale}
 use Rattle.prefixtree.specs.declared.place.Outcome.{Outcome}
-use Rattle.prefixtree.specs.declared.place.Outcome.TheVariants.{Parted}
+use Rattle.prefixtree.specs.declared.place.Sides.{Sides}
 use Rattle.prefixtree.proofs.Built.{sides}
 use Rattle.prefixtree.proofs.Counts.{node_count-few}
 use Rattle.prefixtree.proofs.Forks.{length-put-other}
@@ -75,21 +75,21 @@ module _ (of : List ℕ → List ℕ) (nonce prefix : List ℕ) (level : ℕ) (c
           counted = node_count-sides prefix level p changes under [] (moved.value ∷ []) tt on two;
         }
 
-    item-sides : (outcome : Outcome) → outcome ≡ cond (bit moved.value.0 level == 0) (Parted (Moved moved) Nothing) (Parted Nothing (Moved moved))
+    item-sides : (outcome : Outcome Sides) → outcome ≡ cond (bit moved.value.0 level == 0) (parted (Moved moved) Nothing) (parted Nothing (Moved moved))
         → Comes of nonce prefix level (moved.value ∷ []) changes (node_count (256 - level) (put_all (moved.value ∷ []) changes)) outcome
     item-sides outcome e =
-        let Wanted : Outcome → Type 0 = Comes of nonce prefix level (moved.value ∷ []) changes (node_count (256 - level) (put_all (moved.value ∷ []) changes)) in
+        let Wanted : Outcome Sides → Type 0 = Comes of nonce prefix level (moved.value ∷ []) changes (node_count (256 - level) (put_all (moved.value ∷ []) changes)) in
         elim (bit-cases moved.value.0 level) [
-          | inl z ↦ subst Wanted (sym (e ∙ ap (λ (b : Bool). cond b (Parted (Moved moved) Nothing) (Parted Nothing (Moved moved))) (eq-eqb _ 0 z))) (item-zero z)
-          | inr o ↦ subst Wanted (sym (e ∙ ap (λ (b : Bool). cond b (Parted (Moved moved) Nothing) (Parted Nothing (Moved moved))) (ne_eqb (bit moved.value.0 level) 0 (omega (arith, o))))) (item-one o)
+          | inl z ↦ subst Wanted (sym (e ∙ ap (λ (b : Bool). cond b (parted (Moved moved) Nothing) (parted Nothing (Moved moved))) (eq-eqb _ 0 z))) (item-zero z)
+          | inr o ↦ subst Wanted (sym (e ∙ ap (λ (b : Bool). cond b (parted (Moved moved) Nothing) (parted Nothing (Moved moved))) (ne_eqb (bit moved.value.0 level) 0 (omega (arith, o))))) (item-one o)
         ]
 
   pub item-parted : level < 256 → (x : Item) → Is32Bytes x.0 → cut x.0 level ≡ prefix → 1 < length (put_all (x ∷ []) changes)
-      → (outcome : Outcome) → ((moved : Rc Item Global) × (moved.value ≡ x) × (outcome ≡ cond (bit x.0 level == 0) (Parted (Moved moved) Nothing) (Parted Nothing (Moved moved))))
+      → (outcome : Outcome Sides) → ((moved : Rc Item Global) × (moved.value ≡ x) × (outcome ≡ cond (bit x.0 level == 0) (parted (Moved moved) Nothing) (parted Nothing (Moved moved))))
       → Comes of nonce prefix level (x ∷ []) changes (node_count (256 - level) (put_all (x ∷ []) changes)) outcome
   item-parted p x w begins two outcome (moved, is, e) =
       subst (λ (y : Item). Is32Bytes y.0 → cut y.0 level ≡ prefix → 1 < length (put_all (y ∷ []) changes)
-      → outcome ≡ cond (bit y.0 level == 0) (Parted (Moved moved) Nothing) (Parted Nothing (Moved moved))
+      → outcome ≡ cond (bit y.0 level == 0) (parted (Moved moved) Nothing) (parted Nothing (Moved moved))
       → Comes of nonce prefix level (y ∷ []) changes (node_count (256 - level) (put_all (y ∷ []) changes)) outcome)
       is (λ w' b' t' e'. item-sides p moved w' b' t' outcome e') w begins two e
 
@@ -224,7 +224,7 @@ item-replaced prefix level x change item changes is e same w begins =
     )
 
 -- what becomes of at most one item comes of the node that has it
-pub comes-few : (of : List ℕ → List ℕ) (nonce prefix : List ℕ) (level : ℕ) (held items changes : Items) (outcome : Outcome) → held ≡ items → length items ≤ 1 → 0 < length changes
+pub comes-few : (of : List ℕ → List ℕ) (nonce prefix : List ℕ) (level : ℕ) (held items changes : Items) (outcome : Outcome Sides) → held ≡ items → length items ≤ 1 → 0 < length changes
     → Comes of nonce prefix level items changes (node_count (256 - level) (put_all items changes)) outcome
     → Comes of nonce prefix level held changes (made_count (256 - level) held changes) outcome
 comes-few of nonce prefix level held items changes outcome e few some h =
@@ -236,10 +236,10 @@ put_all-no items [] h = refl
 put_all-no items (c ∷ cs) h = absurd (omega arith)
 
 -- what becomes of a place, told of one outcome
-pub comes-as : (prefix : List ℕ) (level : ℕ) (before : Before) (changes : Items) (outcome wanted : Outcome)
+pub comes-as : (prefix : List ℕ) (level : ℕ) (before : Before) (changes : Items) (outcome wanted : Outcome Sides)
     → ((of : List ℕ → List ℕ) (nonce prefix : List ℕ) → MayGrow of nonce prefix level before changes
     → Comes of nonce prefix level (standing before) changes (grown_count (256 - level) before changes) outcome)
     → outcome ≡ wanted → (of : List ℕ → List ℕ) (nonce : List ℕ) → MayGrow of nonce prefix level before changes
     → Comes of nonce prefix level (standing before) changes (grown_count (256 - level) before changes) wanted
 comes-as prefix level before changes outcome wanted h e of nonce is =
-    subst (λ (o : Outcome). Comes of nonce prefix level (standing before) changes (grown_count (256 - level) before changes) o) e (h of nonce prefix is)
+    subst (λ (o : Outcome Sides). Comes of nonce prefix level (standing before) changes (grown_count (256 - level) before changes) o) e (h of nonce prefix is)

@@ -4,16 +4,15 @@ use Rattle.std.proofs.lemmas.List.{drop-drop, take_at, drop_at, take-take, drop-
 use Rattle.encoding.specs.Bits.{with_one}
 use Rattle.prefixtree.specs.Placement.{Items}
 use Rattle.prefixtree.specs.Node.{half}
-use Rattle.prefixtree.specs.Growth.{grown, grown_count, standing, Comes, MayGrow}
-use Rattle.prefixtree.specs.Rows.{changes_of, count_of, AreSplit, IsRowPlace}
+use Rattle.prefixtree.specs.Growth.{grown, grown_count, parted, standing, Comes, MayGrow}
+use Rattle.prefixtree.specs.Rows.{changes_of, count_of, AreSplit, IsRowPlace, Outcomes}
 use Rattle.prefixtree.specs.declared.place.Outcome.{Outcome}
 use Rattle.prefixtree.specs.declared.place.Outcome.TheVariants.{Parted}
+use Rattle.prefixtree.specs.declared.place.Sides.{Sides}
 use Rattle.prefixtree.specs.declared.row.Place.{Place}
-use Rattle.prefixtree.specs.declared.row.Spot.{Spot}
-use Rattle.prefixtree.specs.declared.row.Spot.TheVariants.{Joined}
 
 -- what becomes of a place, told of the changes below it
-pub comes-at : (all : Items) (level : ℕ) (place : Place) (here : Items) (outcome wanted : Outcome) → here ≡ changes_of all place
+pub comes-at : (all : Items) (level : ℕ) (place : Place) (here : Items) (outcome wanted : Outcome Sides) → here ≡ changes_of all place
     → ((of : List ℕ → List ℕ) (nonce prefix : List ℕ) → MayGrow of nonce prefix level place.before here
     → Comes of nonce prefix level (standing place.before) here (grown_count (256 - level) place.before here) outcome)
     → outcome ≡ wanted → (of : List ℕ → List ℕ) (nonce : List ℕ) → IsRowPlace of nonce all level place
@@ -21,7 +20,7 @@ pub comes-at : (all : Items) (level : ℕ) (place : Place) (here : Items) (outco
 comes-at all level place here outcome wanted e h eo of nonce is =
     let told = subst (λ (l : Items). MayGrow of nonce place.prefix level place.before l
     → Comes of nonce place.prefix level (standing place.before) l (grown_count (256 - level) place.before l) outcome) e (h of nonce place.prefix) in
-    subst (λ (o : Outcome). Comes of nonce place.prefix level (standing place.before) (changes_of all place) (count_of level all place) o) eo (told is.at)
+    subst (λ (o : Outcome Sides). Comes of nonce place.prefix level (standing place.before) (changes_of all place) (count_of level all place) o) eo (told is.at)
 
 -- the changes below a place, parted into those of its two sides
 pub parted-changes : (all here zeros ones : Items) (start end middle : ℕ) → start ≤ end → end ≤ length all → here ≡ take (end - start) (drop start all)
@@ -44,10 +43,10 @@ pub split-joined : (of : List ℕ → List ℕ) (nonce : List ℕ) (all : Items)
     → IsRowPlace of nonce all level place → here ≡ changes_of all place → zeros ≡ half 0 level here → ones ≡ half 1 level here → here ≡ zeros ++ ones
     → zero_place.prefix ≡ place.prefix → zero_place.start ≡ place.start → zero_place.end ≡ place.start + length zeros
     → one_place.prefix ≡ with_one place.prefix level → one_place.start ≡ place.start + length zeros → one_place.end ≡ place.end
-    → Comes of nonce place.prefix level (standing place.before) (changes_of all place) (count_of level all place) (Parted zero_place.before one_place.before)
-    → (places : List Place) (spots : List Spot) (rest : List Place) → AreSplit of nonce all level places spots rest
-    → AreSplit of nonce all level (place ∷ places) (Joined ∷ spots) (zero_place ∷ one_place ∷ rest)
-split-joined of nonce all level place zero_place one_place here zeros ones is eh ez eo whole zp zs ze op os oe sides places spots rest split =
+    → Comes of nonce place.prefix level (standing place.before) (changes_of all place) (count_of level all place) (parted zero_place.before one_place.before)
+    → (places : List Place) (outcomes : Outcomes) (rest : List Place) → AreSplit of nonce all level places outcomes rest
+    → AreSplit of nonce all level (place ∷ places) (Parted tt ∷ outcomes) (zero_place ∷ one_place ∷ rest)
+split-joined of nonce all level place zero_place one_place here zeros ones is eh ez eo whole zp zs ze op os oe sides places outcomes rest split =
     let cut = parted-changes all here zeros ones place.start place.end (place.start + length zeros) is.order is.within eh whole refl in
     let below_zero : changes_of all zero_place ≡ half 0 level (changes_of all place) =
     (λ i. take (ze i - zs i) (drop (zs i) all)) ∙ cut.1 ∙ ez ∙ ap (half 0 level) eh in

@@ -14,6 +14,7 @@ use Rattle.prefixtree.specs.declared.place.Before.{Before}
 use Rattle.prefixtree.specs.declared.place.Before.TheVariants.{Made, Moved, Nothing, Stale}
 use Rattle.prefixtree.specs.declared.place.Outcome.{Outcome}
 use Rattle.prefixtree.specs.declared.place.Outcome.TheVariants.{Kept, Vacant, Single, Parted}
+use Rattle.prefixtree.specs.declared.place.Sides.{Sides}
 
 -- the items that stand at a place before the changes
 abbrev pub standing : Before → Items
@@ -32,6 +33,10 @@ grown_count below (Made node) changes = made_count below (contents node) changes
 grown_count below (Moved item) changes = node_count below (put_all (item.value ∷ []) changes)
 grown_count below Nothing changes = node_count below (put_all [] changes)
 grown_count below (Stale node) changes = node_count below (put_all (contents node) changes)
+
+-- a place is parted into these two sides
+abbrev pub parted : Before → Before → Outcome Sides
+parted zero one = Parted (record { zero_side = zero; one_side = one })
 
 module _ (of : List ℕ → List ℕ) (nonce : List ℕ) where
   -- what stands at a place is its own
@@ -64,9 +69,9 @@ module _ (of : List ℕ → List ℕ) (nonce : List ℕ) where
     pub counted : count ≡ grown_count (256 - (level + 1)) zero_side (half 0 level changes) + grown_count (256 - (level + 1)) one_side (half 1 level changes) + 1
 
   -- what becomes of these items and changes at a place, with this many nodes made
-  abbrev pub Comes : List ℕ → ℕ → Items → Items → ℕ → Outcome → Type 0
+  abbrev pub Comes : List ℕ → ℕ → Items → Items → ℕ → Outcome Sides → Type 0
   Comes prefix level items changes count (Kept node) = IsBuilt of nonce prefix level node × (contents node ≡ put_all items changes) × (count ≡ 0)
   Comes prefix level items changes count Vacant = (put_all items changes ≡ []) × (count ≡ 1)
   Comes prefix level items changes count (Single item) =
       (put_all items changes ≡ item.value ∷ []) × Is32Bytes item.value.0 × (cut item.value.0 level ≡ prefix) × (count ≡ 1)
-  Comes prefix level items changes count (Parted zero_side one_side) = AreSides prefix level items changes count zero_side one_side
+  Comes prefix level items changes count (Parted sides) = AreSides prefix level items changes count sides.zero_side sides.one_side

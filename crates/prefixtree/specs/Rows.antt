@@ -9,9 +9,13 @@ use Rattle.prefixtree.specs.Built.{contents, IsBuilt}
 use Rattle.prefixtree.specs.Growth.{grown, grown_count, MayGrow}
 use Rattle.prefixtree.specs.declared.node.Node.{Node}
 use Rattle.prefixtree.specs.declared.node.Node.TheVariants.{Empty, Leaf, Interior'}
+use Rattle.prefixtree.specs.declared.place.Outcome.{Outcome}
+use Rattle.prefixtree.specs.declared.place.Outcome.TheVariants.{Kept, Vacant, Single, Parted}
 use Rattle.prefixtree.specs.declared.row.Place.{Place}
-use Rattle.prefixtree.specs.declared.row.Spot.{Spot}
-use Rattle.prefixtree.specs.declared.row.Spot.TheVariants.{Shared, Blank, Alone, Joined}
+
+-- what is made at the places of a row
+abbrev pub Outcomes : Type 0
+Outcomes = List (Outcome (Unit {0}))
 
 -- the changes below a place, of all
 abbrev pub changes_of : Items → Place → Items
@@ -29,33 +33,34 @@ abbrev pub row_count : ℕ → Items → List Place → ℕ
 row_count level all [] = 0
 row_count level all (place ∷ places) = count_of level all place + row_count level all places
 
--- how many nodes of the row below, and how many digests, are used at a spot and at those of a row
-abbrev pub sides_of : Spot → ℕ
-sides_of Joined = 2
-sides_of spot = 0
+-- how many nodes of the row below, and how many digests, are used for what is made at a place and at those of a row
+abbrev pub sides_of : Outcome (Unit {0}) → ℕ
+sides_of (Parted _) = 2
+sides_of outcome = 0
 
-abbrev pub digests_of : Spot → ℕ
-digests_of (Shared node) = 0
-digests_of spot = 1
+abbrev pub digests_of : Outcome (Unit {0}) → ℕ
+digests_of (Kept node) = 0
+digests_of outcome = 1
 
-abbrev pub row_sides : List Spot → ℕ
+abbrev pub row_sides : Outcomes → ℕ
 row_sides [] = 0
-row_sides (spot ∷ spots) = sides_of spot + row_sides spots
+row_sides (outcome ∷ outcomes) = sides_of outcome + row_sides outcomes
 
-abbrev pub row_digests : List Spot → ℕ
+abbrev pub row_digests : Outcomes → ℕ
 row_digests [] = 0
-row_digests (spot ∷ spots) = digests_of spot + row_digests spots
+row_digests (outcome ∷ outcomes) = digests_of outcome + row_digests outcomes
 
--- the texts that are hashed at a spot, over the hashes of the row below, and those of a row
-abbrev pub spot_texts : List ℕ → ℕ → Spot → List (List ℕ) → List (List ℕ)
-spot_texts nonce level (Shared node) hashes = []
-spot_texts nonce level (Blank prefix) hashes = empty_bytes nonce prefix level ∷ []
-spot_texts nonce level (Alone item) hashes = leaf_bytes nonce item.value.0 level item.value.1 ∷ []
-spot_texts nonce level Joined hashes = interior_bytes (slice_index_or hashes 0 []) (slice_index_or hashes 1 []) ∷ []
+-- the texts that are hashed for what is made at a place, over the hashes of the row below, and those of a row
+abbrev pub texts_of : List ℕ → ℕ → List ℕ → Outcome (Unit {0}) → List (List ℕ) → List (List ℕ)
+texts_of nonce level prefix (Kept node) hashes = []
+texts_of nonce level prefix Vacant hashes = empty_bytes nonce prefix level ∷ []
+texts_of nonce level prefix (Single item) hashes = leaf_bytes nonce item.value.0 level item.value.1 ∷ []
+texts_of nonce level prefix (Parted _) hashes = interior_bytes (slice_index_or hashes 0 []) (slice_index_or hashes 1 []) ∷ []
 
-abbrev pub row_texts : List ℕ → ℕ → List Spot → List (List ℕ) → List (List ℕ)
-row_texts nonce level [] hashes = []
-row_texts nonce level (spot ∷ spots) hashes = spot_texts nonce level spot hashes ++ row_texts nonce level spots (drop (sides_of spot) hashes)
+abbrev pub row_texts : List ℕ → ℕ → List Place → Outcomes → List (List ℕ) → List (List ℕ)
+row_texts nonce level (place ∷ places) (outcome ∷ outcomes) hashes =
+    texts_of nonce level place.prefix outcome hashes ++ row_texts nonce level places outcomes (drop (sides_of outcome) hashes)
+row_texts nonce level places outcomes hashes = []
 
 -- the same node, as far as can be told from what it refers to
 abbrev pub IsSame : Node → Node → Type 0
@@ -63,16 +68,16 @@ IsSame node other =
     (contents other ≡ contents node)
     × ((of : List ℕ → List ℕ) (nonce prefix : List ℕ) (level : ℕ) → IsBuilt of nonce prefix level node → IsBuilt of nonce prefix level other)
 
--- the nodes that are made at spots, of these digests and over these nodes of the row below
-abbrev pub AreMade : List Spot → List (List ℕ) → List Node → List Node → Type 0
+-- the nodes that are made, of these digests and over these nodes of the row below
+abbrev pub AreMade : Outcomes → List (List ℕ) → List Node → List Node → Type 0
 AreMade [] [] [] [] = Unit {0}
-AreMade (Shared node ∷ spots) digests lower (other ∷ nodes) = IsSame node other × AreMade spots digests lower nodes
-AreMade (Blank prefix ∷ spots) (digest ∷ digests) lower (Empty hash ∷ nodes) = (hash ≡ digest) × AreMade spots digests lower nodes
-AreMade (Alone item ∷ spots) (digest ∷ digests) lower (Leaf hash shared ∷ nodes) =
-    (hash ≡ digest) × (shared.value ≡ item.value) × AreMade spots digests lower nodes
-AreMade (Joined ∷ spots) (digest ∷ digests) (zero_node ∷ one_node ∷ lower) (Interior' hash p zero_side one_side ∷ nodes) =
-    (hash ≡ digest) × (zero_side ≡ zero_node) × (one_side ≡ one_node) × AreMade spots digests lower nodes
-AreMade spots digests lower nodes = ⊥
+AreMade (Kept node ∷ outcomes) digests lower (other ∷ nodes) = IsSame node other × AreMade outcomes digests lower nodes
+AreMade (Vacant ∷ outcomes) (digest ∷ digests) lower (Empty hash ∷ nodes) = (hash ≡ digest) × AreMade outcomes digests lower nodes
+AreMade (Single item ∷ outcomes) (digest ∷ digests) lower (Leaf hash shared ∷ nodes) =
+    (hash ≡ digest) × (shared.value ≡ item.value) × AreMade outcomes digests lower nodes
+AreMade (Parted _ ∷ outcomes) (digest ∷ digests) (zero_node ∷ one_node ∷ lower) (Interior' hash p zero_side one_side ∷ nodes) =
+    (hash ≡ digest) × (zero_side ≡ zero_node) × (one_side ≡ one_node) × AreMade outcomes digests lower nodes
+AreMade outcomes digests lower nodes = ⊥
 
 module _ (of : List ℕ → List ℕ) (nonce : List ℕ) (all : Items) where
   -- a place of this level, whose changes are some of all
@@ -85,24 +90,24 @@ module _ (of : List ℕ → List ℕ) (nonce : List ℕ) (all : Items) where
   ArePlaces level places = AllByRecursion (IsRowPlace level) places
 
   -- what is made at each place of a row, and the places of their sides
-  abbrev pub AreSplit : ℕ → List Place → List Spot → List Place → Type 0
+  abbrev pub AreSplit : ℕ → List Place → Outcomes → List Place → Type 0
   AreSplit level [] [] [] = Unit {0}
-  AreSplit level (place ∷ places) (Shared node ∷ spots) lower =
+  AreSplit level (place ∷ places) (Kept node ∷ outcomes) lower =
       IsBuilt of nonce place.prefix level node × (contents node ≡ items_of all place) × (count_of level all place ≡ 0)
-      × AreSplit level places spots lower
-  AreSplit level (place ∷ places) (Blank prefix ∷ spots) lower =
-      (prefix ≡ place.prefix) × (items_of all place ≡ []) × (count_of level all place ≡ 1)
-      × AreSplit level places spots lower
-  AreSplit level (place ∷ places) (Alone item ∷ spots) lower =
+      × AreSplit level places outcomes lower
+  AreSplit level (place ∷ places) (Vacant ∷ outcomes) lower =
+      (items_of all place ≡ []) × (count_of level all place ≡ 1)
+      × AreSplit level places outcomes lower
+  AreSplit level (place ∷ places) (Single item ∷ outcomes) lower =
       (items_of all place ≡ item.value ∷ []) × Is32Bytes item.value.0 × (cut item.value.0 level ≡ place.prefix) × (count_of level all place ≡ 1)
-      × AreSplit level places spots lower
-  AreSplit level (place ∷ places) (Joined ∷ spots) (zero_side ∷ one_side ∷ lower) =
+      × AreSplit level places outcomes lower
+  AreSplit level (place ∷ places) (Parted _ ∷ outcomes) (zero_side ∷ one_side ∷ lower) =
       (level < 256) × (zero_side.prefix ≡ place.prefix) × (one_side.prefix ≡ with_one place.prefix level)
       × IsRowPlace (level + 1) zero_side × IsRowPlace (level + 1) one_side
       × (1 < length (items_of all place)) × (items_of all place ≡ items_of all zero_side ++ items_of all one_side)
       × (count_of level all place ≡ count_of (level + 1) all zero_side + count_of (level + 1) all one_side + 1)
-      × AreSplit level places spots lower
-  AreSplit level places spots lower = ⊥
+      × AreSplit level places outcomes lower
+  AreSplit level places outcomes lower = ⊥
 
   -- each node is the one of its place
   abbrev pub AreBuilt : ℕ → List Place → List Node → Type 0

@@ -86,7 +86,7 @@ pub(crate) fn grow<H: NodeHash>(
         Outcome::Kept(node) => Ok(node),
         Outcome::Vacant => Ok(empty(hash, nonce, prefix, level)),
         Outcome::Single(item) => Ok(leaf(hash, nonce, level, item)),
-        Outcome::Parted(zero_side, one_side) => {
+        Outcome::Parted(sides) => {
             let (zeros, ones) = halves(changes, level);
             let zero_side = grow(
                 alloc,
@@ -94,7 +94,7 @@ pub(crate) fn grow<H: NodeHash>(
                 nonce,
                 prefix,
                 level + 1,
-                zero_side,
+                sides.zero_side,
                 zeros,
                 most,
             )?;
@@ -104,7 +104,7 @@ pub(crate) fn grow<H: NodeHash>(
                 nonce,
                 &with_one(prefix, level),
                 level + 1,
-                one_side,
+                sides.one_side,
                 ones,
                 most,
             )?;

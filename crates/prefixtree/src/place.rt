@@ -13,8 +13,7 @@ ghost use Rattle.prefixtree.specs.Changes.{made_count};
 ghost use Rattle.prefixtree.specs.Built.{contents, IsBuilt};
 ghost use Rattle.prefixtree.specs.Under.{IsUnder};
 ghost use Rattle.prefixtree.specs.declared.place.Before.TheVariants.{Moved, Nothing};
-ghost use Rattle.prefixtree.specs.declared.place.Outcome.TheVariants.{Parted};
-ghost use Rattle.prefixtree.specs.Growth.{grown_count, standing, Comes, MayGrow};
+ghost use Rattle.prefixtree.specs.Growth.{grown_count, parted, standing, Comes, MayGrow};
 
 use crate::Item;
 use crate::node::Node;
@@ -35,42 +34,61 @@ pub(crate) enum Before {
     Stale(Node),
 }
 
-/// What comes to stand at a place.
+/// What stands on the side of bit 0 and on that of bit 1 of a place, before the changes.
 #[derive(Drop)]
-pub(crate) enum Outcome {
+pub(crate) struct Sides {
+    pub(crate) zero_side: Before,
+    pub(crate) one_side: Before,
+}
+
+/// What comes to stand at a place. `S` is what is known of the two sides of an interior node: what stands
+/// there before the changes, or nothing where they are places of the row below.
+#[derive(Drop)]
+pub(crate) enum Outcome<S> {
     /// The node that stands there, since no change comes below it.
     Kept(Node),
     /// An empty node.
     Vacant,
     /// The leaf of an item.
     Single(Rc<Item>),
-    /// An interior node over what becomes of the side of bit 0 and of that of bit 1.
-    Parted(Before, Before),
+    /// An interior node over what becomes of its two sides.
+    Parted(S),
 }
 
 /// What becomes of a place where nothing stands.
-fn of_nothing(alloc: Global, level: usize, changes: &[Item]) -> Result<Outcome, AllocError>
+fn of_nothing(alloc: Global, level: usize, changes: &[Item]) -> Result<Outcome<Sides>, AllocError>
     ensures { IfOk result (λ outcome. (of : List ℕ → List ℕ) (nonce prefix : List ℕ) → level ≤ 256 → IsUnder prefix level changes.now
         → Comes of nonce prefix level [] changes.now (node_count (256 - level) (put_all [] changes.now)) outcome) }
 {
     match changes {
         [] => Ok(Outcome::Vacant),
         [change] => Ok(Outcome::Single(Rc::new(alloc, *change)?)),
-        _ => Ok(Outcome::Parted(Before::Nothing, Before::Nothing)),
+        _ => {
+            Ok(Outcome::Parted(Sides {
+                zero_side: Before::Nothing,
+                one_side: Before::Nothing,
+            }))
+        }
     }
 }
 
 /// The sides of a place where this item stands: it goes to the side of its bit at this level.
-fn part_item(level: usize, item: &Rc<Item>) -> Result<Outcome, AllocError>
+fn part_item(level: usize, item: &Rc<Item>) -> Result<Outcome<Sides>, AllocError>
     requires { level < 256 }
     ensures { IfOk result (λ outcome. (moved : Rc Item Global) × (moved.value ≡ item.now.value)
-        × (outcome ≡ (if bit item.now.value.0 level == 0 then Parted (Moved moved) Nothing else Parted Nothing (Moved moved)))) }
+        × (outcome ≡ (if bit item.now.value.0 level == 0 then parted (Moved moved) Nothing else parted Nothing (Moved moved)))) }
 {
     let moved = Before::Moved(item.clone()?);
     if bit(&item.0, level) {
-        Ok(Outcome::Parted(Before::Nothing, moved))
+        Ok(Outcome::Parted(Sides {
+            zero_side: Before::Nothing,
+            one_side: moved,
+        }))
     } else {
-        Ok(Outcome::Parted(moved, Before::Nothing))
+        Ok(Outcome::Parted(Sides {
+            zero_side: moved,
+            one_side: Before::Nothing,
+        }))
     }
 }
 
@@ -80,7 +98,7 @@ fn of_item(
     level: usize,
     item: &Rc<Item>,
     changes: &[Item],
-) -> Result<Outcome, AllocError>
+) -> Result<Outcome<Sides>, AllocError>
     requires level { level ≤ 256 }
     requires under { (prefix : List ℕ) × IsUnder prefix level changes.now × Is32Bytes item.now.value.0 × (cut item.now.value.0 level ≡ prefix) }
     ensures { IfOk result (λ outcome. (of : List ℕ → List ℕ) (nonce prefix : List ℕ) → IsUnder prefix level changes.now → Is32Bytes item.now.value.0 → cut item.now.value.0 level ≡ prefix
@@ -105,7 +123,7 @@ fn of_node(
     level: usize,
     node: &Node,
     changes: &[Item],
-) -> Result<Outcome, AllocError>
+) -> Result<Outcome<Sides>, AllocError>
     requires level { level ≤ 256 }
     requires under { (of : List ℕ → List ℕ) × (nonce : List ℕ) × (prefix : List ℕ) × IsUnder prefix level changes.now × IsBuilt of nonce prefix level node.now }
     ensures { IfOk result (λ outcome. (of : List ℕ → List ℕ) (nonce prefix : List ℕ) → IsUnder prefix level changes.now → IsBuilt of nonce prefix level node.now
@@ -120,7 +138,10 @@ fn of_node(
         Node::Interior { children, .. } => {
             let zero_side = Before::Made(children.zero_side.share()?);
             let one_side = Before::Made(children.one_side.share()?);
-            Ok(Outcome::Parted(zero_side, one_side))
+            Ok(Outcome::Parted(Sides {
+                zero_side,
+                one_side,
+            }))
         }
     }
 }
@@ -131,7 +152,7 @@ fn of_stale(
     level: usize,
     node: &Node,
     changes: &[Item],
-) -> Result<Outcome, AllocError>
+) -> Result<Outcome<Sides>, AllocError>
     requires level { level ≤ 256 }
     requires under { (of : List ℕ → List ℕ) × (was : List ℕ) × (prefix : List ℕ) × IsUnder prefix level changes.now × IsBuilt of was prefix level node.now }
     ensures { IfOk result (λ outcome. (of : List ℕ → List ℕ) (nonce was prefix : List ℕ) → IsUnder prefix level changes.now → IsBuilt of was prefix level node.now
@@ -143,7 +164,10 @@ fn of_stale(
         Node::Interior { children, .. } => {
             let zero_side = Before::Stale(children.zero_side.share()?);
             let one_side = Before::Stale(children.one_side.share()?);
-            Ok(Outcome::Parted(zero_side, one_side))
+            Ok(Outcome::Parted(Sides {
+                zero_side,
+                one_side,
+            }))
         }
     }
 }
@@ -155,7 +179,7 @@ impl Before {
         alloc: Global,
         level: usize,
         changes: &[Item],
-    ) -> Result<Outcome, AllocError>
+    ) -> Result<Outcome<Sides>, AllocError>
         requires level { level ≤ 256 }
         requires place { (of : List ℕ → List ℕ) × (nonce : List ℕ) × (prefix : List ℕ) × MayGrow of nonce prefix level self.now changes.now }
         ensures { IfOk result (λ outcome. (of : List ℕ → List ℕ) (nonce prefix : List ℕ) → MayGrow of nonce prefix level self.now changes.now
@@ -175,7 +199,7 @@ impl Before {
         alloc: Global,
         level: usize,
         changes: &[Item],
-    ) -> Result<Outcome, AllocError>
+    ) -> Result<Outcome<Sides>, AllocError>
         requires level { level ≤ 256 }
         requires place { (of : List ℕ → List ℕ) × (nonce : List ℕ) × (prefix : List ℕ) × MayGrow of nonce prefix level self changes.now }
         ensures { IfOk result (λ outcome. (of : List ℕ → List ℕ) (nonce prefix : List ℕ) → MayGrow of nonce prefix level self changes.now

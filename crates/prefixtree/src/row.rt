@@ -7,9 +7,8 @@ ghost use Rattle.nodehash.specs.Digests.{after_digests};
 ghost use Rattle.prefixtree.specs.Built.{kept};
 ghost use Rattle.prefixtree.specs.Growth.{IsGrowth, MayGrow};
 ghost use Rattle.prefixtree.specs.declared.row.Place.{Place};
-ghost use Rattle.prefixtree.specs.declared.row.Spot.{Spot};
 ghost use Rattle.prefixtree.specs.declared.node.Node.{Node};
-ghost use Rattle.prefixtree.specs.Rows.{changes_of, digests_of, row_count, row_digests, row_sides, row_texts, sides_of, spot_texts, AreBuilt, AreMade, ArePlaces, AreSplit, IsRowPlace};
+ghost use Rattle.prefixtree.specs.Rows.{changes_of, digests_of, row_count, row_digests, row_sides, row_texts, sides_of, texts_of, AreBuilt, AreMade, ArePlaces, AreSplit, IsRowPlace, Outcomes};
 
 use crate::Item;
 use crate::build::halves;
@@ -30,19 +29,6 @@ pub(crate) struct Place {
     pub(crate) end: usize,
 }
 
-/// What is made at a place.
-#[derive(Drop)]
-pub(crate) enum Spot {
-    /// The node that stands there is shared.
-    Shared(Node),
-    /// The empty node at this prefix.
-    Blank(Index),
-    /// The leaf of an item.
-    Alone(Rc<Item>),
-    /// An interior node over the next two nodes of the row below.
-    Joined,
-}
-
 /// The changes below a place.
 fn part<'a>(changes: &'a [Item], place: &Place) -> &'a [Item]
     requires order { place.now.start ≤ place.now.end }
@@ -59,34 +45,34 @@ fn split_place(
     changes: &[Item],
     place: &Place,
     lower: &mut Vec<Place>,
-) -> Result<Spot, AllocError>
+) -> Result<Outcome<()>, AllocError>
     requires level { level ≤ 256 }
     requires place { (of : List ℕ → List ℕ) × (nonce : List ℕ) × IsRowPlace of nonce changes.now level place.now }
-    ensures { IfOk result (λ spot. (below : List Place) × (lower.new.items ≡ lower.old.items ++ below)
-        × ((of : List ℕ → List ℕ) (nonce : List ℕ) (places : List Place) (spots : List Spot) (rest : List Place)
-        → IsRowPlace of nonce changes.now level place.now → AreSplit of nonce changes.now level places spots rest
-        → AreSplit of nonce changes.now level (place.now ∷ places) (spot ∷ spots) (below ++ rest))) }
+    ensures { IfOk result (λ outcome. (below : List Place) × (lower.new.items ≡ lower.old.items ++ below)
+        × ((of : List ℕ → List ℕ) (nonce : List ℕ) (places : List Place) (outcomes : Outcomes) (rest : List Place)
+        → IsRowPlace of nonce changes.now level place.now → AreSplit of nonce changes.now level places outcomes rest
+        → AreSplit of nonce changes.now level (place.now ∷ places) (outcome ∷ outcomes) (below ++ rest))) }
 {
     let here = part(changes, place);
     match place.before.becomes(alloc, level, here)? {
-        Outcome::Kept(node) => Ok(Spot::Shared(node)),
-        Outcome::Vacant => Ok(Spot::Blank(place.prefix)),
-        Outcome::Single(item) => Ok(Spot::Alone(item)),
-        Outcome::Parted(zero_side, one_side) => {
+        Outcome::Kept(node) => Ok(Outcome::Kept(node)),
+        Outcome::Vacant => Ok(Outcome::Vacant),
+        Outcome::Single(item) => Ok(Outcome::Single(item)),
+        Outcome::Parted(sides) => {
             let middle = place.start + halves(here, level).0.len();
             lower.push(Place {
                 prefix: place.prefix,
-                before: zero_side,
+                before: sides.zero_side,
                 start: place.start,
                 end: middle,
             })?;
             lower.push(Place {
                 prefix: with_one(&place.prefix, level),
-                before: one_side,
+                before: sides.one_side,
                 start: middle,
                 end: place.end,
             })?;
-            Ok(Spot::Joined)
+            Ok(Outcome::Parted(()))
         }
     }
 }
@@ -97,60 +83,61 @@ fn split_row(
     level: usize,
     changes: &[Item],
     places: &[Place],
-) -> Result<(Vec<Spot>, Vec<Place>), AllocError>
+) -> Result<(Vec<Outcome<()>>, Vec<Place>), AllocError>
     requires level { level ≤ 256 }
     requires places { (of : List ℕ → List ℕ) × (nonce : List ℕ) × ArePlaces of nonce changes.now level places.now }
     ensures { IfOk result (λ row. (of : List ℕ → List ℕ) (nonce : List ℕ) → ArePlaces of nonce changes.now level places.now
         → AreSplit of nonce changes.now level places.now row.0.items row.1.items) }
 {
-    let mut spots = Vec::with_capacity(alloc, places.len())?;
+    let mut outcomes = Vec::with_capacity(alloc, places.len())?;
     let mut lower = Vec::with_capacity(alloc, places.len())?;
     for place in places {
-        let spot = split_place(alloc, level, changes, place, &mut lower)?;
-        spots.push(spot)?;
+        let outcome = split_place(alloc, level, changes, place, &mut lower)?;
+        outcomes.push(outcome)?;
     }
-    Ok((spots, lower))
+    Ok((outcomes, lower))
 }
 
-/// How many nodes of the row below are used at a spot.
-fn sides_of(spot: &Spot) -> usize
-    ensures { result ≡ sides_of spot.now }
+/// How many nodes of the row below are used where this is made.
+fn sides_of(outcome: &Outcome<()>) -> usize
+    ensures { result ≡ sides_of outcome.now }
 {
-    match spot {
-        Spot::Joined => 2,
+    match outcome {
+        Outcome::Parted(()) => 2,
         _ => 0,
     }
 }
 
-/// How many digests are used at a spot.
-fn digests_of(spot: &Spot) -> usize
-    ensures { result ≡ digests_of spot.now }
+/// How many digests are used where this is made.
+fn digests_of(outcome: &Outcome<()>) -> usize
+    ensures { result ≡ digests_of outcome.now }
 {
-    match spot {
-        Spot::Shared(_) => 0,
+    match outcome {
+        Outcome::Kept(_) => 0,
         _ => 1,
     }
 }
 
-/// Appends the text that is hashed at a spot, if any. Its children are the nodes of the row below
+/// Appends the text that is hashed where this is made, if any. Its children are the nodes of the row below
 /// from `below` on.
 fn push_text(
     nonce: &Hash32,
     level: usize,
-    spot: &Spot,
+    prefix: &Index,
+    outcome: &Outcome<()>,
     lower: &[Node],
     below: usize,
     texts: &mut Vec<NodeText>,
 ) -> Result<(), AllocError>
     requires level { level ≤ 256 }
-    requires fits { below + sides_of spot.now ≤ length lower.now }
-    ensures { OnOk result (texts.new.items ≡ texts.old.items ++ spot_texts nonce.now level spot.now (drop below (map kept lower.now))) }
+    requires fits { below + sides_of outcome.now ≤ length lower.now }
+    ensures { OnOk result (texts.new.items ≡ texts.old.items ++ texts_of nonce.now level prefix.now outcome.now (drop below (map kept lower.now))) }
 {
-    match spot {
-        Spot::Shared(_) => Ok(()),
-        Spot::Blank(prefix) => Ok(texts.push(empty_text(nonce, prefix, level as u32))?),
-        Spot::Alone(item) => Ok(texts.push(leaf_text(nonce, &item.0, level as u32, &item.1))?),
-        Spot::Joined => {
+    match outcome {
+        Outcome::Kept(_) => Ok(()),
+        Outcome::Vacant => Ok(texts.push(empty_text(nonce, prefix, level as u32))?),
+        Outcome::Single(item) => Ok(texts.push(leaf_text(nonce, &item.0, level as u32, &item.1))?),
+        Outcome::Parted(()) => {
             let text = interior_text(&lower[below].hash(), &lower[below + 1].hash());
             Ok(texts.push(text)?)
         }
@@ -162,47 +149,57 @@ fn texts_of_row(
     alloc: Global,
     nonce: &Hash32,
     level: usize,
-    spots: &[Spot],
+    places: &[Place],
+    outcomes: &[Outcome<()>],
     lower: &[Node],
 ) -> Result<Vec<NodeText>, AllocError>
     requires level { level ≤ 256 }
-    requires lower { length lower.now ≡ row_sides spots.now }
-    ensures { IfOk result (λ texts. texts.items ≡ row_texts nonce.now level spots.now (map kept lower.now)) }
+    requires places { length places.now ≡ length outcomes.now }
+    requires lower { length lower.now ≡ row_sides outcomes.now }
+    ensures { IfOk result (λ texts. texts.items ≡ row_texts nonce.now level places.now outcomes.now (map kept lower.now)) }
 {
-    let mut texts = Vec::with_capacity(alloc, spots.len())?;
+    let mut texts = Vec::with_capacity(alloc, outcomes.len())?;
     let mut below = 0;
-    for spot in spots {
-        push_text(nonce, level, spot, lower, below, &mut texts)?;
-        below += sides_of(spot);
+    for (place, outcome) in places.iter().zip(outcomes) {
+        push_text(
+            nonce,
+            level,
+            &place.prefix,
+            outcome,
+            lower,
+            below,
+            &mut texts,
+        )?;
+        below += sides_of(outcome);
     }
     Ok(texts)
 }
 
-/// The node at a spot, from the digests from `used` on and the next nodes of the row below.
+/// The node at a place, from the digests from `used` on and the next nodes of the row below.
 fn node_at(
     alloc: Global,
-    spot: Spot,
+    outcome: Outcome<()>,
     digests: &[Hash32],
     used: usize,
     lower: &mut IntoIter<Node>,
 ) -> Result<Node, AllocError>
-    requires digests { used + digests_of spot ≤ length digests.now }
-    requires lower { sides_of spot ≤ length (into_iter_items lower.old) }
-    ensures made { IfOk result (λ node. (spots : List Spot) (nodes : List Node)
-        → AreMade spots (drop (used + digests_of spot) digests.now) (drop (sides_of spot) (into_iter_items lower.old)) nodes
-        → AreMade (spot ∷ spots) (drop used digests.now) (into_iter_items lower.old) (node ∷ nodes)) }
-    ensures rest { OnOk result (into_iter_items lower.new ≡ drop (sides_of spot) (into_iter_items lower.old)) }
+    requires digests { used + digests_of outcome ≤ length digests.now }
+    requires lower { sides_of outcome ≤ length (into_iter_items lower.old) }
+    ensures made { IfOk result (λ node. (outcomes : Outcomes) (nodes : List Node)
+        → AreMade outcomes (drop (used + digests_of outcome) digests.now) (drop (sides_of outcome) (into_iter_items lower.old)) nodes
+        → AreMade (outcome ∷ outcomes) (drop used digests.now) (into_iter_items lower.old) (node ∷ nodes)) }
+    ensures rest { OnOk result (into_iter_items lower.new ≡ drop (sides_of outcome) (into_iter_items lower.old)) }
 {
-    match spot {
-        Spot::Shared(node) => Ok(node),
-        Spot::Blank(_) => Ok(Node::Empty {
+    match outcome {
+        Outcome::Kept(node) => Ok(node),
+        Outcome::Vacant => Ok(Node::Empty {
             hash: digests[used],
         }),
-        Spot::Alone(item) => Ok(Node::Leaf {
+        Outcome::Single(item) => Ok(Node::Leaf {
             hash: digests[used],
             item,
         }),
-        Spot::Joined => {
+        Outcome::Parted(()) => {
             let Some(zero_side) = lower.next() else {
                 unreachable!()
             };
@@ -225,20 +222,20 @@ fn node_at(
 /// The nodes of a row, from their digests and the nodes of the row below.
 fn join_row(
     alloc: Global,
-    spots: Vec<Spot>,
+    outcomes: Vec<Outcome<()>>,
     digests: &[Hash32],
     lower: Vec<Node>,
 ) -> Result<Vec<Node>, AllocError>
-    requires digests { length digests.now ≡ row_digests spots.items }
-    requires lower { length lower.items ≡ row_sides spots.items }
-    ensures { IfOk result (λ nodes. AreMade spots.items digests.now lower.items nodes.items) }
+    requires digests { length digests.now ≡ row_digests outcomes.items }
+    requires lower { length lower.items ≡ row_sides outcomes.items }
+    ensures { IfOk result (λ nodes. AreMade outcomes.items digests.now lower.items nodes.items) }
 {
-    let mut nodes = Vec::with_capacity(alloc, spots.len())?;
+    let mut nodes = Vec::with_capacity(alloc, outcomes.len())?;
     let mut below = lower.into_iter();
     let mut used = 0;
-    for spot in spots {
-        let here = digests_of(&spot);
-        nodes.push(node_at(alloc, spot, digests, used, &mut below)?)?;
+    for outcome in outcomes {
+        let here = digests_of(&outcome);
+        nodes.push(node_at(alloc, outcome, digests, used, &mut below)?)?;
         used += here;
     }
     Ok(nodes)
@@ -265,18 +262,20 @@ fn make_row<H: NodeHash>(
     hash: &mut H,
     nonce: &Hash32,
     level: usize,
-    spots: Vec<Spot>,
+    places: &[Place],
+    outcomes: Vec<Outcome<()>>,
     lower: Vec<Node>,
 ) -> Result<Vec<Node>, AllocError>
     requires level { level ≤ 256 }
-    requires lower { length lower.items ≡ row_sides spots.items }
-    ensures made { IfOk result (λ nodes. AreMade spots.items (map H.digest_of (row_texts nonce.now level spots.items (map kept lower.items))) lower.items nodes.items) }
-    ensures work { H.digests hash.new ≤ H.digests hash.old + row_digests spots.items }
-    ensures exact { OnOk result (H.digests hash.new ≡ after_digests (row_digests spots.items) (H.digests hash.old)) }
+    requires places { length places.now ≡ length outcomes.items }
+    requires lower { length lower.items ≡ row_sides outcomes.items }
+    ensures made { IfOk result (λ nodes. AreMade outcomes.items (map H.digest_of (row_texts nonce.now level places.now outcomes.items (map kept lower.items))) lower.items nodes.items) }
+    ensures work { H.digests hash.new ≤ H.digests hash.old + row_digests outcomes.items }
+    ensures exact { OnOk result (H.digests hash.new ≡ after_digests (row_digests outcomes.items) (H.digests hash.old)) }
 {
-    let texts = texts_of_row(alloc, nonce, level, &spots, &lower)?;
+    let texts = texts_of_row(alloc, nonce, level, places, &outcomes, &lower)?;
     let digests = digests_of_texts(alloc, hash, &texts)?;
-    join_row(alloc, spots, &digests, lower)
+    join_row(alloc, outcomes, &digests, lower)
 }
 
 /// The nodes of a row of places. Takes one digest for each node that is made at or below them.
@@ -294,12 +293,12 @@ fn grow_row<H: NodeHash>(
     ensures work { H.digests hash.new ≤ H.digests hash.old + row_count level changes.now places.now }
     ensures exact { OnOk result (H.digests hash.new ≡ after_digests (row_count level changes.now places.now) (H.digests hash.old)) }
 {
-    let (spots, lower) = split_row(alloc, level, changes, places)?;
+    let (outcomes, lower) = split_row(alloc, level, changes, places)?;
     if lower.is_empty() {
-        return make_row(alloc, hash, nonce, level, spots, Vec::new(alloc));
+        return make_row(alloc, hash, nonce, level, places, outcomes, Vec::new(alloc));
     }
     let below = grow_row(alloc, hash, nonce, level + 1, changes, &lower)?;
-    make_row(alloc, hash, nonce, level, spots, below)
+    make_row(alloc, hash, nonce, level, places, outcomes, below)
 }
 
 /// The node at the prefix of `level` bits with these changes put in, made level by level.

@@ -1,7 +1,9 @@
 //! The climb along a way: from the text at its end, one digest and one sibling give the text of the
 //! node above, until the root's. `leads` compares the digest of that last text with a root.
 ghost use Rattle.std.specs.Prelude.{◌≡◌, ◌≢◌, ◌↔◌, ◌+◌, ◌≤◌, drop, length, IsTrue};
+ghost use Rattle.nodehash.specs.declared.node_text.TheConstants.{INTERIOR_LEN};
 ghost use Rattle.prefixtree.specs.Paths.{end_bytes, node_text, parent_text, Way};
+ghost use Rattle.prefixtree.specs.declared.path.TheConstants.{MAX_SIBLINGS};
 
 use crate::node::by_side;
 use crate::{End, way_is_fold};
@@ -12,7 +14,7 @@ use nodehash::{NodeHash, NodeText, empty_text, interior_text, leaf_text};
 pub fn end_text(nonce: &Hash32, index: &Index, level: usize, end: End) -> NodeText
     requires { level ≤ 256 }
     ensures value { result ≡ end_bytes nonce.now index.now level end }
-    ensures no_interior { length result ≢ 64 }
+    ensures no_interior { length result ≢ INTERIOR_LEN }
 {
     let level = level as u32;
     match end {
@@ -27,7 +29,7 @@ pub fn end_text(nonce: &Hash32, index: &Index, level: usize, end: End) -> NodeTe
 pub fn joined_text(index: &Index, level: usize, below: &Hash32, sibling: &Hash32) -> NodeText
     requires { level ≤ 255 }
     ensures value { result ≡ parent_text index.now level below.now sibling.now }
-    ensures len { length result ≡ 64 }
+    ensures len { length result ≡ INTERIOR_LEN }
 {
     let (zero_side, one_side) = by_side(index, level, below, sibling);
     interior_text(zero_side, one_side)
@@ -42,7 +44,7 @@ pub fn climb<H: NodeHash>(
     end: NodeText,
     level: usize,
 ) -> NodeText
-    requires few { length siblings.now ≤ 256 }
+    requires few { length siblings.now ≤ MAX_SIBLINGS }
     requires level { level ≤ length siblings.now }
     ensures value { result ≡ node_text H.digest_of index.now level (drop level siblings.now) end }
     ensures counted { H.digests hash.new + level ≤ H.digests hash.old + length siblings.now }
@@ -64,7 +66,7 @@ pub fn leads<H: NodeHash>(
     siblings: &[[u8; 32]],
     end: NodeText,
 ) -> bool
-    requires { length siblings.now ≤ 256 }
+    requires { length siblings.now ≤ MAX_SIBLINGS }
     ensures way { IsTrue result ↔ Way H.digest_of root.now index.now siblings.now end }
     ensures counted { H.digests hash.new ≤ H.digests hash.old + length siblings.now + 1 }
 {

@@ -18,7 +18,7 @@ pub returns-in-Kept : goal.returns-in-Kept
 returns-in-Kept c = (
   [],
   sym (append-nil c.args.lower.now.items),
-  λ of nonce places spots rest is split.
+  λ of nonce places outcomes rest is split.
       let told = comes-at c.args.changes.now c.args.level c.args.place.now c.part-here.result.now _ _ c.part-here.ensures c.in_ok-node.ensures c.in-Kept.is of nonce is in
       (told.0, told.1, told.2, split),
 )
@@ -27,16 +27,16 @@ pub returns-in-Vacant : goal.returns-in-Vacant
 returns-in-Vacant c = (
   [],
   sym (append-nil c.args.lower.now.items),
-  λ of nonce places spots rest is split.
+  λ of nonce places outcomes rest is split.
       let told = comes-at c.args.changes.now c.args.level c.args.place.now c.part-here.result.now _ _ c.part-here.ensures c.in_ok-node.ensures c.in-Vacant.is of nonce is in
-      (refl, told.0, told.1, split),
+      (told.0, told.1, split),
 )
 
 pub returns-in-Single : goal.returns-in-Single
 returns-in-Single c = (
   [],
   sym (append-nil c.args.lower.now.items),
-  λ of nonce places spots rest is split.
+  λ of nonce places outcomes rest is split.
       let told = comes-at c.args.changes.now c.args.level c.args.place.now c.part-here.result.now _ _ c.part-here.ensures c.in_ok-node.ensures c.in-Single.is of nonce is in
       (told.0, told.1, told.2, told.3, split),
 )
@@ -44,14 +44,14 @@ returns-in-Single c = (
 pub returns-in_ok-push-in-Parted-2 : goal.returns-in_ok-push-in-Parted-2
 returns-in_ok-push-in-Parted-2 c =
     let middle : ℕ = c.args.place.now.start + length c.halves.result.0.now in
-    let zero_place : Place = record { prefix = c.args.place.now.prefix; before = c.in-Parted.zero_side; start = c.args.place.now.start; end = middle } in
-    let one_place : Place = record { prefix = c.with_one.result; before = c.in-Parted.one_side; start = middle; end = c.args.place.now.end } in (
+    let zero_place : Place = record { prefix = c.args.place.now.prefix; before = c.in-Parted.sides.zero_side; start = c.args.place.now.start; end = middle } in
+    let one_place : Place = record { prefix = c.with_one.result; before = c.in-Parted.sides.one_side; start = middle; end = c.args.place.now.end } in (
       zero_place ∷ one_place ∷ [],
       c.in_ok-push-in-Parted-2.ensures.items ∙ ap (λ (l : List Place). l ++ one_place ∷ []) c.in_ok-push-in-Parted.ensures.items
           ∙ append_assoc c.args.lower.now.items (zero_place ∷ []) (one_place ∷ []),
-      λ of nonce places spots rest is split.
+      λ of nonce places outcomes rest is split.
           split-joined of nonce c.args.changes.now c.args.level c.args.place.now zero_place one_place c.part-here.result.now _ _ is c.part-here.ensures
           c.halves.ensures.zeros c.halves.ensures.ones c.halves.ensures.whole refl refl refl c.with_one.ensures refl refl
           (comes-at c.args.changes.now c.args.level c.args.place.now c.part-here.result.now _ _ c.part-here.ensures c.in_ok-node.ensures c.in-Parted.is of nonce is)
-          places spots rest split,
+          places outcomes rest split,
     )
