@@ -127,6 +127,7 @@ def of_looks(q, rng):
         q.ask(f"{client} start", SIGNING_KEY, written(a))
         q.ask(f"{client} look", b"a", 7, b.reply(b"a").write())
         q.ask(f"{client} look", b"a", 0, a.reply(b"a").write())
+        q.ask(f"{client} look-next", b"a", 3, b.reply(b"a").write())
         q.ask(f"{client} update", roots(b, c))
         for epoch, name, reply in [
             (3, b"a", a.reply(b"a")), (7, b"a", b.reply(b"a")), (9, b"a", c.reply(b"a")),
@@ -137,6 +138,15 @@ def of_looks(q, rng):
         ]:
             q.ask(f"{client} look", name, epoch, reply.write())
         q.ask(f"{client} look", b"a", 5, b"")
+        q.note("Under the first root after an epoch.")
+        for epoch, name, reply in [
+            (0, b"a", a.reply(b"a")), (2, b"a", a.reply(b"a")), (3, b"a", b.reply(b"a")), (6, b"dave", b.reply(b"dave")),
+            (7, b"a", c.reply(b"a")), (8, b"bob", c.reply(b"bob")), (9, b"a", c.reply(b"a")), (TOP, b"a", c.reply(b"a")),
+            (0, b"a", c.reply(b"a")), (3, b"a", a.reply(b"a")), (3, b"b", b.reply(b"a")), (3, b"", b.reply(b"a")),
+        ]:
+            q.ask(f"{client} look-next", name, epoch, reply.write())
+        q.ask(f"{client} look-next", b"a", 9, b"")
+        q.ask(f"{client} look-next", b"a", 3, b"")
         q.note("Replies that are not accepted.")
         good = b.reply(b"a")
         value, index, far = good.value, provider.index_of(b"a"), bytes(b ^ 255 for b in provider.index_of(b"a"))
@@ -166,6 +176,7 @@ def of_looks(q, rng):
         lets(q, page=page)
         q.ask("client start", SIGNING_KEY, written(page))
         q.ask("client look", name, 1, reply.write())
+        q.ask("client look-next", name, 0, reply.write())
         q.ask("client look", name, 0, replace(reply, siblings=reply.siblings[:-1]).write())
         q.ask("client look", name, 0, replace(reply, siblings=(*reply.siblings, ZERO32)).write())
         q.ask("client look", name, 0, reply.write()[:-1])
@@ -412,6 +423,12 @@ def of_reconciled_looks(q, rng):
         [], ["ab"], ["ab", "ab"], ["ab", "ba"], ["ba", "ab"], ["ab", "none"], ["none", "ab"], ["ab", "ab", "none", "ba"],
     ]:
         begun(*names)
+        q.ask("client-sum reconcile-self")
+    q.note("The first root after epoch 0 or 2 is that of epoch 3.")
+    for first, second in [("ab", "ab"), ("ab", "ba"), ("none", "ab")]:
+        begun(first)
+        q.ask("client-sum look-next", b"a", 2, texts[second].write())
+        q.ask("client-sum look-next", b"a", 3, texts[first].write())
         q.ask("client-sum reconcile-self")
     q.note("Two clients.")
     for others, ones in [

@@ -342,6 +342,11 @@ class SessionAnswers(Lines):
         """`look NAME EPOCH REPLY`"""
         return statement_words(self.client().look(w.name(), w.number(), w.bytes()))
 
+    def client_look_next(self, w):
+        """`look-next NAME EPOCH REPLY`"""
+        epoch, found = self.client().look_next(w.name(), w.number(), w.bytes())
+        return [str(epoch), *statement_words(found)]
+
     def client_keep(self, w):
         """`keep PROMISE`"""
         self.client().keep_promise(w.bytes())

@@ -620,7 +620,15 @@ class Client:
 
     def look(self, name, epoch, reply):
         """The key that a reply states of a name at an epoch (0: the head's), or None. The look is kept."""
-        root = self.head() if epoch == 0 else self.chain.at(epoch)
+        return self.look_under(self.head() if epoch == 0 else self.chain.at(epoch), name, reply)
+
+    def look_next(self, name, epoch, reply):
+        """The first epoch of the chain after this one, and the look there."""
+        root = self.chain.after(epoch)
+        found = self.look_under(root, name, reply)
+        return root.epoch, found
+
+    def look_under(self, root, name, reply):
         if root is None:
             raise ClientRefusal(20)
         accepted = accept(self.digest, self.vuf, root.body, name, reply)

@@ -1,16 +1,14 @@
 ghost use Rattle.std.specs.Prelude.{◌≡◌, IsOkUnless, OnErr, OnOk};
 ghost use Rattle.client.specs.Clients.{with_promise, IsPromised, IsSoundClient};
-ghost use Rattle.client.specs.Looking.{Looks as LooksUp};
 ghost use Rattle.client.specs.Promising.{KeepsPromise, ReadsPromise};
 ghost use Rattle.client.specs.Starting.{Starts};
 ghost use Rattle.client.specs.declared.client_refusal.Refusal.TheVariants.{Memory};
 
 use crate::looks::Looks;
-use crate::roots::{asked, has_root_of};
+use crate::roots::has_root_of;
 use crate::{Refusal, RootRefusal};
 use encoding::{Hash32, Name};
 use nodehash::NodeHash;
-use proofs::{Statement, accept};
 use rootchain::{Chain, SignedPromise, SignedRoot};
 use sigiface::Verifier;
 use std::alloc::Global;
@@ -18,6 +16,7 @@ use std::marker::{Model, PhantomData};
 use vrfiface::VufCheck;
 
 mod dues;
+mod looking;
 mod updating;
 mod updating_from;
 
@@ -93,38 +92,6 @@ impl<H: NodeHash, V: VufCheck, S: Verifier> Client<H, V, S> {
         ensures sound { IsSoundClient H.digest_of V.accepted S.verified self.now }
     {
         &self.promises
-    }
-
-    /// Checks a reply to a look-up of this name against the root of an epoch, where 0 asks for the latest
-    /// root, and keeps it. Returns what the reply states of the name.
-    ///
-    /// # Errors
-    ///
-    /// `UnknownRoot` where the chain has no root of the epoch, the refusal of the reply, `Memory`: the first
-    /// that applies. The client then stays as it was.
-    pub fn look<'a>(
-        &mut self,
-        hash: &mut H,
-        vuf: &V,
-        name: &Name,
-        epoch: u64,
-        bytes: &'a [u8],
-    ) -> Result<Statement<'a>, Refusal>
-        ensures { LooksUp H.digest_of V.accepted self.old name.now epoch bytes.entry.now result self.new }
-    {
-        let Some(root) = asked(&self.chain, epoch) else {
-            return Err(Refusal::UnknownRoot);
-        };
-        let body = root.body;
-        match accept::<H, V>(hash, vuf, &body, name, bytes) {
-            Ok(accepted) => {
-                if self.looks.push(name, body.epoch, bytes).is_err() {
-                    return Err(Refusal::Memory);
-                }
-                Ok(accepted.statement())
-            }
-            Err(why) => Err(Refusal::Proof(why)),
-        }
     }
 
     /// Keeps the signed promise that these bytes spell, to be tested once the chain has the next root.

@@ -189,16 +189,16 @@ impl<H: NodeHash, V: VufCheck, S: Verifier> Monitor<H, V, S> {
     ///
     /// # Errors
     ///
-    /// `Client` with `UnknownRoot` if each epoch of the chain was watched, else with the refusal of
-    /// `Client::look`. The monitor then stays as it was.
+    /// `Client` with `UnknownRoot` if each epoch of the chain was watched, else with the refusal of the reply,
+    /// or with `Memory`. The monitor then stays as it was.
     pub fn step<'a>(&mut self, hash: &mut H, vuf: &V, bytes: &'a [u8]) -> Result<Step<'a>, Refusal>
         ensures { Steps H.digest_of V.accepted self.old bytes.entry.now result self.new }
     {
-        let Some(epoch) = self.next_epoch() else {
-            return Err(Refusal::Client(client::Refusal::UnknownRoot));
-        };
-        match self.client.look(hash, vuf, &self.name, epoch, bytes) {
-            Ok(found) => {
+        match self
+            .client
+            .look_next(hash, vuf, &self.name, self.watched, bytes)
+        {
+            Ok((epoch, found)) => {
                 self.watched = epoch;
                 Ok(self.tell(epoch, found))
             }

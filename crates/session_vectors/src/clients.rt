@@ -78,6 +78,7 @@ where
             tell_done(case, updated);
         }
         b"look" => look(case, by, client),
+        b"look-next" => look_next(case, by, client),
         b"keep" => {
             let kept = client.keep_promise(&mut by.hash, &by.verifier, case.bytes());
             tell_done(case, kept);
@@ -176,6 +177,27 @@ where
     }
     match client.look(&mut by.hash, &by.vuf, &name, epoch, reply) {
         Ok(statement) => say_statement(case, statement),
+        Err(why) => refuse(case, why),
+    }
+}
+
+/// `look-next NAME EPOCH REPLY`
+fn look_next<H, V>(case: &mut Case<'_>, by: &mut Functions<H, V>, client: &mut Kept<H, V>)
+where
+    H: NodeHash + Drop,
+    V: VufCheck + Drop,
+{
+    let name = case.name();
+    let after = case.number();
+    let reply = case.bytes();
+    if case.is_spoiled() {
+        return;
+    }
+    match client.look_next(&mut by.hash, &by.vuf, &name, after, reply) {
+        Ok((epoch, statement)) => {
+            case.say_shown(epoch);
+            say_statement(case, statement);
+        }
         Err(why) => refuse(case, why),
     }
 }

@@ -20,7 +20,7 @@
 //! | | `head` | `head`, `seen`, `seen-sum` |
 //! | | `run` | `run`, `run-on`, `seen`, `seen-sum` |
 //! | `serve` | `serve_directory` without a journal, which calls `serve` | `run`, `keys` |
-//! | `client` | `Client::start`, `update`, `look` | `start`, `update`, `look` |
+//! | `client` | `Client::start`, `update`, `look`, `look_next` | `start`, `update`, `look`, `look-next` |
 //! | | `update_from`, which calls `Chain::take_part` and `take_piece`; `RootFeed::new`, `done` | `from`; `feed`, `done` |
 //! | | `keep_promise`, `due`, `due_epoch` | `keep`, `due`, `due-epoch` |
 //! | | `key`, `chain` | `key`, `head` |

@@ -1,0 +1,85 @@
+ghost use Rattle.client.specs.Looking.{KeepsLook, Looks as LooksUp, LooksNext};
+
+use super::Client;
+use crate::Refusal;
+use crate::looks::Looks;
+use crate::roots::asked;
+use encoding::Name;
+use nodehash::NodeHash;
+use proofs::{Statement, accept};
+use rootchain::SignedRoot;
+use sigiface::Verifier;
+use vrfiface::VufCheck;
+
+impl<H: NodeHash, V: VufCheck, S: Verifier> Client<H, V, S> {
+    /// Checks a reply to a look-up of this name against the root of an epoch, where 0 asks for the latest
+    /// root, and keeps it. Returns what the reply states of the name.
+    ///
+    /// # Errors
+    ///
+    /// `UnknownRoot` where the chain has no root of the epoch, the refusal of the reply, `Memory`: the first
+    /// that applies. The client then stays as it was.
+    pub fn look<'a>(
+        &mut self,
+        hash: &mut H,
+        vuf: &V,
+        name: &Name,
+        epoch: u64,
+        bytes: &'a [u8],
+    ) -> Result<Statement<'a>, Refusal>
+        ensures { LooksUp H.digest_of V.accepted self.old name.now epoch bytes.entry.now result self.new }
+    {
+        let Some(root) = asked(&self.chain, epoch) else {
+            return Err(Refusal::UnknownRoot);
+        };
+        look_under::<H, V>(&mut self.looks, hash, vuf, name, root, bytes)
+    }
+
+    /// Checks a reply to a look-up of this name against the first root after an epoch, and keeps it. Returns
+    /// the epoch of that root, and what the reply states of the name.
+    ///
+    /// # Errors
+    ///
+    /// `UnknownRoot` where the chain has no root after the epoch, the refusal of the reply, `Memory`: the
+    /// first that applies. The client then stays as it was.
+    pub fn look_next<'a>(
+        &mut self,
+        hash: &mut H,
+        vuf: &V,
+        name: &Name,
+        after: u64,
+        bytes: &'a [u8],
+    ) -> Result<(u64, Statement<'a>), Refusal>
+        ensures { LooksNext H.digest_of V.accepted self.old name.now after bytes.entry.now result self.new }
+    {
+        let Some(root) = self.chain.after(after) else {
+            return Err(Refusal::UnknownRoot);
+        };
+        match look_under::<H, V>(&mut self.looks, hash, vuf, name, root, bytes) {
+            Ok(found) => Ok((root.body.epoch, found)),
+            Err(why) => Err(why),
+        }
+    }
+}
+
+/// Checks a reply to a look-up of this name against a root, and keeps it among the looks.
+fn look_under<'a, H: NodeHash, V: VufCheck>(
+    looks: &mut Looks,
+    hash: &mut H,
+    vuf: &V,
+    name: &Name,
+    root: &SignedRoot,
+    bytes: &'a [u8],
+) -> Result<Statement<'a>, Refusal>
+    ensures { KeepsLook H.digest_of V.accepted looks.old name.now root.now bytes.entry.now result looks.new }
+{
+    match accept::<H, V>(hash, vuf, &root.body, name, bytes) {
+        Ok(accepted) => {
+            if looks.push(name, root.body.epoch, bytes).is_err() {
+                return Err(Refusal::Memory);
+            }
+            Ok(accepted.statement())
+        }
+        Err(why) => Err(Refusal::Proof(why)),
+    }
+}
