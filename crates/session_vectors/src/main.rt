@@ -21,7 +21,7 @@
 //! | | `run` | `run`, `run-on`, `seen`, `seen-sum` |
 //! | `serve` | `serve_directory` without a journal, which calls `serve` | `run`, `keys` |
 //! | `client` | `Client::start`, `update`, `look`, `look_next` | `start`, `update`, `look`, `look-next` |
-//! | | `update_from`, which calls `Chain::take_part` and `take_piece`; `RootFeed::new`, `done` | `from`; `feed`, `done` |
+//! | | of them `update` calls `Chain::take_bytes`; `update_from`, which calls `take_part` and `take_piece`; `RootFeed::new`, `done` | `from`; `feed`, `done` |
 //! | | `keep_promise`, `due`, `due_epoch` | `keep`, `due`, `due-epoch` |
 //! | | `key`, `chain` | `key`, `head` |
 //! | | `reconcile` | `reconcile`, `reconcile-self`; `put-aside` makes the client the other one |
