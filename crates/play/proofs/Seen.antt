@@ -153,7 +153,7 @@ module _ (provider : Provider) where
         where
           found : SeenFound provider book.last.epoch after name epoch text
           found =
-              (ran provider kept failed (Query (Lookup name epoch) ∷ []) (reply.Found text ∷ []) book after before later (climbs (index_of provider) book sound) ((tt, bytes), tt)
+              (ran provider kept failed (Query (Lookup name epoch) ∷ []) (reply.Found text ∷ []) book after before later (climbs (index_of provider) book sound) (bytes, tt)
               (after, later, turn, (refl, refl))).shown book.last.epoch (Query (Lookup name epoch)) (reply.Found text) (inl (refl, refl, refl)) name epoch refl
 
           answers : (page : Page) → IsRootOf provider book page root → IsReplyOf provider page root.body name (at page.bindings name) text
