@@ -4,7 +4,6 @@ use Rattle.std.specs.Bool.{⊤}
 use Rattle.std.specs.Prelude.{not, is_none, nat_le}
 use Rattle.std.specs.List.{AllByRecursion, AllZip}
 use Rattle.std.proofs.lemmas.List.{map-append}
-use Rattle.encoding.specs.Bytes.{IsBytes}
 use Rattle.encoding.specs.Limits.{IsName, IsKeyData}
 use Rattle.rootchain.specs.declared.signed_promise.SignedPromise.{SignedPromise}
 use Rattle.rootchain.specs.declared.signed_root.SignedRoot.{SignedRoot}

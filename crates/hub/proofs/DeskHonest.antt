@@ -5,7 +5,6 @@ use Rattle.std.specs.Str.{bytes_eq}
 use Rattle.rand_core.specs.Stream.{Stream}
 use Rattle.book.specs.declared.record.Record.{Record}
 use Rattle.book.specs.declared.reply.Reply.{Reply}
-use Rattle.encoding.specs.Bytes.{IsBytes}
 use Rattle.commands.specs.Operations.{Operation, Question, Query, Edit, Put, Turn, Promise, Lookup, History, Head, IsCommand, MayRead}
 use Rattle.book.specs.Fresh.{KeepsLaws}
 use Rattle.book.specs.Salts.{GivesSalts}
