@@ -158,7 +158,8 @@ impl Names {
     }
 }
 
-// Adds a version of a name that has others, and its commitment to these.
+// Adds a version of a name that has others, and its commitment to these. It takes the fields, so that its early
+// returns owe nothing of the invariant of `Names`.
 fn change_held<H: NodeHash, K: Keeper>(
     alloc: Global,
     histories: &mut HashMap<Vec<u8>, History, Seeded>,

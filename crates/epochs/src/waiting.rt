@@ -143,6 +143,7 @@ pub(crate) fn let_change_wait<H: NodeHash, K: Keeper>(
     )
 }
 
+// It takes the fields, so that its early returns owe nothing of the invariant of `Waiting`.
 fn add<K: Keeper>(
     names: &mut Names,
     commitments: &mut HashMap<Index, Hash32, Seeded>,

@@ -51,8 +51,8 @@ module _ (of : List ℕ → List ℕ) (nonce : List ℕ) where
     pub under : IsUnder prefix level changes
     pub stands : IsStanding prefix level before
 
-  -- What comes of it: the node that has the items after the changes, for one digest for each node that is made. Where
-  -- memory runs out, no more were taken.
+  -- What comes of growing a place: the node that has the items after the changes, for one digest for each node
+  -- that is made. Where memory runs out, no more were taken.
   pub record IsGrowth (prefix : List ℕ) (level : ℕ) (before : Before) (changes : Items) (result : Result Node AllocError) (digests digests' : ℕ) : Type 0 where
     pub built : IfOk result (IsBuilt of nonce prefix level)
     pub items : IfOk result (λ node. contents node ≡ grown before changes)

@@ -1,6 +1,6 @@
 //! A list of roots in place in bytes. It keeps how many roots are left, and the bytes from the first of them
 //! on. `read` passes over all roots once, and keeps none, so that each is known to be there; `next` reads
-//! the first again and returns it, and its bytes fall.
+//! the first again and returns it, and passes over its bytes.
 ghost use Rattle.std.specs.Prelude.{◌≡◌, ◌↔◌, ◌+◌, ◌≤◌, ◌∷◌, ◌++◌, [], length, IsOk, IsOkUnless, IsTrue, MatchOption, OnErr, OnOk, vec_capacity, vec_len};
 ghost use Rattle.encoding.specs.Fields.{ReadsWhole};
 ghost use Rattle.encoding.specs.Reading.{Gives};

@@ -1,6 +1,6 @@
 //! A list of roots in bytes is taken whole or not at all, and each of its roots is read once: a root is taken
 //! when it is read, up to the first that is refused, and those after it are only read. If one is refused, or the
-//! bytes spell no list, the roots that were appended fall again.
+//! bytes spell no list, the roots that were appended are taken off again.
 ghost use Rattle.std.specs.Prelude.{◌≡◌, ◌+◌, ◌≤◌, List, IfErr};
 ghost use Rattle.std.specs.List.{AllByRecursion};
 ghost use Rattle.rootchain.specs.declared.signed_root.SignedRoot.{SignedRoot};
