@@ -6,28 +6,28 @@ use Rattle.monitor.specs.Monitors.{Monitor}
 use Rattle.asking.specs.declared.asker.Asker.{Asker}
 use Rattle.asking.specs.declared.asker.Mark.{Mark}
 
-abbrev pub client_of : {H V S : Type 0} → Asker H V S → Client
-client_of asker = asker.client
+abbrev pub asker_client : {H V S : Type 0} → Asker H V S → Client
+asker_client asker = asker.client
 
-abbrev pub monitors_of : {H V S : Type 0} → Asker H V S → List Monitor
-monitors_of asker = asker.monitors.items
+abbrev pub asker_monitors : {H V S : Type 0} → Asker H V S → List Monitor
+asker_monitors asker = asker.monitors.items
 
 -- the provider's public key
-abbrev pub key_of : {H V S : Type 0} → Asker H V S → List ℕ
-key_of asker = asker.key
+abbrev pub asker_key : {H V S : Type 0} → Asker H V S → List ℕ
+asker_key asker = asker.key
 
 -- the operator's token
-abbrev pub token_of : {H V S : Type 0} → Asker H V S → List ℕ
-token_of asker = asker.token
+abbrev pub asker_token : {H V S : Type 0} → Asker H V S → List ℕ
+asker_token asker = asker.token
 
 -- how far names were watched in earlier runs
-abbrev pub marks_of : {H V S : Type 0} → Asker H V S → List Mark
-marks_of asker = asker.marks.items
+abbrev pub asker_marks : {H V S : Type 0} → Asker H V S → List Mark
+asker_marks asker = asker.marks.items
 
 -- what the client was promised for its own changes in earlier runs
-abbrev pub earlier_of : {H V S : Type 0} → Asker H V S → List SignedPromise
-earlier_of asker = asker.earlier.items
+abbrev pub asker_earlier : {H V S : Type 0} → Asker H V S → List SignedPromise
+asker_earlier asker = asker.earlier.items
 
 -- what it was promised for those of this run
-abbrev pub changes_of : {H V S : Type 0} → Asker H V S → List SignedPromise
-changes_of asker = asker.changes.items
+abbrev pub asker_changes : {H V S : Type 0} → Asker H V S → List SignedPromise
+asker_changes asker = asker.changes.items

@@ -2,7 +2,7 @@ ghost use Rattle.std.specs.Prelude.{◌≡◌, ◌≢◌, [], Err, IfErr, IfOk, 
 ghost use Rattle.rootchain.specs.Chains.{IsHead};
 ghost use Rattle.rootchain.specs.declared.signed_root.SignedRoot.{SignedRoot};
 ghost use Rattle.client.specs.Starting.{Starts};
-ghost use Rattle.asking.specs.Askers.{changes_of, client_of, earlier_of, key_of, marks_of, monitors_of, token_of};
+ghost use Rattle.asking.specs.Askers.{asker_changes, asker_client, asker_earlier, asker_key, asker_marks, asker_monitors, asker_token};
 ghost use Rattle.asking.specs.Exchanges.{ExchangesFrames};
 ghost use Rattle.asking.specs.Reports.{report_of};
 ghost use Rattle.asking.specs.Scenes.{StartsAtHead, StopsAtHead};
@@ -93,9 +93,9 @@ where
         token: Hash32,
         root: &[u8],
     ) -> Result<Self, Refusal>
-        ensures ok { IfOk result (λ asker. Starts S.verified key root.now (Ok (client_of asker))) }
-        ensures keys { IfOk result (λ asker. (key_of asker ≡ key) × (token_of asker ≡ token)) }
-        ensures none { IfOk result (λ asker. (monitors_of asker ≡ []) × (marks_of asker ≡ []) × (earlier_of asker ≡ []) × (changes_of asker ≡ [])) }
+        ensures ok { IfOk result (λ asker. Starts S.verified key root.now (Ok (asker_client asker))) }
+        ensures keys { IfOk result (λ asker. (asker_key asker ≡ key) × (asker_token asker ≡ token)) }
+        ensures none { IfOk result (λ asker. (asker_monitors asker ≡ []) × (asker_marks asker ≡ []) × (asker_earlier asker ≡ []) × (asker_changes asker ≡ [])) }
         ensures err { IfErr result (λ why. Starts S.verified key root.now (Err why)) }
     {
         match Client::start(alloc, &checks.verifier, key, root) {
@@ -127,9 +127,9 @@ where
         token: Hash32,
         said: &mut Said,
     ) -> Result<Self, AskFault>
-        ensures starts { IfOk result (λ asker. StartsAtHead S.verified (ExchangesFrames T.contents T.remaining) key stream.old (client_of asker) stream.new) }
-        ensures keys { IfOk result (λ asker. (key_of asker ≡ key) × (token_of asker ≡ token)) }
-        ensures none { IfOk result (λ asker. (monitors_of asker ≡ []) × (marks_of asker ≡ []) × (earlier_of asker ≡ []) × (changes_of asker ≡ [])) }
+        ensures starts { IfOk result (λ asker. StartsAtHead S.verified (ExchangesFrames T.contents T.remaining) key stream.old (asker_client asker) stream.new) }
+        ensures keys { IfOk result (λ asker. (asker_key asker ≡ key) × (asker_token asker ≡ token)) }
+        ensures none { IfOk result (λ asker. (asker_monitors asker ≡ []) × (asker_marks asker ≡ []) × (asker_earlier asker ≡ []) × (asker_changes asker ≡ [])) }
         ensures said { IfOk result (λ asker. said.new ≡ said.old) }
         ensures stops { IfErr result (λ fault. fault ≡ Stopped → StopsAtHead S.verified (ExchangesFrames T.contents T.remaining) key stream.old (report_of said.old) stream.new (report_of said.new)) }
         ensures halts { IfErr result (λ fault. fault ≢ Stopped → report_of said.new ≡ report_of said.old) }
@@ -150,7 +150,7 @@ where
 
     /// The client.
     pub fn client(&self) -> &Client<H, V, S>
-        ensures { result.now ≡ client_of self.now }
+        ensures { result.now ≡ asker_client self.now }
     {
         &self.client
     }

@@ -4,7 +4,7 @@ ghost use Rattle.wire.specs.Frames.{Frame};
 ghost use Rattle.wire.specs.FrameViews.{frame_seen};
 ghost use Rattle.wire.specs.Responses.{response_seen};
 ghost use Rattle.play.specs.Scripts.{ask_seen};
-ghost use Rattle.asking.specs.Askers.{changes_of, marks_of, token_of};
+ghost use Rattle.asking.specs.Askers.{asker_changes, asker_marks, asker_token};
 ghost use Rattle.asking.specs.Answering.{with_token};
 ghost use Rattle.asking.specs.Asking.{response_epoch, AsksDirectory, AsksSome, CatchesSome, CatchesUp, GoesOnAbove, GoesSomeAbove, Hands, Notes, SpeaksOf, StopsAsking, StopsBelow};
 ghost use Rattle.asking.specs.Checking.{HearsFrame};
@@ -71,11 +71,11 @@ where
         ask: &Ask,
         said: &mut Said,
     ) -> Result<(), AskFault>
-        ensures asks { OnOk result (AsksDirectory H.digest_of V.accepted S.verified (ExchangesFrames T.contents T.remaining) (marks_of self.old) (token_of self.old) (ask_seen ask.now) (changes_of self.old) (changes_of self.new) (scene self.old said.old stream.old) (scene self.new said.new stream.new)) }
+        ensures asks { OnOk result (AsksDirectory H.digest_of V.accepted S.verified (ExchangesFrames T.contents T.remaining) (asker_marks self.old) (asker_token self.old) (ask_seen ask.now) (asker_changes self.old) (asker_changes self.new) (scene self.old said.old stream.old) (scene self.new said.new stream.new)) }
         ensures stays { Remains self.old self.new }
-        ensures unnoted { result ≡ Err Stopped → changes_of self.new ≡ changes_of self.old }
-        ensures stops { result ≡ Err Stopped → StopsAsking H.digest_of V.accepted S.verified (ExchangesFrames T.contents T.remaining) (token_of self.old) (ask_seen ask.now) (scene self.old said.old stream.old) (scene self.new said.new stream.new) }
-        ensures halts { IfErr result (λ fault. fault ≢ Stopped → HaltsAfter (AsksSome H.digest_of V.accepted S.verified (ExchangesFrames T.contents T.remaining) (marks_of self.old) (token_of self.old) (ask_seen ask.now) (changes_of self.old) (changes_of self.new) (scene self.old said.old stream.old)) fault self.new said.new) }
+        ensures unnoted { result ≡ Err Stopped → asker_changes self.new ≡ asker_changes self.old }
+        ensures stops { result ≡ Err Stopped → StopsAsking H.digest_of V.accepted S.verified (ExchangesFrames T.contents T.remaining) (asker_token self.old) (ask_seen ask.now) (scene self.old said.old stream.old) (scene self.new said.new stream.new) }
+        ensures halts { IfErr result (λ fault. fault ≢ Stopped → HaltsAfter (AsksSome H.digest_of V.accepted S.verified (ExchangesFrames T.contents T.remaining) (asker_marks self.old) (asker_token self.old) (ask_seen ask.now) (asker_changes self.old) (asker_changes self.new) (scene self.old said.old stream.old)) fault self.new said.new) }
     {
         let head = self.head();
         let reply = self.request(stream, ask)?;

@@ -1,7 +1,7 @@
 // A monitor of a name joins the others, and begins to watch.
 ghost use Rattle.std.specs.Prelude.{◌≡◌, ◌≢◌, ◌↔◌, ℕ, IfErr, IfOk, IsTrue, None, OnOk, Err, Ok, option_map};
 ghost use Rattle.client.specs.declared.client_refusal.Refusal.TheVariants.{Memory};
-ghost use Rattle.asking.specs.Askers.{earlier_of, key_of, marks_of};
+ghost use Rattle.asking.specs.Askers.{asker_earlier, asker_key, asker_marks};
 ghost use Rattle.asking.specs.Exchanges.{ExchangesFrames};
 ghost use Rattle.asking.specs.Joining.{first_expected, AllHand, BeginsAt, BeginsSome, BeginsSomeAt, BeginsWatch, IsJoined, IsLaterPromise, IsLatest, IsUnwatched, RefusesOne, Retraces, RetracesOne, StartsFrom};
 ghost use Rattle.asking.specs.Scenes.{scene, HaltsAfter, StaysWhole};
@@ -40,11 +40,11 @@ where
         key: Option<&KeyData>,
         said: &mut Said,
     ) -> Result<(), AskFault>
-        ensures begins { OnOk result (BeginsWatch H.digest_of V.accepted S.verified (ExchangesFrames T.contents T.remaining) (marks_of self.old) (key_of self.old) (earlier_of self.old) name.now (option_map (λ key. key.now) key.entry)
+        ensures begins { OnOk result (BeginsWatch H.digest_of V.accepted S.verified (ExchangesFrames T.contents T.remaining) (asker_marks self.old) (asker_key self.old) (asker_earlier self.old) name.now (option_map (λ key. key.now) key.entry)
             (scene self.old said.old stream.old) (scene self.new said.new stream.new)) }
         ensures stays { StaysWhole self.old self.new }
         ensures err { IfErr result (λ fault. fault ≢ Stopped) }
-        ensures halts { IfErr result (λ fault. HaltsAfter (BeginsSome H.digest_of V.accepted S.verified (ExchangesFrames T.contents T.remaining) (marks_of self.old) (key_of self.old) (earlier_of self.old) name.now (option_map (λ key. key.now) key.entry)
+        ensures halts { IfErr result (λ fault. HaltsAfter (BeginsSome H.digest_of V.accepted S.verified (ExchangesFrames T.contents T.remaining) (asker_marks self.old) (asker_key self.old) (asker_earlier self.old) name.now (option_map (λ key. key.now) key.entry)
             (scene self.old said.old stream.old)) fault self.new said.new) }
     {
         let Some(first) = first_unwatched(&self.client, &self.marks, name) else {

@@ -2,7 +2,7 @@
 ghost use Rattle.std.specs.Prelude.{◌≡◌, ◌≢◌, ◌++◌, ◌∷◌, ◌↔◌, [], codes, IfErr, IfOk, IsTrue, OnErr, OnOk};
 ghost use Rattle.auditor.specs.declared.evidence.Evidence.TheVariants as evidence;
 ghost use Rattle.audits.specs.Files.{evidence_text};
-ghost use Rattle.asking.specs.Askers.{marks_of};
+ghost use Rattle.asking.specs.Askers.{asker_marks};
 ghost use Rattle.asking.specs.Exchanges.{ExchangesFrames};
 ghost use Rattle.asking.specs.Refused.{refuses_text};
 ghost use Rattle.asking.specs.Scenes.{scene, HaltsAfter, HaltsIn, StaysWhole};
@@ -46,10 +46,10 @@ where
         stream: &mut T,
         said: &mut Said,
     ) -> Result<(), AskFault>
-        ensures tests { OnOk result (TestsAll H.digest_of V.accepted (ExchangesFrames T.contents T.remaining) (marks_of self.old) (scene self.old said.old stream.old) (scene self.new said.new stream.new)) }
+        ensures tests { OnOk result (TestsAll H.digest_of V.accepted (ExchangesFrames T.contents T.remaining) (asker_marks self.old) (scene self.old said.old stream.old) (scene self.new said.new stream.new)) }
         ensures stays { StaysWhole self.old self.new }
         ensures err { IfErr result (λ fault. fault ≢ Stopped) }
-        ensures halts { IfErr result (λ fault. HaltsAfter (TestsSome H.digest_of V.accepted (ExchangesFrames T.contents T.remaining) (marks_of self.old) (scene self.old said.old stream.old)) fault self.new said.new) }
+        ensures halts { IfErr result (λ fault. HaltsAfter (TestsSome H.digest_of V.accepted (ExchangesFrames T.contents T.remaining) (asker_marks self.old) (scene self.old said.old stream.old)) fault self.new said.new) }
     {
         let mut place = 0;
         // Every loop of Rattle has an end: this one's is past any list.

@@ -3,7 +3,7 @@ ghost use Rattle.std.specs.Prelude.{◌≡◌, ◌≢◌, ◌⊎◌, ◌-◌, �
 ghost use Rattle.std.specs.List.{AllZip};
 ghost use Rattle.client.specs.declared.client_refusal.Refusal.TheVariants.{Memory};
 ghost use Rattle.rootchain.specs.declared.signed_promise.SignedPromise.{SignedPromise};
-ghost use Rattle.asking.specs.Askers.{marks_of};
+ghost use Rattle.asking.specs.Askers.{asker_marks};
 ghost use Rattle.asking.specs.Asking.{HandsTo, NotesLast};
 ghost use Rattle.asking.specs.Exchanges.{ExchangesFrames};
 ghost use Rattle.asking.specs.Refused.{client_refuses};
@@ -43,10 +43,10 @@ where
         stream: &mut T,
         said: &mut Said,
     ) -> Result<(), AskFault>
-        ensures goes { OnOk result (GoesOn H.digest_of V.accepted (ExchangesFrames T.contents T.remaining) (marks_of self.old) (scene self.old said.old stream.old) (scene self.new said.new stream.new)) }
+        ensures goes { OnOk result (GoesOn H.digest_of V.accepted (ExchangesFrames T.contents T.remaining) (asker_marks self.old) (scene self.old said.old stream.old) (scene self.new said.new stream.new)) }
         ensures stays { StaysWhole self.old self.new }
         ensures err { IfErr result (λ fault. fault ≢ Stopped) }
-        ensures halts { IfErr result (λ fault. HaltsAfter (GoesSome H.digest_of V.accepted (ExchangesFrames T.contents T.remaining) (marks_of self.old) (scene self.old said.old stream.old)) fault self.new said.new) }
+        ensures halts { IfErr result (λ fault. HaltsAfter (GoesSome H.digest_of V.accepted (ExchangesFrames T.contents T.remaining) (asker_marks self.old) (scene self.old said.old stream.old)) fault self.new said.new) }
     {
         for place in 0..self.monitors.len() {
             self.step_through(stream, place, said)?;

@@ -1,3 +1,5 @@
+// Which of the kept promises is tested for a name: one goes through them in order and keeps the one of the least
+// epoch so far, of equals the first. It is then compared with what a reply under the next root states.
 ghost use Rattle.std.specs.Prelude.{◌≡◌, ◌++◌, ◌∷◌, [], List, length};
 ghost use Rattle.proofs.specs.Replies.{SpellsReply};
 ghost use Rattle.rootchain.specs.Chains.{IsChain};

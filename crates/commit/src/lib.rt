@@ -16,4 +16,4 @@ mod commitment;
 mod laws;
 
 pub use commitment::{LEN_BESIDE, SHORT_LEN, commit, commit_text, short_commit_text};
-pub use laws::equal_texts_open_alike;
+pub use laws::{equal_texts_open_alike, lengths_have_their_values};

@@ -22,7 +22,6 @@ use Rattle.wire.specs.Responses as response
 use Rattle.wire.specs.Responses.{response_frame}
 use Rattle.wire.specs.Streams.{Message, Whole, BadFrame}
 use Rattle.hub.specs.Desks.{command, reply_frame, DeskState, IsRead, IsResponseOf}
-use Rattle.hub.specs.declared.desk.TheConstants.{NOT_OPERATOR}
 use Rattle.hub.specs.Exchanges.{refused_frame}
 use Rattle.hub.specs.Runs.{Line}
 
@@ -36,7 +35,7 @@ Reaches token BadFrame asked = ⊥
 abbrev pub IsTurnedAway : List ℕ → Message → ℕ → Type 0
 IsTurnedAway token (Whole frame) code =
     ((refusal : ReadRefusal) × IsRead frame (Err refusal) × (code ≡ read_refusal_number refusal))
-    ⊎ ((requested : request.RequestContent) × IsRead frame (Ok requested) × (command token requested ≡ None) × (code ≡ NOT_OPERATOR))
+    ⊎ ((requested : request.RequestContent) × IsRead frame (Ok requested) × (command token requested ≡ None) × (code ≡ 12))
 IsTurnedAway token BadFrame code = code ≡ 1
 
 -- the messages that reach the directory ask these commands and are told these replies; the others are refused

@@ -17,7 +17,6 @@ use Rattle.wire.specs.Frames.{Frame, frame_bytes}
 use Rattle.wire.specs.Refusals.{read_refusal_number}
 use Rattle.wire.specs.Requests.{Asks, IsRequestKind}
 use Rattle.wire.specs.Requests as request
-use Rattle.hub.specs.declared.desk.TheConstants.{NOT_OPERATOR}
 use Rattle.wire.specs.Responses as response
 use Rattle.wire.specs.Responses.{proof_frame, response_frame}
 use Rattle.hub.specs.Exchanges.{refused_frame}
@@ -59,7 +58,7 @@ module _ {R K : Type 0} (digest_of : List ℕ → List ℕ) (value_of signature_
   -- the directory takes the turn of a command, and the frame of its reply is told; whoever closes an epoch
   -- without the token is not the operator
   abbrev pub Commanded : DeskState R K → Option Operation → List ℕ → DeskState R K → Type 0
-  Commanded before None text after = (text ≡ refused_frame NOT_OPERATOR) × (after ≡ before)
+  Commanded before None text after = (text ≡ refused_frame 12) × (after ≡ before)
   Commanded before (Some asked) text after = (told : Reply)
       × Turn (provider digest_of value_of signature_of before.directory) kept failed (book stream before.directory) before.keeper asked told (book stream after.directory) after.keeper
       × (text ≡ frame_bytes (reply_frame told)) × HasKeysOf before.directory after.directory × (after.token ≡ before.token)

@@ -29,7 +29,7 @@ use vrfiface::Vuf;
 use wire::{Answer, Request, begin_proof, end_proof};
 
 /// The number of the refusal of a closing without the operator's token.
-pub const NOT_OPERATOR: u8 = 12;
+const NOT_OPERATOR: u8 = 12;
 
 /// A directory with its keeper and the token of its operator, who alone may close an epoch.
 #[derive(Drop)]

@@ -24,7 +24,7 @@ mod outputs;
 mod service;
 mod sessions;
 
-pub use desk::{Desk, NOT_OPERATOR};
+pub use desk::Desk;
 pub use event::Event;
 pub use hub_refusal::HubRefusal;
 pub use laws::{events_join, limit_has_its_value, sessions_hear_their_own};

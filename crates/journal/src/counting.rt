@@ -1,3 +1,4 @@
+// Whole records are read one after another from the front, and counted; what does not read as a record ends it.
 ghost use Rattle.std.specs.Prelude.{◌≡◌, ◌≤◌, length};
 ghost use Rattle.journal.specs.Counting.{Counts, HasLater};
 

@@ -11,7 +11,6 @@ use Rattle.book.specs.Steps.{Answer, Outcome, Answers, Refuses, step}
 use Rattle.book.specs.Books.{Book}
 use Rattle.book.specs.Refusals.{book_refusal_number}
 use Rattle.hub.specs.Desks.{command}
-use Rattle.hub.specs.declared.desk.TheConstants.{NOT_OPERATOR}
 use Rattle.hub.specs.Events.{BySession, Happening}
 use Rattle.hub.specs.Runs.{after_events, commands, each, rest_of, unanswered}
 use Rattle.play.specs.Scripts.{token}
@@ -20,7 +19,7 @@ use Rattle.play.specs.Scripts.{token}
 
 -- without the token nobody closes an epoch
 abbrev pub or_not_operator : Option Operation → Result Operation ℕ
-or_not_operator None = Err NOT_OPERATOR
+or_not_operator None = Err 12
 or_not_operator (Some asked) = Ok asked
 
 -- what a request asks, or the number of its refusal

@@ -51,15 +51,15 @@ row_digests [] = 0
 row_digests (outcome ∷ outcomes) = digests_of outcome + row_digests outcomes
 
 -- the texts that are hashed for what is made at a place, over the hashes of the row below, and those of a row
-abbrev pub texts_of : List ℕ → ℕ → List ℕ → Outcome (Unit {0}) → List (List ℕ) → List (List ℕ)
-texts_of nonce level prefix (Kept node) hashes = []
-texts_of nonce level prefix Vacant hashes = empty_bytes nonce prefix level ∷ []
-texts_of nonce level prefix (Single item) hashes = leaf_bytes nonce item.value.0 level item.value.1 ∷ []
-texts_of nonce level prefix (Parted _) hashes = interior_bytes (slice_index_or hashes 0 []) (slice_index_or hashes 1 []) ∷ []
+abbrev pub place_texts : List ℕ → ℕ → List ℕ → Outcome (Unit {0}) → List (List ℕ) → List (List ℕ)
+place_texts nonce level prefix (Kept node) hashes = []
+place_texts nonce level prefix Vacant hashes = empty_bytes nonce prefix level ∷ []
+place_texts nonce level prefix (Single item) hashes = leaf_bytes nonce item.value.0 level item.value.1 ∷ []
+place_texts nonce level prefix (Parted _) hashes = interior_bytes (slice_index_or hashes 0 []) (slice_index_or hashes 1 []) ∷ []
 
 abbrev pub row_texts : List ℕ → ℕ → List Place → Outcomes → List (List ℕ) → List (List ℕ)
 row_texts nonce level (place ∷ places) (outcome ∷ outcomes) hashes =
-    texts_of nonce level place.prefix outcome hashes ++ row_texts nonce level places outcomes (drop (sides_of outcome) hashes)
+    place_texts nonce level place.prefix outcome hashes ++ row_texts nonce level places outcomes (drop (sides_of outcome) hashes)
 row_texts nonce level places outcomes hashes = []
 
 -- the same node, as far as can be told from what it refers to

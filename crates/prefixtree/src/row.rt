@@ -8,7 +8,7 @@ ghost use Rattle.prefixtree.specs.Built.{kept};
 ghost use Rattle.prefixtree.specs.Growth.{IsGrowth, MayGrow};
 ghost use Rattle.prefixtree.specs.declared.row.Place.{Place};
 ghost use Rattle.prefixtree.specs.declared.node.Node.{Node};
-ghost use Rattle.prefixtree.specs.Rows.{changes_of, digests_of, row_count, row_digests, row_sides, row_texts, sides_of, texts_of, AreBuilt, AreMade, ArePlaces, AreSplit, IsRowPlace, Outcomes};
+ghost use Rattle.prefixtree.specs.Rows.{changes_of, digests_of, row_count, row_digests, row_sides, row_texts, sides_of, place_texts, AreBuilt, AreMade, ArePlaces, AreSplit, IsRowPlace, Outcomes};
 
 use crate::Item;
 use crate::build::halves;
@@ -131,7 +131,7 @@ fn push_text(
 ) -> Result<(), AllocError>
     requires level { level ≤ 256 }
     requires fits { below + sides_of outcome.now ≤ length lower.now }
-    ensures { OnOk result (texts.new.items ≡ texts.old.items ++ texts_of nonce.now level prefix.now outcome.now (drop below (map kept lower.now))) }
+    ensures { OnOk result (texts.new.items ≡ texts.old.items ++ place_texts nonce.now level prefix.now outcome.now (drop below (map kept lower.now))) }
 {
     match outcome {
         Outcome::Kept(_) => Ok(()),

@@ -15,7 +15,7 @@ use Rattle.rootchain.specs.declared.piece_refusal.PieceRefusal.TheVariants.{Malf
 use Rattle.rootchain.specs.Chains.{IsChain, KeyedRoots}
 use Rattle.rootchain.specs.RootLists.{read_root_count, read_roots, HasRoots}
 use Rattle.rootchain.specs.SignedRoots.{read_signed_root, IsSignedRoot}
-use Rattle.rootchain.specs.TakingBytes.{outcome_of, TakesBytes, TakesRead}
+use Rattle.rootchain.specs.TakingBytes.{refused_if, TakesBytes, TakesRead}
 use Rattle.rootchain.specs.TakingLists.{with_roots, IsRefusedRoot, PassesOrAdds, Takes, ListRefusalHolds, ListRefusalIsSpelled}
 use Rattle.rootchain.specs.TakingPieces.{of_piece, piece_answer, PieceRefusalHolds, PieceRefusalIsSpelled}
 use Rattle.rootchain.proofs.RootLists.{are_spelled, no_count, none_more, none_spelled, no_roots, one_more, roots_many}
@@ -88,7 +88,7 @@ module _ (hash : List ℕ → List ℕ) (verified : List ℕ → List ℕ → Li
       along-broken why stays is none = ((λ has. none (later has)), rw is (takes-grows hash verified along.front start now along.takes))
 
       -- it is refused: what comes of the list is known once those after it are read
-      pub along-stopped : (is : Bool) → IsTrue is ↔ HasRoots next after → (why : ListRefusal) (stays : KeyedRoots) → IsRefusedRoot hash verified now root why → stays ≡ now → TakesRead hash verified start count bytes (outcome_of is) why stays
+      pub along-stopped : (is : Bool) → IsTrue is ↔ HasRoots next after → (why : ListRefusal) (stays : KeyedRoots) → IsRefusedRoot hash verified now root why → stays ≡ now → TakesRead hash verified start count bytes (refused_if is) why stays
       along-stopped true there why stays refusal is = along-refused why stays refusal is (there.0 refl)
       along-stopped false there why stays refusal is = along-broken why stays is (λ has. never (there.1 has))
 
@@ -124,7 +124,7 @@ module _ (hash : List ℕ → List ℕ) (verified : List ℕ → List ℕ → Li
   module _ (chain : KeyedRoots) (bytes : List ℕ) (count : ℕ) (rest : List ℕ) (small : IsBytes bytes) (counted : read_root_count bytes ≡ Ok (count, rest)) where
     -- there is no room for so many roots
     pub bytes-crowded : 0 < count → (is : Bool) → IsTrue is ↔ HasRoots count rest → (after : KeyedRoots) → after ≡ chain
-        → TakesBytes hash verified {A = Unit} chain bytes (piece_answer (outcome_of is) list.Memory) after
+        → TakesBytes hash verified {A = Unit} chain bytes (piece_answer (refused_if is) list.Memory) after
     bytes-crowded some true there after stays =
         let has = there.0 refl in
         let many = roots_many count rest has.0 [] has.1 in

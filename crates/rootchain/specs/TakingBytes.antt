@@ -21,9 +21,9 @@ abbrev pub announced : List ℕ → ℕ
 announced bytes = announced_by (read_root_count bytes)
 
 -- what comes of a list whose roots are not all taken, by whether its bytes are well formed
-abbrev pub outcome_of : Bool → Outcome
-outcome_of true = outcome.Refused
-outcome_of false = outcome.Malformed
+abbrev pub refused_if : Bool → Outcome
+refused_if true = outcome.Refused
+refused_if false = outcome.Malformed
 
 module _ (hash : List ℕ → List ℕ) (verified : List ℕ → List ℕ → List ℕ → Type 0) where
   -- The answer, and the chain after it: it takes each root of the list that the bytes spell in order, or stays

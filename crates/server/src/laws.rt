@@ -1,4 +1,4 @@
-ghost use Rattle.std.specs.Prelude.{◌⊎◌, ℕ, List};
+ghost use Rattle.std.specs.Prelude.{◌≡◌, ◌⊎◌, ℕ, List};
 ghost use Rattle.rand_chacha.specs.ChaCha.{ChaCha};
 ghost use Rattle.book.specs.Salts.{GivesSalts};
 ghost use Rattle.hub.specs.DeskRuns.{IsSoundDesk, ShowHonestRun};
@@ -11,6 +11,7 @@ ghost use Rattle.connections.specs.Laws.{AlwaysWaitWithin};
 ghost use Rattle.connections.specs.Soundness.{IsSoundHistory};
 ghost use Rattle.server.specs.Directories.{salts};
 ghost use Rattle.server.specs.Serving.{all_lines, AllServed};
+ghost use Rattle.server.specs.declared.serving.TheConstants.{PIECE_SIZE};
 ghost use Rattle.server.specs.Sessions.{AlwaysAnswered, AlwaysInOrder, AreLines, HubLeads};
 ghost use Rattle.wire.specs.declared.answer.TheConstants.{MAX_ANSWER_LEN};
 
@@ -19,6 +20,11 @@ use nodehash::NodeHash;
 use rand_core::Rng;
 use sigiface::Signer;
 use vrfiface::Vuf;
+
+/// At most 4,096 bytes are read at once.
+pub fn limit_has_its_value()
+    ensures { PIECE_SIZE ≡ 4096 }
+{}
 
 /// Sessions that are served one after another, each as `serve` ensures, are sessions of one hub: their
 /// messages show one run of its directory. The users behind all of them see of it what those of an honest

@@ -6,7 +6,7 @@ ghost use Rattle.std.specs.List.{AllByRecursion};
 ghost use Rattle.rootchain.specs.declared.signed_root.SignedRoot.{SignedRoot};
 ghost use Rattle.rootchain.specs.Chains.{IsChain};
 ghost use Rattle.rootchain.specs.SignedRoots.{IsSignedRoot};
-ghost use Rattle.rootchain.specs.TakingBytes.{announced, outcome_of, TakesBytes, TakesRead};
+ghost use Rattle.rootchain.specs.TakingBytes.{announced, refused_if, TakesBytes, TakesRead};
 ghost use Rattle.rootchain.specs.TakingLists.{with_roots};
 ghost use Rattle.rootchain.specs.TakingPieces.{piece_answer, PieceRefusalHolds, PieceRefusalIsSpelled};
 
@@ -109,7 +109,7 @@ impl<H: NodeHash, S: Verifier> Chain<H, S> {
 
 /// What comes of a list whose roots are not all taken, by whether its bytes are well formed.
 fn refused_if(is_list: bool) -> Outcome
-    ensures { result ≡ outcome_of is_list }
+    ensures { result ≡ refused_if is_list }
 {
     if is_list {
         Outcome::Refused
