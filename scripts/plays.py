@@ -5,14 +5,15 @@
     scripts/plays.py --draw SEED
 
 The first runs the program over every stored script, and over N scripts that are drawn from the seeds SEED, SEED + 1
-and so on (300 from seed 1 unless given), each whole and cut at N places (20 unless given). The second writes a
-drawn script. The last line of the first is `N passed, M failed`, and the status is 0 where none failed.
+and so on (300 from seed 1 unless given), each whole and cut at N places (20 unless given); and over the examples, of
+which each line is given once what the lines before it print has come. The second writes a drawn script. The last line of the first is `N passed, M failed`, and the status is 0 where none failed.
 """
 
 import argparse
 import multiprocessing
 import os
 import pathlib
+import select
 import subprocess
 import sys
 
@@ -82,6 +83,35 @@ def difference(program, name, script):
     return f"{name}: wanted status {wanted[2]}, got {got[2]}"
 
 
+def wait_for(pipe, wanted):
+    """The bytes that a pipe gives within ten seconds, up to as many as are wanted."""
+    got = b""
+    while len(got) < len(wanted) and select.select([pipe], [], [], 10)[0]:
+        more = os.read(pipe.fileno(), len(wanted) - len(got))
+        if not more:
+            break
+        got += more
+    return got
+
+
+def difference_line_by_line(program, name, script):
+    """The same, where each line is given once what the lines before it print has come."""
+    lines = script.splitlines(True)
+    before = b""
+    with subprocess.Popen([program, "play"], stdin=subprocess.PIPE, stdout=subprocess.PIPE) as run:
+        for number, line in enumerate(lines, 1):
+            run.stdin.write(line)
+            run.stdin.flush()
+            text = printed(b"".join(lines[:number]))[0]
+            got = wait_for(run.stdout, text[len(before):])
+            if got != text[len(before):]:
+                run.kill()
+                return f"{name}, line by line: line {number}: got {str(got)[:100]}"
+            before = text
+        run.stdin.close()
+        return None if run.stdout.read() == b"" else f"{name}, line by line: more is written"
+
+
 def differences(job):
     """What differs in each run of a job: a stored script, or a drawn one with its cuts."""
     program, name, script, cuts = job
@@ -106,6 +136,11 @@ def compare(program, drawn, cuts, seed):
                 passed, failed = (passed + 1, failed) if difference is None else (passed, failed + 1)
                 if difference is not None and failed <= 20:
                     print(difference, flush=True)
+    for name, of in play_scripts.EXAMPLES.items():
+        difference = difference_line_by_line(os.path.abspath(program), name, text_of(of).encode())
+        passed, failed = (passed + 1, failed) if difference is None else (passed, failed + 1)
+        if difference is not None:
+            print(difference, flush=True)
     print(f"{passed} passed, {failed} failed")
     return 1 if failed or not passed else 0
 
