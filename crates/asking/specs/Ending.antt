@@ -22,6 +22,7 @@ use Rattle.asking.specs.Visiting.{TestsSome}
 use Rattle.asking.specs.declared.run.RunEnd.{RunEnd}
 use Rattle.asking.specs.declared.run.RunEnd.TheVariants.{Whole, Stopped}
 use Rattle.asking.specs.declared.said.Said.{Said}
+use Rattle.asking.specs.declared.said.TheConstants.{ALARM, REFUSED}
 
 -- the status of the program
 abbrev pub end_status : RunEnd → ℕ
@@ -30,7 +31,7 @@ end_status (Stopped status) = status
 
 -- the status of a run that was stopped: that of an alarm, if one was told, or else that of a refusal
 abbrev pub stopped_status : ℕ → ℕ
-stopped_status told = if nat_lt told 3 then 1 else 3
+stopped_status told = if nat_lt told ALARM then REFUSED else ALARM
 
 -- of what was told a beginning is written, and a part behind it is still said
 abbrev pub HoldsBack : Option (List ℕ) → Said → Report → Option (List ℕ) → Type 0
@@ -104,12 +105,12 @@ module _ (hash : List ℕ → List ℕ) (accepted verified : List ℕ → List �
 
   -- a run that ends with a fault: no alarm was told
   abbrev pub FailsAs : List ℕ → List ℕ → AskOptions → Type 0 → T → Option (List ℕ) → Option (List ℕ) → Option (List ℕ) → Type 0
-  FailsAs key token options HasNoState stream input old new = EndsEarly key token options HasNoState stream input old (λ told now. (told.status < 3) × WritesSome now new told.lines)
+  FailsAs key token options HasNoState stream input old new = EndsEarly key token options HasNoState stream input old (λ told now. (told.status < ALARM) × WritesSome now new told.lines)
 
 -- A run over a socket, of which definitions know neither what it took nor what it will give: nothing is written, as
 -- where no connection came about; or the run is one for some frames that came.
 abbrev pub AsksOverSocket : AskOptions → Option (List ℕ) → ℕ → Option (List ℕ) → Option (List ℕ) → Type 0
-AsksOverSocket options input status old new = ((status ≡ 1) × Keeps old new)
+AsksOverSocket options input status old new = ((status ≡ REFUSED) × Keeps old new)
     ⊎ ((key token : List ℕ) × (ask_keys_of options ≡ Some (key, token)) × (socket socket' : TcpStream) × (ended : RunEnd) × (status ≡ end_status ended)
     × RunsAs sha256 KeyedAccepts KeyedVerifies (ExchangesFrames {T = TcpStream} (λ _. None) (λ _. None)) key token options (options.state ≡ None) socket socket' input ended old new)
 

@@ -5,7 +5,7 @@ use Rattle.audits.specs.Files.{evidence_text}
 use Rattle.client.specs.Refusals.{client_refusal_number}
 use Rattle.client.specs.declared.client_refusal.Refusal.{Refusal}
 use Rattle.client.specs.declared.client_refusal.Refusal.TheVariants.{Root, Proof, UnknownRoot, RootDiffers, Memory, NoPromise}
-use Rattle.asking.specs.declared.said.TheConstants.{OTHER_REPLY}
+use Rattle.asking.specs.declared.said.TheConstants.{OTHER_REPLY, REFUSED}
 use Rattle.asking.specs.Reports.{Report, refused}
 
 -- that the client refuses a root, a promise, a proof or a reply, and the number of the refusal
@@ -27,4 +27,4 @@ evidence_before NoPromise = []
 
 -- a refusal of the client, behind its evidence
 abbrev pub client_refuses : List ℕ → Refusal → Report
-client_refuses what why = record { lines = evidence_before why ++ (refuses_text what (client_refusal_number why) ++ 10 ∷ []); status = 1 }
+client_refuses what why = record { lines = evidence_before why ++ (refuses_text what (client_refusal_number why) ++ 10 ∷ []); status = REFUSED }

@@ -1,6 +1,7 @@
 -- What is told of an answer: its lines, and the status of a run in which it was the worst.
 use Rattle.std.specs.Prelude.{◌≡◌, ℕ, nat_lt, if◌then◌else◌, List, [], ◌∷◌, ◌++◌}
 use Rattle.asking.specs.declared.said.Said.{Said}
+use Rattle.asking.specs.declared.said.TheConstants.{REFUSED}
 
 pub record Report : Type 0 where
   -- each with its LF
@@ -12,7 +13,7 @@ abbrev pub fine : List ℕ → Report
 fine line = record { lines = line ++ 10 ∷ []; status = 0 }
 
 abbrev pub refused : List ℕ → Report
-refused line = record { lines = line ++ 10 ∷ []; status = 1 }
+refused line = record { lines = line ++ 10 ∷ []; status = REFUSED }
 
 -- nothing
 abbrev pub silent : Report

@@ -13,15 +13,16 @@ use Rattle.wire.specs.Frames.{Frame}
 use Rattle.wire.specs.Requests.{RequestContent, Query}
 use Rattle.asking.specs.declared.asker.Mark.{Mark}
 use Rattle.asking.specs.declared.said.Said.{Said}
+use Rattle.asking.specs.declared.said.TheConstants.{ALARM}
 use Rattle.asking.specs.Refused.{client_refuses}
 use Rattle.asking.specs.Scenes.{Scene, FrameAnswers, IsUnanswered}
 use Rattle.asking.specs.Reports.{Report, Tells, told_after}
 use Rattle.asking.specs.Visiting.{TestsAll, TestsSome}
 
--- an alarm is status 3
+-- what a step tells
 abbrev pub step_told : List ℕ → ℕ → Step → Report
 step_told name epoch Kept = record { lines = step_text name epoch Kept ++ 10 ∷ []; status = 0 }
-step_told name epoch (Alarm at found) = record { lines = step_text name epoch (Alarm at found) ++ 10 ∷ []; status = 3 }
+step_told name epoch (Alarm at found) = record { lines = step_text name epoch (Alarm at found) ++ 10 ∷ []; status = ALARM }
 
 module _ (hash : List ℕ → List ℕ) (accepted : List ℕ → List ℕ → List ℕ → Type 0) where
   -- a monitor watched an epoch by a reply, or its client refused the proof, and not for want of memory

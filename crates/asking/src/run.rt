@@ -13,6 +13,7 @@ ghost use Rattle.asking.specs.RunFaults.{AsksInput, CannotBeAsked, IsFaultOfSavi
 ghost use Rattle.asking.specs.Runs.{AsksLine, AsksLines, BeginsAsking, DoesLine, emptied, Grows, IsSoundFor, KeepsAll, new_background, background_of, lines_asked, Prepares, RunsWhole, with_word, words_line, Writes};
 ghost use Rattle.asking.specs.declared.ask_fault.RunFault.TheVariants.{Program};
 ghost use Rattle.asking.specs.declared.run.RunEnd.TheVariants.{Whole, Stopped};
+ghost use Rattle.asking.specs.declared.said.TheConstants.{ALARM};
 ghost use Rattle.asking.specs.Scenes.{scene, Scene, StartsAtHead};
 
 use crate::ask_fault::RunFault;
@@ -116,7 +117,7 @@ where
     ) -> Result<RunEnd, ProgramFault>
         ensures ok { OnOk outcome ((result ≡ Ok (Whole (self.old).said.status)) × (writer.new ≡ writer.old)) }
         ensures stopped { OnErr outcome (IfOk result (λ ended. ended ≡ Stopped (stopped_status (self.old).said.status))) }
-        ensures failed { OnErr outcome (IfErr result (λ given. (self.old).said.status < 3)) }
+        ensures failed { OnErr outcome (IfErr result (λ given. (self.old).said.status < ALARM)) }
         ensures some { OnErr outcome (WritesSome (W.contents writer.old) (W.contents writer.new) (self.old).said.text.items) }
         ensures gives { IfErr result (λ given. IsFaultOfSaving given ⊎ (outcome ≡ Err (Program given))) }
         ensures grows { Grows (W.contents writer.old) (W.contents writer.new) }

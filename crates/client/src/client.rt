@@ -1,4 +1,4 @@
-ghost use Rattle.std.specs.Prelude.{◌≡◌, IsOkUnless, OnErr, OnOk};
+ghost use Rattle.std.specs.Prelude.{◌≡◌, ◌+◌, ◌≤◌, IsOkUnless, OnErr, OnOk};
 ghost use Rattle.client.specs.Clients.{with_promise, IsPromised, IsSoundClient};
 ghost use Rattle.client.specs.Promising.{KeepsPromise, ReadsPromise};
 ghost use Rattle.client.specs.Starting.{Starts};
@@ -94,20 +94,23 @@ impl<H: NodeHash, V: VufCheck, S: Verifier> Client<H, V, S> {
         &self.promises
     }
 
-    /// Keeps the signed promise that these bytes spell, to be tested once the chain has the next root.
+    /// Keeps the signed promise that these bytes spell, to be tested once the chain has the next root. Takes at
+    /// most one digest.
     ///
     /// # Errors
     ///
     /// `Root` with `Malformed` or `BadSignature`, `UnknownRoot` where no root of the chain has the epoch and
     /// the hash of the promise, `Memory`: the first that applies. The client then stays as it was.
     pub fn keep_promise(&mut self, hash: &mut H, verifier: &S, bytes: &[u8]) -> Result<(), Refusal>
-        ensures { KeepsPromise H.digest_of S.verified self.old bytes.now result self.new }
+        ensures keeps { KeepsPromise H.digest_of S.verified self.old bytes.now result self.new }
+        ensures counted { H.digests hash.new ≤ H.digests hash.old + 1 }
     {
         let signed = self.read_promise(hash, verifier, bytes)?;
         self.keep_read(signed)
     }
 
-    /// Reads the signed promise that these bytes spell, as `keep_promise` does, and keeps nothing.
+    /// Reads the signed promise that these bytes spell, as `keep_promise` does, and keeps nothing. Takes at most
+    /// one digest.
     ///
     /// # Errors
     ///
@@ -118,7 +121,8 @@ impl<H: NodeHash, V: VufCheck, S: Verifier> Client<H, V, S> {
         verifier: &S,
         bytes: &[u8],
     ) -> Result<SignedPromise, Refusal>
-        ensures { ReadsPromise H.digest_of S.verified self.now bytes.now result }
+        ensures reads { ReadsPromise H.digest_of S.verified self.now bytes.now result }
+        ensures counted { H.digests hash.new ≤ H.digests hash.old + 1 }
     {
         let signed = SignedPromise::read(bytes)?;
         if !signed.verifies(verifier, self.chain.key()) {

@@ -1,9 +1,10 @@
 // Which of the kept promises is tested for a name: one goes through them in order and keeps the one of the least
 // epoch so far, of equals the first. It is then compared with what a reply under the next root states.
-ghost use Rattle.std.specs.Prelude.{◌≡◌, ◌++◌, ◌∷◌, [], List, length};
+ghost use Rattle.std.specs.Prelude.{◌≡◌, ◌+◌, ◌≤◌, ◌++◌, ◌∷◌, [], List, length};
 ghost use Rattle.proofs.specs.Replies.{SpellsReply};
 ghost use Rattle.rootchain.specs.Chains.{IsChain};
 ghost use Rattle.rootchain.specs.declared.signed_promise.SignedPromise.{SignedPromise};
+ghost use Rattle.prefixtree.specs.declared.path.TheConstants.{MAX_SIBLINGS};
 ghost use Rattle.client.specs.Dues.{IsTestedAs, Tests};
 ghost use Rattle.client.specs.Testing.{IsTestedAmong};
 
@@ -63,6 +64,7 @@ pub(crate) fn test<H: NodeHash, V: VufCheck, S: Verifier>(
 ) -> Result<Due, Refusal>
     ensures tests { Tests H.digest_of V.accepted chain.now name.now bytes.now signed.now result }
     ensures chain { IsChain H.digest_of S.verified chain.now }
+    ensures counted { H.digests hash.new ≤ H.digests hash.old + (MAX_SIBLINGS + 3) }
 {
     let Some(root) = chain.after(signed.promise.epoch) else {
         return Err(Refusal::UnknownRoot);

@@ -1,4 +1,4 @@
-ghost use Rattle.std.specs.Prelude.{◌≡◌, ◌↔◌, IsTrue, Some, option_copied};
+ghost use Rattle.std.specs.Prelude.{◌≡◌, ◌↔◌, ◌+◌, ◌≤◌, IsTrue, Some, option_copied};
 ghost use Rattle.rootchain.specs.declared.signed_root.SignedRoot.{SignedRoot};
 ghost use Rattle.client.specs.Clients.{HasRootOf};
 ghost use Rattle.client.specs.Looking.{IsLookRoot};
@@ -26,7 +26,8 @@ pub(crate) fn has_root_of<H: NodeHash, S: Verifier>(
     hash: &mut H,
     promise: &Promise,
 ) -> bool
-    ensures { IsTrue result ↔ HasRootOf H.digest_of chain.now promise.now }
+    ensures has { IsTrue result ↔ HasRootOf H.digest_of chain.now promise.now }
+    ensures counted { H.digests hash.new ≤ H.digests hash.old + 1 }
 {
     match chain.at(promise.epoch) {
         Some(root) => promise.body_hash == hash.digest(root.body.write().bytes()),

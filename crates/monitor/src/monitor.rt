@@ -1,9 +1,12 @@
 //! A monitor keeps the changes that its owner expects, ascending by the epochs of their promises, and the
 //! epoch that it watched last. A step looks the name up at the next epoch of the chain, and compares what
 //! is stated there with the last change that was promised before.
-ghost use Rattle.std.specs.Prelude.{◌≡◌, ◌↔◌, ◌<◌, ◌≤◌, All, AllPairs, IfErr, IsTrue, OnOk, length, option_map};
+ghost use Rattle.std.specs.Prelude.{◌≡◌, ◌↔◌, ◌+◌, ◌<◌, ◌≤◌, All, AllPairs, IfErr, IsTrue, OnOk, length, option_map};
 ghost use Rattle.std.specs.List.Sorted.{IsPartitionPoint};
+ghost use Rattle.rootchain.specs.RootFeeds.{told_from};
+ghost use Rattle.rootchain.specs.TakingBytes.{announced};
 ghost use Rattle.rootchain.specs.declared.signed_promise.SignedPromise.{SignedPromise};
+ghost use Rattle.prefixtree.specs.declared.path.TheConstants.{MAX_SIBLINGS};
 ghost use Rattle.proofs.specs.Views.{key_stated};
 ghost use Rattle.proofs.specs.Watches.{expected};
 ghost use Rattle.client.specs.Promising.{IsGiven};
@@ -127,6 +130,7 @@ impl<H: NodeHash, V: VufCheck, S: Verifier> Monitor<H, V, S> {
         ensures updates { Updates H.digest_of S.verified self.old.client bytes.now result self.new.client }
         ensures others { self.new ≡ record self.old { client = self.new.client } }
         ensures evidence { IfErr result (RefusalHolds H.digest_of S.verified self.old.client.chain.key) }
+        ensures counted { H.digests hash.new ≤ H.digests hash.old + announced bytes.now }
     {
         self.client.update(hash, verifier, bytes)
     }
@@ -147,12 +151,13 @@ impl<H: NodeHash, V: VufCheck, S: Verifier> Monitor<H, V, S> {
         ensures updates { UpdatesFrom H.digest_of S.verified self.old.client feed.old piece.now result self.new.client feed.new }
         ensures others { self.new ≡ record self.old { client = self.new.client } }
         ensures evidence { IfErr result (RefusalHolds H.digest_of S.verified self.old.client.chain.key) }
+        ensures counted { H.digests hash.new ≤ H.digests hash.old + length (told_from feed.old piece.now).0 }
     {
         self.client.update_from(hash, verifier, feed, piece)
     }
 
     /// Expects this key above the epoch of the signed promise that these bytes spell. The client keeps the
-    /// promise.
+    /// promise. Takes at most one digest.
     ///
     /// # Errors
     ///
@@ -168,6 +173,7 @@ impl<H: NodeHash, V: VufCheck, S: Verifier> Monitor<H, V, S> {
         ensures expects { Expects H.digest_of S.verified self.old key.now promise_bytes.now result self.new }
         ensures above { OnOk result ((signed : SignedPromise) × IsGiven H.digest_of S.verified self.old.client promise_bytes.now signed
             × ExpectsAbove self.old.watch signed.promise.epoch key.now self.new.watch) }
+        ensures counted { H.digests hash.new ≤ H.digests hash.old + 1 }
     {
         let signed = self.read_change(hash, verifier, key, promise_bytes)?;
         let change = Change {
@@ -185,14 +191,15 @@ impl<H: NodeHash, V: VufCheck, S: Verifier> Monitor<H, V, S> {
     }
 
     /// Watches the next epoch by this reply to a look-up of the name at that epoch. The client keeps the
-    /// look, and the epoch counts as watched, even if the step is an alarm.
+    /// look, and the epoch counts as watched, even if the step is an alarm. Takes at most 259 digests.
     ///
     /// # Errors
     ///
     /// `Client` with `UnknownRoot` if each epoch of the chain was watched, else with the refusal of the reply,
     /// or with `Memory`. The monitor then stays as it was.
     pub fn step<'a>(&mut self, hash: &mut H, vuf: &V, bytes: &'a [u8]) -> Result<Step<'a>, Refusal>
-        ensures { Steps H.digest_of V.accepted self.old bytes.entry.now result self.new }
+        ensures steps { Steps H.digest_of V.accepted self.old bytes.entry.now result self.new }
+        ensures counted { H.digests hash.new ≤ H.digests hash.old + (MAX_SIBLINGS + 3) }
     {
         match self
             .client
@@ -214,7 +221,8 @@ impl<H: NodeHash, V: VufCheck, S: Verifier> Monitor<H, V, S> {
         key: &KeyData,
         bytes: &[u8],
     ) -> Result<SignedPromise, Refusal>
-        ensures { ReadsChange H.digest_of S.verified self.now key.now bytes.now result }
+        ensures reads { ReadsChange H.digest_of S.verified self.now key.now bytes.now result }
+        ensures counted { H.digests hash.new ≤ H.digests hash.old + 1 }
     {
         match self.client.read_promise(hash, verifier, bytes) {
             Ok(signed) => {

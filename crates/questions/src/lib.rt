@@ -25,7 +25,9 @@
 mod case;
 mod lines;
 mod named;
+mod saying;
 mod word;
 
 pub use case::Case;
 pub use lines::{Subjects, answer_all};
+pub use saying::{say_evidence, say_place, say_statement};

@@ -1,13 +1,13 @@
 //! Of `auditor`: an auditor, which stays for the next lines, and judging.
 
 use crate::stand_ins::{AnySign, Functions, keyed};
-use crate::telling::{refuse_root, say_evidence};
+use crate::telling::refuse_root;
 use auditor::{Auditor, Evidence, Observed, judge};
 use encoding::{Hash32, PROOF_TEXT_ROOM, ProofText};
 use nodehash::{NodeHash, Sha256Hash};
 use proofs::BrokenPromise;
-use questions::Case;
-use rootchain::{Place, Refusal, RootEvidence, SignedPromise, SignedRoot};
+use questions::{Case, say_evidence, say_place};
+use rootchain::{Refusal, RootEvidence, SignedPromise, SignedRoot};
 use sigiface::KeyedSign;
 use vrfiface::VufCheck;
 
@@ -97,16 +97,6 @@ where
     match auditor.compare(&mut by.hash, &by.verifier, &key, root) {
         Ok(place) => say_place(case, &place),
         Err(why) => refuse_root(case, why),
-    }
-}
-
-fn say_place(case: &mut Case<'_>, place: &Place) {
-    match place {
-        Place::Known => case.say("known"),
-        Place::Evidence(evidence) => say_evidence(case, evidence),
-        Place::Next => case.say("next"),
-        Place::Ahead => case.say("ahead"),
-        Place::BeforeStart => case.say("before start"),
     }
 }
 

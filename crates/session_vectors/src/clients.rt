@@ -2,12 +2,11 @@
 
 use crate::feeds;
 use crate::stand_ins::{AnySign, Functions, keyed, summed};
-use crate::telling::{say_evidence, say_option};
+use crate::telling::say_option;
 use client::{Client, Due, Outcome, Refusal, reconcile};
 use encoding::Hash32;
 use nodehash::{NodeHash, Sha256Hash, SumHash};
-use proofs::Statement;
-use questions::Case;
+use questions::{Case, say_evidence, say_statement};
 use rootchain::RootFeed;
 use sigiface::KeyedSign;
 use vrfiface::{KeyedVuf, PlainVuf, VufCheck};
@@ -150,16 +149,6 @@ where
             tell_done(case, kept);
         }
         Err(why) => refuse(case, why),
-    }
-}
-
-pub(crate) fn say_statement(case: &mut Case<'_>, statement: Statement<'_>) {
-    match statement {
-        Statement::Present(key) => {
-            case.say("present");
-            case.say_bytes(key);
-        }
-        Statement::Absent => case.say("absent"),
     }
 }
 

@@ -6,8 +6,8 @@ use auditor::Evidence;
 use audits::{AuditOrder, ReadFault, Verdict, audit, evidence_json, judge_file, read_evidence};
 use encoding::{Cursor, Form};
 use proofs::BrokenPromise;
-use questions::Case;
-use rootchain::{Refusal, RootEvidence, SignedPromise, SignedRoot};
+use questions::{Case, say_evidence};
+use rootchain::{Refusal, SignedPromise, SignedRoot};
 use textio::ProgramFault;
 
 pub(crate) fn answer(case: &mut Case<'_>) {
@@ -60,25 +60,17 @@ fn broken(case: &mut Case<'_>) -> Result<Evidence, Refusal> {
 /// `read BYTES`
 fn read(case: &mut Case<'_>) {
     match read_evidence(case.alloc(), case.bytes()) {
-        Ok(evidence) => say_evidence(case, &evidence),
+        Ok(evidence) => say_whole(case, &evidence),
         Err(ReadFault::OutOfMemory) => case.lack_memory(),
         Err(ReadFault::NotEvidence) => say_fault(case, ProgramFault::NotEvidence),
     }
 }
 
-fn say_evidence(case: &mut Case<'_>, evidence: &Evidence) {
+fn say_whole(case: &mut Case<'_>, evidence: &Evidence) {
     match evidence {
-        Evidence::Root(RootEvidence::Fork(one, other)) => say_roots(case, "fork", one, other),
-        Evidence::Root(RootEvidence::Link(one, other)) => say_roots(case, "link", one, other),
-        Evidence::Root(RootEvidence::Skip(one, other)) => say_roots(case, "skip", one, other),
+        Evidence::Root(evidence) => say_evidence(case, evidence),
         Evidence::Broken(broken) => say_broken(case, broken),
     }
-}
-
-fn say_roots(case: &mut Case<'_>, kind: &str, one: &SignedRoot, other: &SignedRoot) {
-    case.say(kind);
-    case.say_bytes(one.write().bytes());
-    case.say_bytes(other.write().bytes());
 }
 
 /// The promise, and the root and the proof as one.

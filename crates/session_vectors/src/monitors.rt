@@ -1,7 +1,7 @@
 //! Of `monitor`: a monitor, which stays for the next lines. It takes the client.
 
 use crate::clients::{
-    KeyedClients, reconcile_both, refuse as refuse_client, say_cause, say_statement, tell_done,
+    KeyedClients, reconcile_both, refuse as refuse_client, say_cause, tell_done,
 };
 use crate::feeds;
 use crate::stand_ins::{AnySign, Functions, keyed};
@@ -10,7 +10,7 @@ use client::Client;
 use encoding::{Hash32, KeyData};
 use monitor::{Monitor, Refusal, Step};
 use nodehash::{NodeHash, Sha256Hash};
-use questions::Case;
+use questions::{Case, say_statement};
 use sigiface::{KeyedSign, Verifier};
 use vrfiface::{KeyedVuf, VufCheck};
 

@@ -1,23 +1,7 @@
 //! What several subjects tell.
 
 use questions::Case;
-use rootchain::{RootEvidence, SignedRoot};
 use textio::ProgramFault;
-
-fn say_roots(case: &mut Case<'_>, kind: &str, one: &SignedRoot, other: &SignedRoot) {
-    case.say(kind);
-    case.say_bytes(one.write().bytes());
-    case.say_bytes(other.write().bytes());
-}
-
-/// The kind of the evidence and its roots.
-pub(crate) fn say_evidence(case: &mut Case<'_>, evidence: &RootEvidence) {
-    match evidence {
-        RootEvidence::Fork(one, other) => say_roots(case, "fork", one, other),
-        RootEvidence::Link(one, other) => say_roots(case, "link", one, other),
-        RootEvidence::Skip(one, other) => say_roots(case, "skip", one, other),
-    }
-}
 
 /// Refuses a call on a root.
 pub(crate) fn refuse_root(case: &mut Case<'_>, why: rootchain::Refusal) {

@@ -1,9 +1,9 @@
 //! Of `proofs`: what accepted replies tell, and whether two state the same.
 
-use crate::replies::{keyed, say_compared, say_statement};
+use crate::replies::{keyed, say_compared};
 use nodehash::{NodeHash, Sha256Hash};
 use proofs::{Accepted, ReplyView, accept, same_or_collision};
-use questions::Case;
+use questions::{Case, say_statement};
 use rootchain::Body;
 use vrfiface::{KeyedVuf, VufCheck};
 

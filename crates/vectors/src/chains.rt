@@ -2,12 +2,11 @@
 
 use crate::any::AnySign;
 use crate::comparing::compare;
-use crate::evidence::say_evidence;
 use crate::roots::{say_body, signed_root, verifier};
 use encoding::Hash32;
 use nodehash::{Sha256Hash, SumHash};
-use questions::Case;
-use rootchain::{Chain, ListRefusal, Place, Refusal, RootList};
+use questions::{Case, say_evidence, say_place};
+use rootchain::{Chain, ListRefusal, Refusal, RootList};
 use sigiface::{KeyedSign, Verifier};
 
 type Kept = Option<Chain<Sha256Hash, KeyedSign>>;
@@ -120,16 +119,6 @@ fn take<S: Verifier>(case: &mut Case<'_>, chain: &mut Chain<Sha256Hash, S>, veri
     match chain.take(&mut Sha256Hash::new(), verifier, root) {
         Ok(place) => say_place(case, &place),
         Err(refusal) => refuse(case, refusal),
-    }
-}
-
-fn say_place(case: &mut Case<'_>, place: &Place) {
-    match place {
-        Place::Known => case.say("known"),
-        Place::Evidence(evidence) => say_evidence(case, evidence),
-        Place::Next => case.say("next"),
-        Place::Ahead => case.say("ahead"),
-        Place::BeforeStart => case.say("before start"),
     }
 }
 

@@ -1,10 +1,9 @@
 //! Of `rootchain`: two chains compared.
 
-use crate::evidence::say_evidence;
 use crate::roots::verifier;
 use encoding::Hash32;
 use nodehash::NodeHash;
-use questions::Case;
+use questions::{Case, say_evidence};
 use rootchain::{Chain, Compare, ListRefusal, Refusal, RootList, SignedRoot};
 use sigiface::KeyedSign;
 

@@ -6,8 +6,8 @@ use crate::any::AnyVuf;
 use crate::made_replies::make_reply;
 use encoding::Hash32;
 use nodehash::{NodeHash, Sha256Hash, SumHash};
-use proofs::{RefusedReply, ReplyView, SameOr, Statement, accept, compare_replies};
-use questions::Case;
+use proofs::{RefusedReply, ReplyView, SameOr, accept, compare_replies};
+use questions::{Case, say_statement};
 use rootchain::Body;
 use vrfiface::{KeyedVuf, PlainVuf, VufCheck};
 
@@ -40,16 +40,6 @@ fn read(case: &mut Case<'_>) {
             case.say_bytes(view.siblings());
         }
         Err(refusal) => case.refuse(refusal.number(), refusal),
-    }
-}
-
-pub(crate) fn say_statement(case: &mut Case<'_>, statement: Statement<'_>) {
-    match statement {
-        Statement::Present(key) => {
-            case.say("present");
-            case.say_bytes(key);
-        }
-        Statement::Absent => case.say("absent"),
     }
 }
 

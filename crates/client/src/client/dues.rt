@@ -1,4 +1,5 @@
-ghost use Rattle.std.specs.Prelude.{◌≡◌, IfOk};
+ghost use Rattle.std.specs.Prelude.{◌≡◌, ◌+◌, ◌≤◌, IfOk};
+ghost use Rattle.prefixtree.specs.declared.path.TheConstants.{MAX_SIBLINGS};
 ghost use Rattle.client.specs.Dues.{DueHolds, Dues, IsDueEpoch};
 
 use super::Client;
@@ -22,7 +23,8 @@ impl<H: NodeHash, V: VufCheck, S: Verifier> Client<H, V, S> {
 
     /// Tests whether the provider kept its promise for this name: of those that are kept for it, the one of
     /// the least epoch, and of equals the first kept. These bytes are a reply to a look-up of the name under
-    /// the chain's next root. A promise that the provider kept is dropped; any other stays.
+    /// the chain's next root. A promise that the provider kept is dropped; any other stays. Takes at most 259
+    /// digests.
     ///
     /// # Errors
     ///
@@ -31,6 +33,7 @@ impl<H: NodeHash, V: VufCheck, S: Verifier> Client<H, V, S> {
     pub fn due(&mut self, hash: &mut H, vuf: &V, name: &Name, bytes: &[u8]) -> Result<Due, Refusal>
         ensures due { Dues H.digest_of V.accepted self.old name.now bytes.now result self.new }
         ensures evidence { IfOk result (DueHolds H.digest_of V.accepted S.verified self.old.chain.key) }
+        ensures counted { H.digests hash.new ≤ H.digests hash.old + (MAX_SIBLINGS + 3) }
     {
         let Some((place, signed)) = tested(&self.promises, name) else {
             return Err(Refusal::NoPromise);

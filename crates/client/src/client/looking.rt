@@ -1,3 +1,5 @@
+ghost use Rattle.std.specs.Prelude.{◌+◌, ◌≤◌};
+ghost use Rattle.prefixtree.specs.declared.path.TheConstants.{MAX_SIBLINGS};
 ghost use Rattle.client.specs.Looking.{KeepsLook, Looks as LooksUp, LooksNext};
 
 use super::Client;
@@ -13,7 +15,7 @@ use vrfiface::VufCheck;
 
 impl<H: NodeHash, V: VufCheck, S: Verifier> Client<H, V, S> {
     /// Checks a reply to a look-up of this name against the root of an epoch, where 0 asks for the latest
-    /// root, and keeps it. Returns what the reply states of the name.
+    /// root, and keeps it. Returns what the reply states of the name. Takes at most 259 digests.
     ///
     /// # Errors
     ///
@@ -27,7 +29,8 @@ impl<H: NodeHash, V: VufCheck, S: Verifier> Client<H, V, S> {
         epoch: u64,
         bytes: &'a [u8],
     ) -> Result<Statement<'a>, Refusal>
-        ensures { LooksUp H.digest_of V.accepted self.old name.now epoch bytes.entry.now result self.new }
+        ensures looks { LooksUp H.digest_of V.accepted self.old name.now epoch bytes.entry.now result self.new }
+        ensures counted { H.digests hash.new ≤ H.digests hash.old + (MAX_SIBLINGS + 3) }
     {
         let Some(root) = asked(&self.chain, epoch) else {
             return Err(Refusal::UnknownRoot);
@@ -36,7 +39,7 @@ impl<H: NodeHash, V: VufCheck, S: Verifier> Client<H, V, S> {
     }
 
     /// Checks a reply to a look-up of this name against the first root after an epoch, and keeps it. Returns
-    /// the epoch of that root, and what the reply states of the name.
+    /// the epoch of that root, and what the reply states of the name. Takes at most 259 digests.
     ///
     /// # Errors
     ///
@@ -50,7 +53,8 @@ impl<H: NodeHash, V: VufCheck, S: Verifier> Client<H, V, S> {
         after: u64,
         bytes: &'a [u8],
     ) -> Result<(u64, Statement<'a>), Refusal>
-        ensures { LooksNext H.digest_of V.accepted self.old name.now after bytes.entry.now result self.new }
+        ensures looks { LooksNext H.digest_of V.accepted self.old name.now after bytes.entry.now result self.new }
+        ensures counted { H.digests hash.new ≤ H.digests hash.old + (MAX_SIBLINGS + 3) }
     {
         let Some(root) = self.chain.after(after) else {
             return Err(Refusal::UnknownRoot);
@@ -71,7 +75,8 @@ fn look_under<'a, H: NodeHash, V: VufCheck>(
     root: &SignedRoot,
     bytes: &'a [u8],
 ) -> Result<Statement<'a>, Refusal>
-    ensures { KeepsLook H.digest_of V.accepted looks.old name.now root.now bytes.entry.now result looks.new }
+    ensures looks { KeepsLook H.digest_of V.accepted looks.old name.now root.now bytes.entry.now result looks.new }
+    ensures counted { H.digests hash.new ≤ H.digests hash.old + (MAX_SIBLINGS + 3) }
 {
     match accept::<H, V>(hash, vuf, &root.body, name, bytes) {
         Ok(accepted) => {

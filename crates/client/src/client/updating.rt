@@ -1,5 +1,6 @@
-ghost use Rattle.std.specs.Prelude.{◌≡◌, IfErr, OnOk};
+ghost use Rattle.std.specs.Prelude.{◌≡◌, ◌+◌, ◌≤◌, IfErr, OnOk};
 ghost use Rattle.rootchain.specs.Chains.{IsChain};
+ghost use Rattle.rootchain.specs.TakingBytes.{announced};
 ghost use Rattle.client.specs.Updating.{told_as, RefusalHolds, Updates};
 ghost use Rattle.client.specs.UpdatingFrom.{piece_told_as};
 
@@ -12,7 +13,7 @@ use vrfiface::VufCheck;
 
 impl<H: NodeHash, V: VufCheck, S: Verifier> Client<H, V, S> {
     /// Takes the list of roots that these bytes spell, in order: those that the chain has are passed over,
-    /// and those that follow its head are appended.
+    /// and those that follow its head are appended. Takes at most one digest for each.
     ///
     /// # Errors
     ///
@@ -24,6 +25,7 @@ impl<H: NodeHash, V: VufCheck, S: Verifier> Client<H, V, S> {
         ensures updates { Updates H.digest_of S.verified self.old bytes.now result self.new }
         ensures chain { OnOk result (IsChain H.digest_of S.verified self.new.chain) }
         ensures evidence { IfErr result (RefusalHolds H.digest_of S.verified self.old.chain.key) }
+        ensures counted { H.digests hash.new ≤ H.digests hash.old + announced bytes.now }
     {
         match self.chain.take_bytes(hash, verifier, bytes) {
             Ok(()) => Ok(()),

@@ -1,5 +1,6 @@
-ghost use Rattle.std.specs.Prelude.{IfErr};
+ghost use Rattle.std.specs.Prelude.{◌+◌, ◌≤◌, IfErr, length};
 ghost use Rattle.rootchain.specs.Chains.{IsChain};
+ghost use Rattle.rootchain.specs.RootFeeds.{told_from};
 ghost use Rattle.client.specs.Updating.{RefusalHolds};
 ghost use Rattle.client.specs.UpdatingFrom.{UpdatesFrom};
 
@@ -13,7 +14,7 @@ use vrfiface::VufCheck;
 
 impl<H: NodeHash, V: VufCheck, S: Verifier> Client<H, V, S> {
     /// Takes each root that the next piece of a list makes whole, as `update` does, before the next one is
-    /// looked at.
+    /// looked at. Takes at most one digest for each.
     ///
     /// # Errors
     ///
@@ -32,6 +33,7 @@ impl<H: NodeHash, V: VufCheck, S: Verifier> Client<H, V, S> {
         ensures updates { UpdatesFrom H.digest_of S.verified self.old feed.old piece.now result self.new feed.new }
         ensures chain { IsChain H.digest_of S.verified self.new.chain }
         ensures evidence { IfErr result (RefusalHolds H.digest_of S.verified self.old.chain.key) }
+        ensures counted { H.digests hash.new ≤ H.digests hash.old + length (told_from feed.old piece.now).0 }
     {
         if self.chain.take_part(feed, piece) {
             return Ok(());
@@ -52,6 +54,7 @@ impl<H: NodeHash, V: VufCheck, S: Verifier> Client<H, V, S> {
         ensures updates { UpdatesFrom H.digest_of S.verified self.old feed.old piece.now result self.new feed.new }
         ensures chain { IsChain H.digest_of S.verified self.new.chain }
         ensures evidence { IfErr result (RefusalHolds H.digest_of S.verified self.old.chain.key) }
+        ensures counted { H.digests hash.new ≤ H.digests hash.old + length (told_from feed.old piece.now).0 }
     {
         match self.chain.take_piece(hash, verifier, feed, piece) {
             Ok(()) => Ok(()),

@@ -11,7 +11,7 @@ returns-in_ok-refuse_proof-in-Err-Client g c = (
   (
     c.in-Err-Client.why,
     c.in_ok-refuse_proof-in-Err-Client.ensures.known,
-    subst (λ (answer : Result Step Refusal). Steps g.H.NodeHash.digest_of g.V.VufCheck.accepted c.args.monitor.now c.args.reply.now answer c.step.new.self) (c.in-Err-Client.is ∙ ap Err c.in-Err-Client.field-0-is) c.step.ensures,
+    subst (λ (answer : Result Step Refusal). Steps g.H.NodeHash.digest_of g.V.VufCheck.accepted c.args.monitor.now c.args.reply.now answer c.step.new.self) (c.in-Err-Client.is ∙ ap Err c.in-Err-Client.field-0-is) c.step.ensures.steps,
     refl,
   ),
   c.in_ok-refuse_proof-in-Err-Client.ensures.told,

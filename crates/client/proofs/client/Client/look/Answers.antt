@@ -8,10 +8,10 @@ pub invariant_of-self : goal.invariant_of-self
 invariant_of-self g c =
     let asked = (c.asked.ensures c.in-Some.root.now).0 (ap option_copied c.in-Some.is) in
     look-kept g.H.NodeHash.digest_of g.V.VufCheck.accepted _ c.args.name.now c.args.bytes.now c.in-Some.root.now c.look_under.new.looks g.S.Verifier.verified
-    (asked-epoch c.self.inside.chain c.args.epoch c.in-Some.root.now asked) c.self.invariant c.look_under.result c.look_under.ensures
+    (asked-epoch c.self.inside.chain c.args.epoch c.in-Some.root.now asked) c.self.invariant c.look_under.result c.look_under.ensures.looks
 
-pub returns : goal.returns
-returns g c =
+pub returns-clause-looks : goal.returns-clause-looks
+returns-clause-looks g c =
     let asked = (c.asked.ensures c.in-Some.root.now).0 (ap option_copied c.in-Some.is) in
     subst (λ (before : Client). Looks g.H.NodeHash.digest_of g.V.VufCheck.accepted before c.args.name.now c.args.epoch c.args.bytes.now c.look_under.result (record { chain = c.self.inside.chain; looks = c.look_under.new.looks; promises = c.self.inside.promises.items })) c.self.view_is
-    (looked g.H.NodeHash.digest_of g.V.VufCheck.accepted _ c.args.name.now c.args.bytes.now c.in-Some.root.now c.look_under.new.looks c.args.epoch asked c.look_under.result c.look_under.ensures)
+    (looked g.H.NodeHash.digest_of g.V.VufCheck.accepted _ c.args.name.now c.args.bytes.now c.in-Some.root.now c.look_under.new.looks c.args.epoch asked c.look_under.result c.look_under.ensures.looks)

@@ -31,7 +31,7 @@ tell_refusal-requires g c =
     = rw (← c.self.view_is) at found in
     let by = provider g.H.NodeHash.digest_of g.V.Vuf.value_of g.S.Signer.signature_of before.hub.service.directory in
     let looks : Looks g.H.NodeHash.digest_of g.V.VufCheck.accepted c.self.inside.client c.args.name.now c.args.epoch c.args.reply.now c.look.result c.look.new.self
-    = rw c.in-Ok.ensures.value at c.look.ensures in
+    = rw c.in-Ok.ensures.value at c.look.ensures.looks in
     let so = looks_so by g.V.VufCheck.accepted g.S.Verifier.verified before.key _ f.sound f.laws page f.root c.args.name.now c.args.reply.now c.args.epoch before.client c.look.new.self c.look.result
     (c.honest.ensures by before.key _ _ _ _ f.honest) f.asked f.named f.rooted f.reply f.chain looks in
     looks-well by page c.args.name.now c.in-Err.why (subst (LooksSo by page c.args.name.now) c.in-Err.is so)
@@ -44,7 +44,7 @@ returns g c = λ page found same.
     = rw (← c.self.view_is) at found in
     let by = provider g.H.NodeHash.digest_of g.V.Vuf.value_of g.S.Signer.signature_of before.hub.service.directory in
     let looks : Looks g.H.NodeHash.digest_of g.V.VufCheck.accepted c.self.inside.client c.args.name.now c.args.epoch c.args.reply.now c.look.result c.look.new.self
-    = rw c.in-Ok.ensures.value at c.look.ensures in
+    = rw c.in-Ok.ensures.value at c.look.ensures.looks in
     let so = looks_so by g.V.VufCheck.accepted g.S.Verifier.verified before.key _ f.sound f.laws page f.root c.args.name.now c.args.reply.now c.args.epoch before.client c.look.new.self c.look.result
     (c.honest.ensures by before.key _ _ _ _ f.honest) f.asked f.named f.rooted f.reply f.chain looks in
     let looked : c.look.result ≢ Err client.Memory → HasLooked g.H.NodeHash.digest_of g.V.VufCheck.accepted before c.args.name.now c.args.epoch c.args.reply.now after
