@@ -18,7 +18,7 @@ use Rattle.client.proofs.Keeping.{one-more}
 use Rattle.client.proofs.Numbering.{one-number}
 
 abbrev pub cmp_asked : Asked → Asked → Ordering
-cmp_asked a b = ordering_then (slice_cmp nat_cmp a.name.items b.name.items) (nat_cmp a.epoch b.epoch)
+cmp_asked a b = ordering_then (nat_cmp a.epoch b.epoch) (slice_cmp nat_cmp a.name.items b.name.items)
 
 abbrev pub cmp_place : LookPlace → LookPlace → Ordering
 cmp_place a b = ordering_then (cmp_asked a.asked b.asked) (nat_cmp a.number b.number)
@@ -39,13 +39,18 @@ equal-before Less b same = absurd cc
 equal-before Equal b same = refl
 equal-before Greater b same = absurd cc
 
+equal-behind : (a b : Ordering) → ordering_then a b ≡ Equal → b ≡ Equal
+equal-behind Less b same = absurd cc
+equal-behind Equal b same = same
+equal-behind Greater b same = absurd cc
+
 pub same-equal : (a b : LookPlace) → AreBeside a b → cmp_asked a.asked b.asked ≡ Equal
-same-equal a b same = rw (same.0, same.1, equal-names a.asked.name.items) (equal-numbers a.asked.epoch)
+same-equal a b same = rw (same.0, same.1, equal-numbers a.asked.epoch) (equal-names a.asked.name.items)
 
 pub equal-same : (a b : LookPlace) → cmp_asked a.asked b.asked ≡ Equal → AreBeside a b
 equal-same a b same = (
-  sym (exact_bytes a.asked.name.items b.asked.name.items (equal-before _ _ same)),
-  sym (one-number _ a.asked.epoch b.asked.epoch same),
+  sym (exact_bytes a.asked.name.items b.asked.name.items (equal-behind _ _ same)),
+  sym (one-number Equal a.asked.epoch b.asked.epoch (equal-before _ _ same)),
 )
 
 then-reverse : (x y : Ordering) → ordering_then (ordering_reverse x) (ordering_reverse y) ≡ ordering_reverse (ordering_then x y)
@@ -55,9 +60,9 @@ then-reverse Greater y = refl
 
 asked-reverse : (a b : Asked) → cmp_asked a b ≡ ordering_reverse (cmp_asked b a)
 asked-reverse a b =
-    ap (λ (o : Ordering). ordering_then o (nat_cmp a.epoch b.epoch)) (nat_list_cmp_total.antisymm a.name.items b.name.items)
-    ∙ ap (λ (o : Ordering). ordering_then (ordering_reverse (slice_cmp nat_cmp b.name.items a.name.items)) o) (nat_cmp_total.antisymm a.epoch b.epoch)
-    ∙ then-reverse (slice_cmp nat_cmp b.name.items a.name.items) (nat_cmp b.epoch a.epoch)
+    ap (λ (o : Ordering). ordering_then o (slice_cmp nat_cmp a.name.items b.name.items)) (nat_cmp_total.antisymm a.epoch b.epoch)
+    ∙ ap (λ (o : Ordering). ordering_then (ordering_reverse (nat_cmp b.epoch a.epoch)) o) (nat_list_cmp_total.antisymm a.name.items b.name.items)
+    ∙ then-reverse (nat_cmp b.epoch a.epoch) (slice_cmp nat_cmp b.name.items a.name.items)
 
 -- whether a place lies below another, as it compares to it, and whether it lies from it on
 abbrev pub is_below : Ordering → Bool

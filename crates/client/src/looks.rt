@@ -1,4 +1,4 @@
-//! The looks that a client accepted, in an ordered map by name, epoch and number, where the number counts
+//! The looks that a client accepted, in an ordered map by epoch, name and number, where the number counts
 //! the looks before. So those of one name and epoch stand beside each other, and the numbers give the order
 //! of acceptance.
 ghost use Rattle.std.specs.Prelude.{◌≡◌, ◌++◌, ◌∷◌, [], OnErr, OnOk};
@@ -16,8 +16,8 @@ pub(crate) use comparing::Unlike;
 /// What a look asked for.
 #[derive(Drop, PartialEq, Eq, PartialOrd, Ord)]
 struct Asked {
-    name: Vec<u8>,
     epoch: u64,
+    name: Vec<u8>,
 }
 
 /// The place of a look: those of one name and epoch stand beside each other, in order of acceptance.
