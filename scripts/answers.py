@@ -879,7 +879,7 @@ class Answers(Lines):
         return [yes(first), yes(second), told(written[:room].ljust(room, b"\0"))]
 
     def journal_start(self, w):
-        """`start ROOM EPOCH NONCE SIGNATURE-KEY VUF-KEY`"""
+        """`start ROOM EPOCH NONCE SIGNING-KEY VUF-KEY`"""
         room = w.number(JOURNAL_ROOM)
         return self.kept_twice(room, start_record(w.number(), w.hash(), w.hash(), w.hash()))
 

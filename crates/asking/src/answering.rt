@@ -38,15 +38,10 @@ pub(crate) fn request_of<'a>(ask: &'a Ask, token: Hash32) -> Request<'a>
             count: *count,
         }),
         Ask::Head => Request::Query(Query::Head),
-        Ask::Close { epoch } => Request::Turn {
+        Ask::Turn { epoch, nonce } => Request::Turn {
             token,
             epoch: *epoch,
-            nonce: None,
-        },
-        Ask::Rotate { epoch, nonce } => Request::Turn {
-            token,
-            epoch: *epoch,
-            nonce: Some(*nonce),
+            nonce: *nonce,
         },
     }
 }
@@ -68,10 +63,14 @@ pub(crate) fn answers(ask: &Ask, response: &Response<'_>) -> bool
         }
         (Ask::History { count, .. }, Response::Roots(roots)) => roots.len() <= usize::from(*count),
         (Ask::Head, Response::Root(_)) => true,
-        (Ask::Close { epoch }, Response::Root(root)) => root.body.epoch == *epoch,
-        (Ask::Rotate { epoch, nonce }, Response::Root(root)) => {
-            root.body.epoch == *epoch && root.body.nonce == *nonce
-        }
+        (Ask::Turn { epoch, nonce: None }, Response::Root(root)) => root.body.epoch == *epoch,
+        (
+            Ask::Turn {
+                epoch,
+                nonce: Some(nonce),
+            },
+            Response::Root(root),
+        ) => root.body.epoch == *epoch && root.body.nonce == *nonce,
         _ => false,
     }
 }

@@ -8,6 +8,7 @@ ghost use Rattle.wire.specs.FrameViews.{frame_seen};
 ghost use Rattle.wire.specs.Requests.{request_frame, request_seen};
 ghost use Rattle.asking.specs.Exchanges.{ExchangesFrames, HoldsFrame, IsOneFrame};
 ghost use Rattle.asking.specs.declared.ask_fault.AskFault.TheVariants.{Stopped};
+ghost use Rattle.asking.specs.declared.exchange.TheConstants.{LENGTH};
 
 use crate::AskFault;
 use std::alloc::{AllocError, Global};
@@ -77,7 +78,7 @@ pub(crate) fn read_reply<R: Read>(alloc: Global, reader: &mut R) -> Result<Vec<u
 /// The bytes of a length, and those behind it.
 fn joined(alloc: Global, front: [u8; LENGTH], rest: &[u8]) -> Result<Vec<u8>, AllocError>
     ensures items { IfOk result (λ bytes. bytes.items ≡ front ++ rest.now) }
-    ensures size { length front ≡ 4 }
+    ensures size { length front ≡ LENGTH }
     ensures front { IsBytes front }
     ensures behind { IsBytes rest.now }
 {

@@ -1,6 +1,7 @@
 ghost use Rattle.std.specs.Prelude.{◌≡◌, ◌++◌, [], OnErr, OnOk};
 ghost use Rattle.asking.specs.Refused.{other_reply, refuses_text};
 ghost use Rattle.asking.specs.Reports.{refused, report_of, worse, Tells};
+ghost use Rattle.asking.specs.declared.said.TheConstants.{REFUSED};
 
 use encoding::Name;
 use play::{push_hex, push_number};
@@ -99,7 +100,7 @@ impl Said {
     /// Ends a line of the errors by these words. Something was refused.
     pub(crate) fn explain(&mut self, words: &[u8]) -> Result<(), AllocError>
         ensures text { OnOk result ((self.new).text ≡ (self.old).text) }
-        ensures status { OnOk result ((self.new).status ≡ worse (self.old).status 1) }
+        ensures status { OnOk result ((self.new).status ≡ worse (self.old).status REFUSED) }
     {
         self.words.extend_from_slice(b": ")?;
         self.words.extend_from_slice(words)?;

@@ -1,3 +1,6 @@
+// First the chains decide. If they agree, the first pair of looks for one name and epoch that state two things
+// leads to two texts with one digest, or to two values of the name.
+
 ghost use Rattle.std.specs.Prelude.{◌≡◌, ◌≢◌, ◌⊎◌, ◌↔◌, ℕ, Contains};
 ghost use Rattle.rootchain.specs.Chains.{IsAt};
 ghost use Rattle.rootchain.specs.declared.signed_root.SignedRoot.{SignedRoot};

@@ -7,6 +7,7 @@ use Rattle.clap.specs.declared.error.Error.{Error}
 use Rattle.clap.specs.declared.error.kind.ErrorKind.{ErrorKind}
 use Rattle.clap.specs.declared.error.kind.ErrorKind.TheVariants.{DisplayHelp, DisplayVersion}
 use Rattle.directoryd.specs.declared.order.tables.TheConstants.{MOST_SESSIONS}
+use Rattle.directoryd.specs.declared.refusing.TheConstants.{WRONG_WORDS}
 use Rattle.clap.specs.Words.{App, IsAmong, Rule, Text, fault_of, kind_of, new_app, new_rule, takes, with_rule, with_subcommand}
 
 -- the parser takes the names of the hash functions
@@ -121,4 +122,4 @@ RefusesWords words fault = (names : ValueParser) × IsHashNames names × (takes 
 abbrev pub status_of : ErrorKind → ℕ
 status_of DisplayHelp = 0
 status_of DisplayVersion = 0
-status_of _ = 2
+status_of _ = WRONG_WORDS

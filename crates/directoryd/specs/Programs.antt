@@ -23,6 +23,7 @@ use Rattle.server.specs.Directories.{keys_of}
 use Rattle.server.specs.Listening.{ListenTells}
 use Rattle.server.specs.Programs.{DirectoryServes}
 use Rattle.directoryd.specs.declared.ending.Ending.{Ending}
+use Rattle.directoryd.specs.declared.refusing.TheConstants.{WRONG_WORDS}
 use Rattle.directoryd.specs.CommandLine.{status_of, RefusesWords}
 use Rattle.directoryd.specs.Orders.{IsTask, Task, the_root, the_path, the_audit, the_verdict, the_script, the_session, the_connections, the_questions}
 use Rattle.directoryd.specs.KeyFiles.{ask_with, directory_with, HasNoKeys, Uses}
@@ -146,7 +147,7 @@ no_text = codes "error: invalid UTF-8 was detected in one or more arguments\n"
 abbrev pub StartsProgram : {A B R : Type 0} → (R → Option (List ℕ)) → Result (Vec (String A) B) IoError → Result R IoError
     → Option (List ℕ) → Option (List ℕ) → Option (List ℕ) → Option (List ℕ) → Result ℕ ProgramFault → Type 0
 StartsProgram remaining (Err error) reader out out-new err err-new outcome = Keeps out out-new
-    × Prints 2 no_text err err-new outcome × ((outcome ≡ Err OutOfMemory) ↔ (error_kind error ≡ io.OutOfMemory))
+    × Prints WRONG_WORDS no_text err err-new outcome × ((outcome ≡ Err OutOfMemory) ↔ (error_kind error ≡ io.OutOfMemory))
 StartsProgram remaining (Ok words) (Err error) out out-new err err-new outcome = WantsMemory out out-new err err-new outcome
 StartsProgram remaining (Ok words) (Ok reader) out out-new err err-new outcome = RunsProgram (map string_bytes words.items) (remaining reader) out out-new err err-new outcome
 

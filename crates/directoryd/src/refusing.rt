@@ -4,6 +4,7 @@ ghost use Rattle.clap.specs.Words.{kind_of};
 ghost use Rattle.clap.specs.declared.error.kind.ErrorKind.TheVariants.{OutOfMemory};
 ghost use Rattle.directoryd.specs.CommandLine.{status_of};
 ghost use Rattle.directoryd.specs.Programs.{no_text, Prints, ShowsText};
+ghost use Rattle.directoryd.specs.declared.refusing.TheConstants.{WRONG_WORDS};
 
 use clap::Error;
 use clap::error::ErrorKind;
@@ -66,7 +67,7 @@ pub fn refuse<W: Write, E: Write>(
 /// `OutOfMemory` if the error is one of memory; `CannotWrite`.
 pub fn refuse_bytes<E: Write>(error: &io::Error, errors: &mut E) -> Result<u8, ProgramFault>
     ensures memory { (result ≡ Err ProgramFault.OutOfMemory) ↔ (error_kind error.now ≡ IoKind.OutOfMemory) }
-    ensures prints { Prints 2 no_text (E.contents errors.old) (E.contents errors.new) result }
+    ensures prints { Prints WRONG_WORDS no_text (E.contents errors.old) (E.contents errors.new) result }
 {
     if error.kind() == IoKind::OutOfMemory {
         return Err(ProgramFault::OutOfMemory);

@@ -29,7 +29,7 @@ use Rattle.book.proofs.Placed.{commitment, placed_none, placed_some}
 use Rattle.epochs.specs.Histories.{Version, binding_at, waiting}
 use Rattle.epochs.specs.Parts.{Keeps, Parts, last_of, last_root, pending_of, tree_of}
 use Rattle.epochs.specs.Versions.{AllBefore, versions_of, with_version}
-use Rattle.epochs.proofs.Keeping.{book_with_pending, free_held, free_untaken, keeps_pending, taken_is, version_of, versions_before, with_waiting}
+use Rattle.epochs.proofs.Keeping.{book_with_pending, free_held, free_untaken, keeps_pending, taken_is, version_of, versions_before, with_waiting, has-some}
 use Rattle.epochs.proofs.Placing.{apart-alone}
 use Rattle.epochs.proofs.Parts.{book_of, last_get, last_root_kept, last_tree_kept}
 use Rattle.epochs.proofs.Versions.{chosen_ascends}
@@ -70,16 +70,13 @@ record Stand : Type 0 where
   pub salt : List ℕ
   pub left : Stream
 
-some-name : (map : Map Binding) (name : List ℕ) → HasName map name → IsSome (at map name)
-some-name map name has = subst IsSome (sym has.1) refl
-
 module _ (provider : Provider) (parts : Parts) (salt : List ℕ) (left : Stream) (keeps : Keeps provider parts (book_of parts salt left)) (name key : List ℕ)
     (none : at (pending_of parts) name ≡ None) (free : (other : List ℕ) → HoldsName (book_of parts salt left) other → index_of provider other ≡ index_of provider name → other ≡ name) where
   -- its index does not wait
   pub index_free : (index : List ℕ) → index ≡ index_of provider name → commitment_of parts.waiting index ≡ None
   index_free index is =
       ap (λ (items : Items). commitment_of items index) keeps.waiting ∙ ap (commitment_of _) is
-      ∙ placed_none provider name (pending_of parts) (apart-alone provider (pending_of parts) name (λ other has. free other (inr (some-name (pending_of parts) other has)))) none
+      ∙ placed_none provider name (pending_of parts) (apart-alone provider (pending_of parts) name (λ other has. free other (inr (has-some (pending_of parts) other has)))) none
 
   module _ (len : ℕ) (long : len ≡ length parts.roots) (version : Version) (is : version ≡ record { number = len; binding = record { key = key; salt = salt } }) where
     is-version : version ≡ version_of provider parts salt left keeps name key none
@@ -181,12 +178,12 @@ module _ (provider : Provider) (parts : Parts) (salt : List ℕ) (left : Stream)
 
   own-now : (binding : Binding) → at now name ≡ Some binding → commitment_of (placement provider now) (index_of provider name) ≡ Some (commitment provider name binding)
   own-now binding found =
-      own now binding (chosen_ascends (binding_at (length parts.roots - 1)) parts.names keeps.histories.names_ascend) (λ other has. inl (some-name now other has)) (inl (subst IsSome (sym found) refl)) found
+      own now binding (chosen_ascends (binding_at (length parts.roots - 1)) parts.names keeps.histories.names_ascend) (λ other has. inl (has-some now other has)) (inl (subst IsSome (sym found) refl)) found
 
   own-later : (binding : Binding) → at later name ≡ Some binding → commitment_of parts.waiting (index_of provider name) ≡ Some (commitment provider name binding)
   own-later binding found =
       ap (λ (items : Items). commitment_of items (index_of provider name)) keeps.waiting
-      ∙ own later binding (chosen_ascends (waiting (length parts.roots)) parts.names keeps.histories.names_ascend) (λ other has. inr (some-name later other has)) (inr (subst IsSome (sym found) refl)) found
+      ∙ own later binding (chosen_ascends (waiting (length parts.roots)) parts.names keeps.histories.names_ascend) (λ other has. inr (has-some later other has)) (inr (subst IsSome (sym found) refl)) found
 
   abbrev at-index : Bool
   at-index = is_some (commitment_of (placement provider now) (index_of provider name)) || is_some (commitment_of parts.waiting (index_of provider name))

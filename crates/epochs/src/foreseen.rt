@@ -1,6 +1,7 @@
 //! The commitments of the next records of a replay, digested at once.
 ghost use Rattle.std.specs.Prelude.{◌≡◌, ◌+◌, ◌<◌, ◌≤◌, IfSome, map};
 ghost use Rattle.commit.specs.Commitments.{commitment_bytes};
+ghost use Rattle.epochs.specs.declared.foreseen.TheConstants.{AT_ONCE};
 
 use commit::{commit, short_commit_text};
 use encoding::{Hash32, KeyData, Name};
@@ -48,7 +49,7 @@ impl<H: NodeHash> Foreseen<H> {
 
     /// Those of these texts. Takes four digests.
     pub(crate) fn digested(hash: &mut H, texts: [NodeText; AT_ONCE]) -> Foreseen<H>
-        ensures work { H.digests hash.new ≤ H.digests hash.old + 4 }
+        ensures work { H.digests hash.new ≤ H.digests hash.old + AT_ONCE }
     {
         let mut digests = [Hash32::default(); AT_ONCE];
         hash.digest_all(&texts, &mut digests);

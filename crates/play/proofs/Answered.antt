@@ -89,8 +89,7 @@ no-lookup (made.Put verb held bound) none name epoch is = absurd cc
 no-lookup (made.Promise held) none name epoch is = absurd cc
 no-lookup (made.History from count) none name epoch is = absurd cc
 no-lookup made.Head none name epoch is = absurd cc
-no-lookup (made.Close at_epoch) none name epoch is = absurd cc
-no-lookup (made.Rotate at_epoch _) none name epoch is = absurd cc
+no-lookup (made.Turn at_epoch _) none name epoch is = absurd cc
 
 -- ---- what was said, by the kind of its frame
 

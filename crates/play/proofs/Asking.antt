@@ -117,8 +117,7 @@ command_of (ask.Promise name) = (Query (asking.Promise name.items), refl)
 command_of (ask.Lookup name epoch) = (Query (asking.Lookup name.items epoch), refl)
 command_of (ask.History from count) = (Query (asking.History from count), refl)
 command_of ask.Head = (Query asking.Head, refl)
-command_of (ask.Close epoch) = (Edit (asking.Turn epoch None), refl)
-command_of (ask.Rotate epoch nonce) = (Edit (asking.Turn epoch (Some nonce)), refl)
+command_of (ask.Turn epoch nonce) = (Edit (asking.Turn epoch nonce), refl)
 
 -- what a request that was read is, where the body spells this one
 read_as : RequestsAreOne → (frame : Frame) (requested other : RequestContent) → Asks frame.kind frame.body requested → IsRead frame (Ok other) → other ≡ requested

@@ -46,7 +46,7 @@ use Rattle.monitor.specs.declared.monitor_refusal.Refusal.{Refusal as MonitorRef
 use Rattle.monitor.specs.declared.monitor_refusal.Refusal.TheVariants as monitor
 use Rattle.monitor.specs.declared.step.Step.{Step}
 use Rattle.monitor.specs.declared.step.Step.TheVariants as step_of
-use Rattle.play.specs.Checking.{step_text, TellsLook, TellsStep}
+use Rattle.play.specs.Checking.{watcher_text, TellsLook, TellsStep}
 use Rattle.play.specs.Lines.{is_double, refused_proof, statement_text}
 use Rattle.play.specs.Watchers.{Watcher, same_key, verdict_text, place_text}
 use Rattle.play.proofs.Calling.{accepts-stated, one-asked, one-next, rooted-epoch, same-index, spelled-read}
@@ -197,7 +197,7 @@ module _ (provider : Provider) (accepted verified : List ℕ → List ℕ → Li
 
   pub steps-told : (watching later : Monitor) (watcher : Watcher) (result : Result Step MonitorRefusal) → watching.name ≡ name → watcher.name ≡ name → watching.watch ≡ watcher.watch
       → IsChain provider.hash verified watching.client.chain → IsNext watching root → Steps provider.hash accepted watching text result later
-      → TellsStep watcher.name page result (step_text (index_of provider) watcher page)
+      → TellsStep watcher.name page result (watcher_text (index_of provider) watcher page)
   steps-told watching later watcher result own also same chain next steps =
       subst (λ (n : List ℕ). TellsStep n page result (if is_double (index_of provider) page n then refused_proof else verdict_text (same_key (key_at page n) (expected watcher.watch page.epoch)) (place_text n page) (key_at page n)))
       (sym also) (by (is_double (index_of provider) page name) refl result steps)

@@ -97,7 +97,7 @@ abbrev pub StillWaits : Book → Book → Type 0
 StillWaits before book = (before.last.epoch < book.last.epoch)
     ⊎ ((book.last.epoch ≡ before.last.epoch) × ((name : List ℕ) → IsSome (at before.pending name) → IsSome (at book.pending name)))
 
-put_waits : (pending : Map Binding) (name other : List ℕ) (binding : Binding) → IsSome (at pending other) → IsSome (at (put_name pending name binding) other)
+pub put_waits : (pending : Map Binding) (name other : List ℕ) (binding : Binding) → IsSome (at pending other) → IsSome (at (put_name pending name binding) other)
 put_waits pending name other binding some = by (is_at (bytes_cmp name) other) refl
   where
     by : (b : Bool) → is_at (bytes_cmp name) other ≡ b → IsSome (at (put_name pending name binding) other)

@@ -47,17 +47,10 @@ use Rattle.play.specs.Watchers.{Watcher, expecting, handed}
 use Rattle.play.proofs.Added.{EndsWith, ends-with}
 use Rattle.play.proofs.Calling.{in-roots, rooted-epoch}
 use Rattle.play.proofs.Comes.{turn_comes, Comes, HasCome}
+use Rattle.play.proofs.Grown.{put_waits}
 use Rattle.play.proofs.InTime.{promises-later}
 use Rattle.play.proofs.Taken.{below-all}
 use Rattle.encoding.specs.Bytes.{bytes_cmp}
-
--- what waits goes on to wait
-still-waits : (pending : Map Binding) (name other : List ℕ) (binding : Binding) → IsSome (at pending other) → IsSome (at (put_name pending name binding) other)
-still-waits pending name other binding waits = by (is_at (bytes_cmp name) other) refl
-  where
-    by : (t : Bool) → is_at (bytes_cmp name) other ≡ t → IsSome (at (put_name pending name binding) other)
-    by true is = subst (λ (n : List ℕ). IsSome (at (put_name pending name binding) n)) (sym (is_name name other is)) (ap is_some (at_put_same name binding pending))
-    by false is = ap is_some (at_put_other name binding pending other (is_no_name name other is)) ∙ waits
 
 -- a watcher after a promise, by whether it is one of the name
 abbrev given : ℕ → List ℕ → Watcher → Bool → Watcher
@@ -76,7 +69,7 @@ module _ (own : List ℕ) (taken : List SignedRoot) (book : Book) (name key : Li
     chain = is.chain;
     some = is.some;
     behind = is.behind;
-    promised = λ k d within. elim (is.promised k d within) [ inl below ↦ inl below | inr (same, waits) ↦ inr (same, still-waits book.pending name watcher.name (record { key = key; salt = book.salt }) waits) ];
+    promised = λ k d within. elim (is.promised k d within) [ inl below ↦ inl below | inr (same, waits) ↦ inr (same, put_waits book.pending name watcher.name (record { key = key; salt = book.salt }) waits) ];
     until = is.until;
   }
 

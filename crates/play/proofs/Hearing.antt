@@ -126,7 +126,7 @@ module _ (provider : Provider) where
   last-root epoch hash [] last = (_, first-there _ [], refl)
   last-root epoch hash (first ∷ more) last = let r = last-root first.epoch _ more last in (r.0, later-there _ _ _ r.1, r.2)
 
-  previous-epoch : (book : Book) → AllPairs IsBefore (pages book) → (root : SignedRoot) → IsRootOf provider book book.last root → root.body.previous_epoch ≡ last_epoch book.earlier
+  pub previous-epoch : (book : Book) → AllPairs IsBefore (pages book) → (root : SignedRoot) → IsRootOf provider book book.last root → root.body.previous_epoch ≡ last_epoch book.earlier
   previous-epoch book up root is =
       let r = last-root 0 (replicate 32 0) book.earlier book.last in
       let same : r.0 ≡ root = one-root provider book up book.last r.0 root r.1 is in

@@ -256,8 +256,7 @@ no_put (made.Promise held) none verb name key is = absurd cc
 no_put (made.Lookup held epoch) none verb name key is = absurd cc
 no_put (made.History from count) none verb name key is = absurd cc
 no_put made.Head none verb name key is = absurd cc
-no_put (made.Close epoch) none verb name key is = absurd cc
-no_put (made.Rotate epoch _) none verb name key is = absurd cc
+no_put (made.Turn epoch _) none verb name key is = absurd cc
 
 module _ {R : Type 0} (digest_of : List ℕ → List ℕ) (value_of signature_of : List ℕ → List ℕ → List ℕ) (stream : R → Stream) (accepted verified : List ℕ → List ℕ → List ℕ → Type 0)
     (before asked now : Parties R) (requested : RequestContent) (text : List ℕ) (watchers : List Watcher)

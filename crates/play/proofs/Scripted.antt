@@ -24,9 +24,7 @@ use Rattle.play.specs.Plays.{PlaysTo}
 use Rattle.play.specs.Printing.{by_line, onto, played_from, text, Printout}
 use Rattle.play.specs.Reading.{TakesWholeLine}
 use Rattle.play.specs.Scripts.{ScriptLine, line_of}
-
-lines_append : (one other : List (List ℕ)) → as_lines (one ++ other) ≡ as_lines one ++ as_lines other
-lines_append = flat_map-append (λ (line : List ℕ). line ++ 10 ∷ [])
+use Rattle.play.proofs.Through.{more-lines}
 
 module _ (index : List ℕ → List ℕ) (begin : Stand) where
   -- what a script prints from the beginning on
@@ -52,7 +50,7 @@ module _ (index : List ℕ → List ℕ) (begin : Stand) where
 
   text_is : (script : List ℕ) (old : Option (List ℕ)) (place : ℕ) (now : Stand) (left new : Option (List ℕ)) (waits : List ℕ) (m : IsMidway script old place now left new waits)
       → text (whole script) ≡ as_lines m.front ++ text (played_from index place now (lines_of m.rest))
-  text_is script old place now left new waits m = ap text m.prints ∙ lines_append m.front (played_from index place now (lines_of m.rest)).lines
+  text_is script old place now left new waits m = ap text m.prints ∙ more-lines m.front (played_from index place now (lines_of m.rest)).lines
 
   writes_some : (script : List ℕ) (old : Option (List ℕ)) (place : ℕ) (now : Stand) (left new : Option (List ℕ)) (waits : List ℕ) → IsMidway script old place now left new waits → WritesSome old new (text (whole script))
   writes_some script old place now left new waits m =
@@ -191,7 +189,7 @@ module _ (index : List ℕ → List ℕ) (begin : Stand) where
           front = n.front ++ (line_played index now said).0;
           wrote = (
             begun,
-            lines_append n.front (line_played index now said).0 ∙ ap (λ (t : List ℕ). t ++ as_lines (line_played index now said).0) parts ∙ append_assoc begun waits (as_lines (line_played index now said).0)
+            more-lines n.front (line_played index now said).0 ∙ ap (λ (t : List ℕ). t ++ as_lines (line_played index now said).0) parts ∙ append_assoc begun waits (as_lines (line_played index now said).0)
                 ∙ ap (λ (t : List ℕ). begun ++ (waits ++ t)) (sym same) ∙ ap (λ (t : List ℕ). begun ++ t) (sym grows),
             appends,
           );

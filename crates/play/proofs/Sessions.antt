@@ -14,6 +14,7 @@ use Rattle.epochs.specs.DirectoryStates.{HasKeysOf}
 use Rattle.wire.specs.Frames.{Frame, frame_bytes}
 use Rattle.wire.specs.Streams.{Remainder, Message, Rest, Failed, Whole, BadFrame, with_more, AreBytes, TakesMessage}
 use Rattle.wire.proofs.Frames.{frame_field}
+use Rattle.wire.proofs.Streams.{more-bytes}
 use Rattle.book.specs.declared.keeper.NoKeeper.{NoKeeper}
 use Rattle.book.specs.Keeps.{KeepsNothing, NeverFails}
 use Rattle.hub.specs.declared.hub_refusal.HubRefusal.{HubRefusal}
@@ -103,10 +104,6 @@ from_all (entry ∷ more) are = (are.0, from_all more are.1)
 no_bytes : IsBytes []
 no_bytes k = omega arith
 
-more_bytes : (held : Remainder) (piece : List ℕ) → AreBytes held → IsBytes piece → AreBytes (with_more held piece)
-more_bytes (Rest bytes) piece are small = IsBytes-append bytes piece are small
-more_bytes Failed piece are small = tt
-
 takes_bytes : (held : Remainder) (message : Message) (after : Remainder) → AreBytes held → TakesMessage held message after → AreBytes after × HasFrameBytes message
 takes_bytes (Rest bytes) (Whole frame) after are (left, read, same) =
     let spelled = frame_field.spelled bytes (frame, left) are read in
@@ -140,7 +137,7 @@ module _ {S : Type 0} (answers : S → Frame → List ℕ → S → Type 0) wher
   does_bytes before after (Bytes session piece) exchanges are small (held, left, here, set, exchanged, spent) =
       let all = to_all before.sessions are in
       let p = is_at (nat_cmp session) in
-      let it = exchanges_bytes before.service (with_more held piece) exchanges after.service left (more_bytes held piece (all_found AreBytes p before.sessions held all here) small) exchanged in
+      let it = exchanges_bytes before.service (with_more held piece) exchanges after.service left (more-bytes held piece (all_found AreBytes p before.sessions held all here) small) exchanged in
       (subst HoldBytes (sym set) (from_all _ (all_set AreBytes p before.sessions left all it.0)), it.1)
   does_bytes before after (End session) exchanges are small (none, same) = (
     subst (λ (h : HubState S). HoldBytes h.sessions) (sym same) (from_all _ (all_removed AreBytes (is_at (nat_cmp session)) before.sessions (to_all before.sessions are))),

@@ -48,7 +48,7 @@ use Rattle.play.specs.Lines.{as_lines, is_double, refused_proof}
 use Rattle.play.specs.Parties.{Parties, book_of, provider_of, AreAt, HasAsked, IsWatcher}
 use Rattle.play.specs.Played.{Stand}
 use Rattle.play.specs.Steps.{HasStepped, Watches}
-use Rattle.play.specs.Telling.{place_text, step_text}
+use Rattle.play.specs.Telling.{placed_text, step_text}
 use Rattle.play.specs.Watchers.{ahead, alarm_key, same_key, verdict_text, watched_text, Watcher}
 use Rattle.play.proofs.Ahead.{above-all, first-ahead}
 use Rattle.play.proofs.Calling.{in-roots, rooted-epoch}
@@ -105,8 +105,8 @@ told-text watcher page epoch Kept is tells =
     ap (λ (e : ℕ). step_text watcher.name e Kept) is
     ∙ sym (ap (by-test watcher page) (same-keys (key_at page watcher.name) (expected watcher.watch page.epoch) tells))
 told-text watcher page epoch (Alarm at found) is (differs, of, states) =
-    ap (λ (e : ℕ). place_text (codes "alarm ") watcher.name e ++ codes " " ++ alarm_key (key_stated found)) of
-    ∙ ap (λ (key : Option (List ℕ)). place_text (codes "alarm ") watcher.name page.epoch ++ codes " " ++ alarm_key key) states
+    ap (λ (e : ℕ). placed_text (codes "alarm ") watcher.name e ++ codes " " ++ alarm_key (key_stated found)) of
+    ∙ ap (λ (key : Option (List ℕ)). placed_text (codes "alarm ") watcher.name page.epoch ++ codes " " ++ alarm_key key) states
     ∙ sym (ap (by-test watcher page) (false_from_ne_true (same_key (key_at page watcher.name) (expected watcher.watch page.epoch)) (λ e. differs (keys-same (key_at page watcher.name) (expected watcher.watch page.epoch) e))))
 
 refused-text : (why : ProofRefusal) → why ≡ proof.SameIndex → codes "client refuses proof " ++ decimal (reply_refusal_number why) ≡ refused_proof

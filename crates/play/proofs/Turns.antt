@@ -47,7 +47,7 @@ use Rattle.play.specs.Played.{answered}
 use Rattle.play.specs.Scripts.{token}
 use Rattle.play.specs.Telling.{AreFramesOf, HaveMemory, HeardFrame}
 use Rattle.play.proofs.Calling.{rooted-epoch}
-use Rattle.play.proofs.Hearing.{away-asks, reached-asks}
+use Rattle.play.proofs.Hearing.{away-asks, reached-asks, previous-epoch}
 
 -- ---- the epoch of a body that is spelled
 
@@ -60,34 +60,7 @@ same_epoch one other rest more fits also same =
     let numbers = (same_number_bytes 8 one.epoch other.epoch (tail one ++ rest) (tail other ++ more) parts).0 in
     sym (number-of_bytes 8 one.epoch (omega (arith, fits))) ∙ ap (big_number 8) numbers ∙ number-of_bytes 8 other.epoch (omega (arith, also))
 
--- ---- the root of the last page
-
--- the epoch of the last of these pages, or this one if there is none
-abbrev epoch_behind : ℕ → List Page → ℕ
-epoch_behind epoch [] = epoch
-epoch_behind epoch (page ∷ more) = epoch_behind page.epoch more
-
-behind_last : (epoch : ℕ) (page : Page) (more : List Page) → epoch_behind epoch (page ∷ more) ≡ last_epoch (page ∷ more)
-behind_last epoch page [] = refl
-behind_last epoch page (next ∷ more) = behind_last page.epoch next more
-
-behind_pages : (earlier : List Page) → epoch_behind 0 earlier ≡ last_epoch earlier
-behind_pages [] = refl
-behind_pages (page ∷ more) = behind_last 0 page more
-
 module _ (provider : Provider) where
-  last_behind : (epoch : ℕ) (before : List ℕ) (earlier : List Page) (last : Page)
-      → (root : SignedRoot) × Contains (sealed_behind provider epoch before (earlier ++ last ∷ [])) (record { page = last; root = root }) × (root.body.previous_epoch ≡ epoch_behind epoch earlier)
-  last_behind epoch before [] last = (signed provider (body_behind provider epoch before last), Contains-push [] _, refl)
-  last_behind epoch before (page ∷ more) last =
-      let t = last_behind page.epoch (provider.hash (body_bytes (body_behind provider epoch before page))) more last in
-      (t.0, later-there _ _ _ t.1, t.2)
-
-  pub last_previous : (book : Book) (root : SignedRoot) → AllPairs IsBefore (pages book) → IsRootOf provider book book.last root → root.body.previous_epoch ≡ last_epoch book.earlier
-  last_previous book root ascend rooted =
-      let t = last_behind 0 (replicate 32 0) book.earlier book.last in
-      ap (λ (r : SignedRoot). r.body.previous_epoch) (one-root provider book ascend book.last root t.0 rooted t.1) ∙ t.2 ∙ behind_pages book.earlier
-
   -- ---- texts
 
   promised_text : (after : Book) (answer : Answer) (signed : SignedPromise) (name : List ℕ) (binding : Binding) (root : SignedRoot) → answer ≡ Promised name binding → IsRootOf provider after after.last root
@@ -122,7 +95,7 @@ module _ (provider : Provider) where
   last_text after answer page root is ascend last rooted =
       let of_last : IsRootOf provider after after.last root = subst (λ (p : Page). IsRootOf provider after p root) last rooted in
       ap (answer_text after) is
-      ∙ ap₂ (λ (n m : ℕ). codes "root " ++ decimal n ++ codes " after " ++ decimal m) (sym (rooted-epoch provider after after.last root of_last)) (sym (last_previous after root ascend of_last))
+      ∙ ap₂ (λ (n m : ℕ). codes "root " ++ decimal n ++ codes " after " ++ decimal m) (sym (rooted-epoch provider after after.last root of_last)) (sym (previous-epoch provider after ascend root of_last))
 
   -- ---- the last page is what is told as the last
 

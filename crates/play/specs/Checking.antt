@@ -46,8 +46,8 @@ TellsStep name page (Err (monitor.Client why)) line = TellsRefusal why line
 TellsStep name page (Err monitor.OtherPromise) line = ⊥
 
 -- the line of a monitor at a page
-abbrev pub step_text : (List ℕ → List ℕ) → Watcher → Page → List ℕ
-step_text index_of watcher page = if is_double index_of page watcher.name then refused_proof else watched_text watcher page
+abbrev pub watcher_text : (List ℕ → List ℕ) → Watcher → Page → List ℕ
+watcher_text index_of watcher page = if is_double index_of page watcher.name then refused_proof else watched_text watcher page
 
 -- ---- what an honest provider's users make of its replies
 
@@ -72,4 +72,4 @@ module _ (provider : Provider) (accepted verified : List ℕ → List ℕ → Li
       → (watching later : Monitor) (result : Result Step monitors.Refusal) → watching.name ≡ watcher.name → watching.watch ≡ watcher.watch
       → IsChain provider.hash verified watching.client.chain → IsNext watching root
       → Steps provider.hash accepted watching text result later
-      → TellsStep watcher.name page result (step_text (index_of provider) watcher page)
+      → TellsStep watcher.name page result (watcher_text (index_of provider) watcher page)

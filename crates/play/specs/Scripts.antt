@@ -131,8 +131,7 @@ ask_seen (ask.Promise name) = Query (Promise name.items)
 ask_seen (ask.Lookup name epoch) = Query (Lookup name.items epoch)
 ask_seen (ask.History from count) = Query (History from count)
 ask_seen ask.Head = Query Head
-ask_seen (ask.Close epoch) = Turn token epoch None
-ask_seen (ask.Rotate epoch nonce) = Turn token epoch (Some nonce)
+ask_seen (ask.Turn epoch nonce) = Turn token epoch nonce
 
 abbrev pub line_seen : LineMade → ScriptLine
 line_seen line.Pass = Pass

@@ -15,13 +15,13 @@ use Rattle.play.specs.Lines.{of_session}
 use Rattle.play.specs.Watchers.{alarm_key}
 
 -- where a monitor of a name is
-abbrev pub place_text : List ℕ → List ℕ → ℕ → List ℕ
-place_text word name epoch = word ++ encode_lower name ++ codes " " ++ decimal epoch
+abbrev pub placed_text : List ℕ → List ℕ → ℕ → List ℕ
+placed_text word name epoch = word ++ encode_lower name ++ codes " " ++ decimal epoch
 
 -- a step of a monitor of a name at an epoch
 abbrev pub step_text : List ℕ → ℕ → Step → List ℕ
-step_text name epoch Kept = place_text (codes "kept ") name epoch
-step_text name epoch (Alarm at found) = place_text (codes "alarm ") name at ++ codes " " ++ alarm_key (key_stated found)
+step_text name epoch Kept = placed_text (codes "kept ") name epoch
+step_text name epoch (Alarm at found) = placed_text (codes "alarm ") name at ++ codes " " ++ alarm_key (key_stated found)
 
 -- ---- what a session hears
 

@@ -42,12 +42,9 @@ pub enum Ask {
         count: u16,
     },
     Head,
-    Close {
+    Turn {
         epoch: u64,
-    },
-    Rotate {
-        epoch: u64,
-        nonce: Hash32,
+        nonce: Option<Hash32>,
     },
 }
 
@@ -71,13 +68,13 @@ impl Ask {
                 epoch: *epoch,
             })
             .fits(),
-            Ask::Rotate { epoch, nonce } => Request::Turn {
+            Ask::Turn { epoch, nonce } => Request::Turn {
                 token: token(),
                 epoch: *epoch,
-                nonce: Some(*nonce),
+                nonce: *nonce,
             }
             .fits(),
-            Ask::History { .. } | Ask::Head | Ask::Close { .. } => true,
+            Ask::History { .. } | Ask::Head => true,
         }
     }
 
@@ -106,16 +103,10 @@ impl Ask {
             })
             .write(output),
             Ask::Head => Request::Query(Query::Head).write(output),
-            Ask::Close { epoch } => Request::Turn {
+            Ask::Turn { epoch, nonce } => Request::Turn {
                 token: token(),
                 epoch: *epoch,
-                nonce: None,
-            }
-            .write(output),
-            Ask::Rotate { epoch, nonce } => Request::Turn {
-                token: token(),
-                epoch: *epoch,
-                nonce: Some(*nonce),
+                nonce: *nonce,
             }
             .write(output),
         }
@@ -188,7 +179,7 @@ fn read_close(behind: Option<&[u8]>) -> Option<Ask>
     ensures { option_map asked_line result ≡ with_one_word epoch_word (λ epoch. asking (asks.Turn token epoch None)) (words_behind (option_map (λ text. text.now) behind.entry)) }
 {
     let epoch = read_epoch(one_word(behind)?)?;
-    fitting(Ask::Close { epoch })
+    fitting(Ask::Turn { epoch, nonce: None })
 }
 
 /// `rotate EPOCH NONCE`
@@ -198,7 +189,10 @@ fn read_rotate(behind: Option<&[u8]>) -> Option<Ask>
     let (epoch, nonce) = two_words(behind)?;
     let epoch = read_epoch(epoch)?;
     let nonce = Hash32::new(hex32(nonce)?);
-    fitting(Ask::Rotate { epoch, nonce })
+    fitting(Ask::Turn {
+        epoch,
+        nonce: Some(nonce),
+    })
 }
 
 /// `register NAME KEY`, `change NAME KEY`

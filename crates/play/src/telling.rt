@@ -12,7 +12,7 @@ ghost use Rattle.client.specs.declared.client_refusal.Refusal.TheVariants as cli
 ghost use Rattle.play.specs.Lines.{statement_text};
 ghost use Rattle.play.specs.Watchers.{alarm_key};
 ghost use Rattle.play.specs.Hearing.{response_text};
-ghost use Rattle.play.specs.Telling.{place_text, step_text};
+ghost use Rattle.play.specs.Telling.{placed_text, step_text};
 ghost use Rattle.play.specs.Wanting.{IsOfLook};
 
 use itoa::Buffer;
@@ -162,7 +162,7 @@ fn tell_found(text: &mut Vec<u8>, found: Statement<'_>) -> Result<(), AllocError
 }
 
 fn tell_place(text: &mut Vec<u8>, word: &[u8], name: &[u8], epoch: u64) -> Result<(), AllocError>
-    ensures ok { OnOk result (text.new.items ≡ text.old.items ++ place_text word.now name.now epoch) }
+    ensures ok { OnOk result (text.new.items ≡ text.old.items ++ placed_text word.now name.now epoch) }
     ensures grows { StartsWith text.new.items text.old.items }
 {
     text.extend_from_slice(word)?;

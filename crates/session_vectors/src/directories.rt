@@ -1,5 +1,6 @@
 //! Of `epochs`: a directory, which stays for the next lines, and runs of fresh ones.
 
+use crate::hubs::refuse;
 use crate::journals;
 use book::{NoKeeper, Record, Refusal, Reply};
 use commands::{Command, Edit, Verb};
@@ -199,13 +200,6 @@ fn tell_replayed(case: &mut Case<'_>, replayed: Result<(), Refusal>) {
         Ok(()) => case.say("ok"),
         Err(why) => refuse(case, why),
     }
-}
-
-fn refuse(case: &mut Case<'_>, why: Refusal) {
-    if why == Refusal::Memory {
-        case.lack_memory();
-    }
-    case.refuse(why.number(), why);
 }
 
 /// Keeps the directory that was made, and tells its root.

@@ -1,8 +1,6 @@
 //! Of `monitor`: a monitor, which stays for the next lines. It takes the client.
 
-use crate::clients::{
-    KeyedClients, reconcile_both, refuse as refuse_client, say_cause, tell_done,
-};
+use crate::clients::{KeyedClients, reconcile_both, refuse as refuse_client, say_cause, tell_done};
 use crate::feeds;
 use crate::stand_ins::{AnySign, Functions, keyed};
 use crate::telling::say_option;

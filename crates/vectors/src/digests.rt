@@ -3,11 +3,8 @@ ghost use Rattle.lanes.specs.TwoBlocks.{HasTwoBlocks};
 
 use encoding::Hash32;
 use lanes::sha256_four;
-use nodehash::{NodeHash, NodeText, Sha256Hash, SumHash, keyed_digest};
+use nodehash::{LEAF_LEN, NodeHash, NodeText, Sha256Hash, SumHash, keyed_digest};
 use questions::Case;
-
-/// The room of a node's text.
-const NODE_TEXT: usize = 101;
 
 pub(crate) fn answer(case: &mut Case<'_>, verb: &[u8]) {
     match verb {
@@ -52,7 +49,7 @@ fn all<H: NodeHash>(case: &mut Case<'_>, hash: &mut H) {
 fn node_text(case: &mut Case<'_>) -> NodeText {
     let mut text = NodeText::new();
     let bytes = case.bytes();
-    if bytes.len() <= NODE_TEXT {
+    if bytes.len() <= LEAF_LEN {
         text.push_slice(bytes);
     } else {
         case.spoil();

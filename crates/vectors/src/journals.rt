@@ -20,7 +20,7 @@ pub(crate) fn answer(case: &mut Case<'_>) {
     }
 }
 
-/// `start ROOM EPOCH NONCE SIGNATURE-KEY VUF-KEY`
+/// `start ROOM EPOCH NONCE SIGNING-KEY VUF-KEY`
 fn start(case: &mut Case<'_>) {
     let room = case.number_to(ROOM);
     let what = Record::Start {

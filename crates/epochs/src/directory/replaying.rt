@@ -1,9 +1,13 @@
+// A record is carried out as the call that it was kept of, by the same private functions, under its own salt and
+// over a keeper of nothing. So no record is kept, the salts to come stay, and the roots are the same bytes.
+
 ghost use Rattle.std.specs.Prelude.{◌≡◌, ◌+◌, ◌≤◌, IsSome};
 ghost use Rattle.commands.specs.declared.edit.Verb.TheVariants.{Change, Register};
 ghost use Rattle.book.specs.declared.record.Record.TheVariants.{Bound, Turned};
 ghost use Rattle.book.specs.Steps.{kept_edit};
 ghost use Rattle.book.specs.Shows.{index_of as index_by};
 ghost use Rattle.epochs.specs.DirectoryStates.{book, provider, HasKeysOf};
+ghost use Rattle.epochs.specs.declared.foreseen.TheConstants.{AT_ONCE};
 ghost use Rattle.epochs.specs.Replayed.{address_digests, replay_digests, Replays};
 
 use super::Directory;
@@ -21,7 +25,7 @@ impl<H: NodeHash, V: Vuf, S: Signer, R: Rng> Directory<H, V, S, R> {
     /// commitments: these are digested at once. What is replayed instead is carried out as ever.
     pub fn foresee(&mut self, texts: [NodeText; AT_ONCE])
         ensures stays { self.new ≡ record self.old { digests = self.new.digests } }
-        ensures work { self.new.digests ≤ self.old.digests + 4 }
+        ensures work { self.new.digests ≤ self.old.digests + AT_ONCE }
     {
         self.foreseen = Foreseen::digested(&mut self.hash, texts);
     }
@@ -102,6 +106,7 @@ impl<H: NodeHash, V: Vuf, S: Signer, R: Rng> Directory<H, V, S, R> {
         ensures keys { HasKeysOf self.old self.new }
         ensures work { self.new.digests ≤ self.old.digests + 1 }
     {
+        // As above.
         name.bytes();
         key.bytes();
         match self.rebind(&mut NoKeeper, what, name, key, salt) {

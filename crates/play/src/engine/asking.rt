@@ -1,3 +1,6 @@
+// What a line asks goes as one frame to session 0 of the hub, and the frame that comes back is told. A proof is
+// told by what the client makes of it, and a promise also goes on to the monitors of its name.
+
 ghost use Rattle.std.specs.Prelude.{◌≡◌, ◌≢◌, ◌==◌, ◌++◌, ◌∷◌, [], if◌then◌else◌, IfOk, List, OnOk};
 ghost use Rattle.commands.specs.declared.edit.Verb.{Verb};
 ghost use Rattle.wire.specs.Frames.{frame_bytes, Frame, IsFrame};
@@ -234,6 +237,7 @@ where
         let Ok(name) = Name::new(name) else {
             unreachable!()
         };
+        // What this ensures: an honest reply is accepted, but for a double index.
         honest::<V, S>();
         let checks = &mut self.checks;
         match self

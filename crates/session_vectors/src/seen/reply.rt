@@ -1,6 +1,6 @@
 //! The reply in a frame.
 
-use rootchain::Body;
+use rootchain::{BODY_LEN, Body};
 
 /// The body of a frame.
 pub(crate) fn body_of(frame: &[u8]) -> &[u8] {
@@ -10,12 +10,9 @@ pub(crate) fn body_of(frame: &[u8]) -> &[u8] {
     }
 }
 
-/// The bytes of a root's body, at the front of a proof.
-const BODY: usize = 146;
-
-/// The epoch of a proof.
+/// The epoch of a proof, whose front is a root's body.
 pub(crate) fn proof_epoch(proof: &[u8]) -> u64 {
-    let Some(front) = proof.get(..BODY) else {
+    let Some(front) = proof.get(..BODY_LEN) else {
         return 0;
     };
     match Body::read(front) {

@@ -1,11 +1,10 @@
 //! The lines of what users see, in the words of scripts.
 
-use crate::seen::reply::proof_epoch;
 use auditor::Evidence;
 use audits::evidence_json;
 use client::Refusal;
 use proofs::Statement;
-use rootchain::{RootEvidence, RootList};
+use rootchain::RootEvidence;
 use std::alloc::Global;
 use std::fmt::Display;
 use std::io::Write;
@@ -66,17 +65,6 @@ impl Printed {
         }
     }
 
-    /// Bytes in digits, as a word of the line.
-    pub(crate) fn say_bytes(&mut self, bytes: &[u8]) {
-        self.push_gap();
-        for byte in bytes {
-            let mut digits = [0; 2];
-            let fits = hex::encode_to_slice(&[*byte], &mut digits).is_ok();
-            prove!(fits);
-            self.push(&digits);
-        }
-    }
-
     pub(crate) fn end_line(&mut self) {
         self.push(b"\n");
     }
@@ -85,54 +73,20 @@ impl Printed {
 /// Tells a response. A proof is told by its epoch alone.
 pub(crate) fn tell_response(printed: &mut Printed, kind: u8, body: &[u8]) {
     match Response::read(kind, body) {
-        Ok(Response::Promise(signed)) => {
-            printed.say("promise");
-            printed.say_shown(signed.promise.epoch);
+        Ok(response) => {
+            if play::tell_response(&mut printed.text, response).is_err() {
+                printed.lack_memory();
+            }
         }
-        Ok(Response::Proof(_)) => {
-            printed.say("proof");
-            printed.say_shown(proof_epoch(body));
-        }
-        Ok(Response::Roots(list)) => say_roots(printed, list),
-        Ok(Response::Root(root)) => {
-            printed.say("root");
-            printed.say_shown(root.body.epoch);
-            printed.say("after");
-            printed.say_shown(root.body.previous_epoch);
-        }
-        Ok(Response::Refused(code)) => {
-            printed.say("refused");
-            printed.say_shown(code);
-        }
-        Err(_) => {}
-    }
-    printed.end_line();
-}
-
-fn say_roots(printed: &mut Printed, roots: RootList<'_>) {
-    let mut list = roots;
-    printed.say("roots");
-    for _ in 0..list.len() {
-        if let Some(root) = list.next() {
-            printed.say_shown(root.body.epoch);
-        }
+        Err(_) => printed.end_line(),
     }
 }
 
 /// Tells what the client accepted at an epoch.
 pub(crate) fn tell_statement(printed: &mut Printed, epoch: u64, statement: Statement<'_>) {
-    match statement {
-        Statement::Present(key) => {
-            printed.say("present");
-            printed.say_shown(epoch);
-            printed.say_bytes(key);
-        }
-        Statement::Absent => {
-            printed.say("absent");
-            printed.say_shown(epoch);
-        }
+    if play::tell_statement(&mut printed.text, epoch, statement).is_err() {
+        printed.lack_memory();
     }
-    printed.end_line();
 }
 
 /// Tells that the client refuses.

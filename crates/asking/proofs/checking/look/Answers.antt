@@ -17,5 +17,5 @@ returns-in-Err-clause-tells g c =
 
 pub returns-in-Err-clause-client : goal.returns-in-Err-clause-client
 returns-in-Err-clause-client g c =
-    let looks = subst (λ (name : List ℕ). Looks g.H.NodeHash.digest_of g.V.VufCheck.accepted c.args.client.now name c.args.epoch c.args.reply.now (Err c.in-Err.why) c.look.new.self) c.in-Ok.ensures.value c.in-Err.ensures in
+    let looks = subst (λ (name : List ℕ). Looks g.H.NodeHash.digest_of g.V.VufCheck.accepted c.args.client.now name c.args.epoch c.args.reply.now (Err c.in-Err.why) c.look.new.self) c.in-Ok.ensures.value c.in-Err.ensures.looks in
     inl (looks_same g.H.NodeHash.digest_of g.V.VufCheck.accepted c.args.client.now c.look.new.self c.args.name.now c.args.epoch c.args.reply.now c.in-Err.why looks)
