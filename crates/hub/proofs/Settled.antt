@@ -18,7 +18,7 @@ use Rattle.wire.specs.Responses as response
 use Rattle.wire.specs.Responses.{proof_frame, response_frame}
 use Rattle.wire.specs.Streams.{Message, Whole, BadFrame}
 use Rattle.wire.proofs.Requests.{one_request}
-use Rattle.hub.specs.Desks.{command, reply_frame, IsRead}
+use Rattle.hub.specs.Desks.{command, or_not_operator, reply_frame, IsRead}
 use Rattle.hub.specs.DeskRuns.{IsTurnedAway, Reaches, RefuseAlike, ShowReplies}
 use Rattle.hub.specs.Exchanges.{refused_frame}
 use Rattle.hub.specs.Runs.{Line, asked_by}
@@ -46,12 +46,8 @@ asks asked = Ok asked
 abbrev refuses : ℕ → Meant
 refuses code = Err code
 
-abbrev unless_none : Option Operation → Meant
-unless_none None = Err 12
-unless_none (Some asked) = Ok asked
-
 abbrev meant : List ℕ → Result request.RequestContent ReadRefusal → Meant
-meant token (Ok requested) = unless_none (command token requested)
+meant token (Ok requested) = or_not_operator (command token requested)
 meant token (Err refusal) = Err (read_refusal_number refusal)
 
 abbrev IsMeant : List ℕ → Message → Meant → Type 0
@@ -59,9 +55,9 @@ IsMeant token message (Ok asked) = Reaches token message asked
 IsMeant token message (Err code) = IsTurnedAway token message code
 
 whole_meant : (token : List ℕ) (frame : Frame) (one : Meant) → IsMeant token (Whole frame) one → (read : Result request.RequestContent ReadRefusal) × IsRead frame read × (one ≡ meant token read)
-whole_meant token frame (Ok asked) (requested, read, is) = (Ok requested, read, sym (ap unless_none is))
+whole_meant token frame (Ok asked) (requested, read, is) = (Ok requested, read, sym (ap or_not_operator is))
 whole_meant token frame (Err code) (inl (refusal, read, is)) = (Err refusal, read, ap (λ (n : ℕ). Err n) is)
-whole_meant token frame (Err code) (inr (requested, read, none, is)) = (Ok requested, read, ap (λ (n : ℕ). Err n) is ∙ sym (ap unless_none none))
+whole_meant token frame (Err code) (inr (requested, read, none, is)) = (Ok requested, read, ap (λ (n : ℕ). Err n) is ∙ sym (ap or_not_operator none))
 
 meant_once : (token : List ℕ) (message : Message) (one other : Meant) → IsMeant token message one → IsMeant token message other → one ≡ other
 meant_once token BadFrame (Ok asked) other is also = absurd is
