@@ -15,7 +15,7 @@ use Rattle.hub.proofs.Owning.{of_other, own_asked, own_told, same_is, sessions_h
 abbrev Sent : Type 0
 Sent = ℕ × Message
 
-same_cons : {X : Type 0} (x y : X) (xs ys : List X) → x ∷ xs ≡ y ∷ ys → (x ≡ y) × (xs ≡ ys)
+pub same_cons : {X : Type 0} (x y : X) (xs ys : List X) → x ∷ xs ≡ y ∷ ys → (x ≡ y) × (xs ≡ ys)
 same_cons x y xs ys same = (cc, cc)
 
 own_more : (session : ℕ) (one : Sent) (more : List Sent) → (one.0 == session) ≡ true → messages_of session (one ∷ more) ≡ one.1 ∷ messages_of session more

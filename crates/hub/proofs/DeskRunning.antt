@@ -56,7 +56,7 @@ module _ {R K : Type 0} (digest_of : List ℕ → List ℕ) (value_of signature_
   one_more : (before middle after : DeskState R K) (session : ℕ) (message : Message) (reply : List ℕ) (more : List Line)
       → Replies (DeskAnswers digest_of value_of signature_of stream kept failed) before message reply middle → Shown middle more after
       → Shown before (record { session = session; message = message; reply = reply } ∷ more) after
-  one_more before middle after session BadFrame reply more (says, same) shown = away before middle after (record { session = session; message = BadFrame; reply = reply }) more 1 refl says same shown
+  one_more before middle after session BadFrame reply more (says, same) shown = away before middle after (record { session = session; message = BadFrame; reply = reply }) more _ refl says same shown
   one_more before middle after session (Whole frame) reply more (Err refusal, read, (says, same)) shown =
       away before middle after (record { session = session; message = Whole frame; reply = reply }) more _ (inl (refusal, read, refl)) says same shown
   one_more before middle after session (Whole frame) reply more (Ok requested, read, serves) shown = by_command (command before.token requested) refl serves
@@ -65,7 +65,7 @@ module _ {R K : Type 0} (digest_of : List ℕ → List ℕ) (value_of signature_
       line = record { session = session; message = Whole frame; reply = reply }
 
       by_command : (asked : Option Operation) → command before.token requested ≡ asked → Commanded digest_of value_of signature_of stream kept failed before asked reply middle → Shown before (line ∷ more) after
-      by_command None is (says, same) = away before middle after line more 12 (inr (requested, read, is, refl)) says same shown
+      by_command None is (says, same) = away before middle after line more _ (inr (requested, read, is, refl)) says same shown
       by_command (Some asked) is commanded = reached before middle after line more asked (requested, read, is) commanded shown
 
   pub lines_show_run : (before : DeskState R K) (lines : List Line) (after : DeskState R K) → AllAnswered (DeskAnswers digest_of value_of signature_of stream kept failed) before lines after → Shown before lines after

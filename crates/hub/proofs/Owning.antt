@@ -9,7 +9,8 @@ use Rattle.std.specs.Ordering.{nat_cmp}
 use Rattle.std.specs.BTreeMap.{is_at}
 use Rattle.rootchain.specs.TakingPieces.{joined}
 use Rattle.wire.specs.Frames.{Frame}
-use Rattle.wire.specs.Streams.{Remainder, Message, Rest, Failed, messages, with_more}
+use Rattle.wire.specs.Streams.{Remainder, Message, Rest, messages, with_more}
+use Rattle.wire.proofs.Streams.{with_more-append}
 use Rattle.hub.specs.declared.hub_refusal.HubRefusal.{HubRefusal}
 use Rattle.hub.specs.declared.hub_refusal.HubRefusal.TheVariants.{TooManySessions, SessionOpen, NoSession}
 use Rattle.hub.specs.Events.{Happening, Open, Bytes, End, at_session, due, number}
@@ -39,10 +40,6 @@ fresh_messages : (held : Remainder) (ps : List (List ℕ)) → more_messages (un
 fresh_messages held [] = refl
 fresh_messages held (piece ∷ more) = refl
 
-with_more_append : (held : Remainder) (piece more : List ℕ) → with_more (with_more held piece) more ≡ with_more held (piece ++ more)
-with_more_append (Rest bytes) piece more = ap Rest (append_assoc bytes piece more)
-with_more_append Failed piece more = refl
-
 piece_counted : (stream : Stream) (piece : List ℕ) → IsCounted (with_piece stream piece)
 piece_counted stream piece = omega arith
 
@@ -63,7 +60,7 @@ piece_more stream piece (next ∷ more) counted =
     ∙ ap (λ (t : List Message). drop count now ++ t) (drop-append_seam now all.0)
     ∙ sym (drop-append-le count now all.0 few)
     ∙ ap (drop count) (sym all.1)
-    ∙ ap (λ (h : Remainder). drop count (messages h).0) (with_more_append stream.came piece rest)
+    ∙ ap (λ (h : Remainder). drop count (messages h).0) (with_more-append stream.came piece rest)
 
 -- ---- the messages of one session
 

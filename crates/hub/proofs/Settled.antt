@@ -1,5 +1,5 @@
 -- The messages settle the lines, where the calls fail alike.
-use Rattle.std.proofs.Common.{◌≡◌, ℕ, List, [], ◌∷◌, drop, get_or, map, Option, Some, None, Result, Ok, Err, refl, sym, ap, ap₂, subst, subst₂, ◌∙◌, inl, inr, arith}
+use Rattle.std.proofs.Common.{◌≡◌, ℕ, List, [], ◌∷◌, drop, get_or, map, Result, Ok, Err, refl, sym, ap, ap₂, subst, subst₂, ◌∙◌, inl, inr, arith}
 use Rattle.std.specs.List.{AllZip}
 use Rattle.book.specs.declared.reply.Reply.{Reply}
 use Rattle.book.specs.declared.reply.Reply.TheVariants as reply
@@ -18,10 +18,11 @@ use Rattle.wire.specs.Responses as response
 use Rattle.wire.specs.Responses.{proof_frame, response_frame}
 use Rattle.wire.specs.Streams.{Message, Whole, BadFrame}
 use Rattle.wire.proofs.Requests.{one_request}
-use Rattle.hub.specs.Desks.{command, reply_frame, IsRead}
+use Rattle.hub.specs.Desks.{command, or_not_operator, reply_frame, IsRead}
 use Rattle.hub.specs.DeskRuns.{IsTurnedAway, Reaches, RefuseAlike, ShowReplies}
 use Rattle.hub.specs.Exchanges.{refused_frame}
 use Rattle.hub.specs.Runs.{Line, asked_by}
+use Rattle.hub.proofs.Cutting.{same_cons}
 
 -- ---- a message means one thing
 
@@ -46,12 +47,8 @@ asks asked = Ok asked
 abbrev refuses : ℕ → Meant
 refuses code = Err code
 
-abbrev unless_none : Option Operation → Meant
-unless_none None = Err 12
-unless_none (Some asked) = Ok asked
-
 abbrev meant : List ℕ → Result request.RequestContent ReadRefusal → Meant
-meant token (Ok requested) = unless_none (command token requested)
+meant token (Ok requested) = or_not_operator (command token requested)
 meant token (Err refusal) = Err (read_refusal_number refusal)
 
 abbrev IsMeant : List ℕ → Message → Meant → Type 0
@@ -59,9 +56,9 @@ IsMeant token message (Ok asked) = Reaches token message asked
 IsMeant token message (Err code) = IsTurnedAway token message code
 
 whole_meant : (token : List ℕ) (frame : Frame) (one : Meant) → IsMeant token (Whole frame) one → (read : Result request.RequestContent ReadRefusal) × IsRead frame read × (one ≡ meant token read)
-whole_meant token frame (Ok asked) (requested, read, is) = (Ok requested, read, sym (ap unless_none is))
+whole_meant token frame (Ok asked) (requested, read, is) = (Ok requested, read, sym (ap or_not_operator is))
 whole_meant token frame (Err code) (inl (refusal, read, is)) = (Err refusal, read, ap (λ (n : ℕ). Err n) is)
-whole_meant token frame (Err code) (inr (requested, read, none, is)) = (Ok requested, read, ap (λ (n : ℕ). Err n) is ∙ sym (ap unless_none none))
+whole_meant token frame (Err code) (inr (requested, read, none, is)) = (Ok requested, read, ap (λ (n : ℕ). Err n) is ∙ sym (ap or_not_operator none))
 
 meant_once : (token : List ℕ) (message : Message) (one other : Meant) → IsMeant token message one → IsMeant token message other → one ≡ other
 meant_once token BadFrame (Ok asked) other is also = absurd is
@@ -128,16 +125,13 @@ failed_frame told s same = ap frame_bytes (frame_is told ∙ ap seen_frame same)
 -- ---- lines
 
 module _ (token : List ℕ) where
-  consed : {X : Type 0} (x y : X) (xs ys : List X) → x ∷ xs ≡ y ∷ ys → (x ≡ y) × (xs ≡ ys)
-  consed x y xs ys same = (cc, cc)
-
   heads : (line other : Line) (more rest : List Line) → map asked_by (line ∷ more) ≡ map asked_by (other ∷ rest)
       → (line.session ≡ other.session) × (line.message ≡ other.message) × (map asked_by more ≡ map asked_by rest)
   heads line other more rest same =
-      let e = consed (asked_by line) (asked_by other) (map asked_by more) (map asked_by rest) same in (ap (λ (p : ℕ × Message). p.0) e.0, ap (λ (p : ℕ × Message). p.1) e.0, e.1)
+      let e = same_cons (asked_by line) (asked_by other) (map asked_by more) (map asked_by rest) same in (ap (λ (p : ℕ × Message). p.0) e.0, ap (λ (p : ℕ × Message). p.1) e.0, e.1)
 
   seen_heads : (a b : Reply) (xs ys : List Reply) → map reply_content (a ∷ xs) ≡ map reply_content (b ∷ ys) → (reply_content a ≡ reply_content b) × (map reply_content xs ≡ map reply_content ys)
-  seen_heads a b xs ys same = consed (reply_content a) (reply_content b) (map reply_content xs) (map reply_content ys) same
+  seen_heads a b xs ys same = same_cons (reply_content a) (reply_content b) (map reply_content xs) (map reply_content ys) same
 
   ok_once : (asked other : Operation) → asks asked ≡ asks other → asked ≡ other
   ok_once asked other same = cc

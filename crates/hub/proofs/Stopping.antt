@@ -19,34 +19,31 @@ pub if_err : {T E : Type 0} (r : Result T E) (P Q : Type 0) → OnErr r P → (P
 if_err (Ok done) P Q p next = tt
 if_err (Err e) P Q p next = next p
 
+-- the events in front of one of them, and those behind it
+around : {X : Type 0} (f : X → Happening) (events : List X) (k : ℕ) (d : X) → k < length events → map f events ≡ map f (take k events) ++ f (get_or events k d) ∷ map f (drop (suc k) events)
+around f events k d low =
+    ap (map f) (sym (take-append-drop k events) ∙ ap (λ t. take k events ++ t) (drop-cons events k d low)) ∙ map-append f (take k events) (get_or events k d ∷ drop (suc k) events)
+
 module _ {S : Type 0} (answers : S → Frame → List ℕ → S → Type 0) where
+  part_after : (after : HubState S) (events : List Happening) → IsPart answers after events after
+  part_after after [] = refl
+  part_after after (it ∷ more) = inl refl
+
+  -- what comes of an event: it is done or refused, or a first part of it is done
+  abbrev Comes : HubState S → Happening → HubState S → Type 0
+  Comes between it after = ((xs : List Exchange) × DoesUnlessRefused answers between it xs after) ⊎ IsPart answers between (it ∷ []) after
+
+  stopped_at : (before between after : HubState S) (done rest events : List Happening) (it : Happening) (ls : List Line) → events ≡ done ++ it ∷ rest → RunsSo answers before done ls between
+      → Comes between it after → Stops answers before events after
+  stopped_at before between after done rest events it ls split run (inl (xs, passes)) =
+      let more = run_more answers before done ls between it xs after run passes in
+      (done ++ it ∷ [], rest, ls ++ lines (number it) xs, after, split ∙ sym (append_assoc done (it ∷ []) rest), more.0, part_after after rest)
+  stopped_at before between after done rest events it ls split run (inr part) = (done, it ∷ rest, ls, between, split, run.0, part)
+
   pub stopped : {X : Type 0} (f : X → Happening) (before between after : HubState S) (events : List X) (k : ℕ) (d : X) → k < length events
-      → ((ls : List Line) × RunsSo answers before (map f (take k events)) ls between)
-      → ((xs : List Exchange) × DoesUnlessRefused answers between (f (get_or events k d)) xs after) ⊎ IsPart answers between (f (get_or events k d) ∷ []) after
-      → Stops answers before (map f events) after
-  stopped {X} f before between after events k d low (ls, run) came = by came
-    where
-      one : List Happening
-      one = map f (take k events)
-
-      it : Happening
-      it = f (get_or events k d)
-
-      rest : List Happening
-      rest = map f (drop (suc k) events)
-
-      split : map f events ≡ one ++ it ∷ rest
-      split = ap (map f) (sym (take-append-drop k events) ∙ ap (λ t. take k events ++ t) (drop-cons events k d low)) ∙ map-append f (take k events) (get_or events k d ∷ drop (suc k) events)
-
-      part_after : (events : List Happening) → IsPart answers after events after
-      part_after [] = refl
-      part_after (other ∷ more) = inl refl
-
-      by : ((xs : List Exchange) × DoesUnlessRefused answers between it xs after) ⊎ IsPart answers between (it ∷ []) after → Stops answers before (map f events) after
-      by (inl (xs, passes)) =
-          let more = run_more answers before one ls between it xs after run passes in
-          (one ++ it ∷ [], rest, ls ++ lines (number it) xs, after, split ∙ sym (append_assoc one (it ∷ []) rest), more.0, part_after rest)
-      by (inr part) = (one, it ∷ rest, ls, between, split, run.0, part)
+      → ((ls : List Line) × RunsSo answers before (map f (take k events)) ls between) → Comes between (f (get_or events k d)) after → Stops answers before (map f events) after
+  stopped f before between after events k d low (ls, run) =
+      stopped_at before between after (map f (take k events)) (map f (drop (suc k) events)) (map f events) (f (get_or events k d)) ls (around f events k d low) run
 
   -- the messages of a run are the first of a longer one
   pub runs_begin : (before between : HubState S) (done rest events : List Happening) (ls : List Line) → events ≡ done ++ rest → Runs answers before done ls between → BeginsRun answers before events between.service
@@ -88,31 +85,20 @@ module _ {S : Type 0} (answers : S → Frame → List ℕ → S → Type 0) wher
         ),
       )
 
+  begun_at : (before between after : HubState S) (done rest events : List Happening) (it : Happening) (ls : List Line) → events ≡ done ++ it ∷ rest → RunsSo answers before done ls between
+      → Comes between it after → BeginsRun answers before events after.service
+  begun_at before between after done rest events it ls split run (inl (xs, passes)) =
+      let more = run_more answers before done ls between it xs after run passes in
+      runs_begin before after (done ++ it ∷ []) rest events (ls ++ lines (number it) xs) (split ∙ sym (append_assoc done (it ∷ []) rest)) more.0
+  begun_at before between after done rest events it ls split run (inr (inl same)) =
+      subst (λ (h : HubState S). BeginsRun answers before events h.service) (sym same) (runs_begin before between done (it ∷ rest) events ls split run.0)
+  begun_at before between after done rest events it ls split run (inr (inr (session, piece, xs, is, answered))) =
+      piece_begins before between after done rest events ls session piece xs (split ∙ ap (λ (e : Happening). done ++ e ∷ rest) is) run answered
+
   pub begun : {X : Type 0} (f : X → Happening) (before between after : HubState S) (events : List X) (k : ℕ) (d : X) → k < length events
-      → ((ls : List Line) × RunsSo answers before (map f (take k events)) ls between)
-      → ((xs : List Exchange) × DoesUnlessRefused answers between (f (get_or events k d)) xs after) ⊎ IsPart answers between (f (get_or events k d) ∷ []) after
-      → BeginsRun answers before (map f events) after.service
-  begun {X} f before between after events k d low (ls, run) came = by came
-    where
-      one : List Happening
-      one = map f (take k events)
-
-      it : Happening
-      it = f (get_or events k d)
-
-      rest : List Happening
-      rest = map f (drop (suc k) events)
-
-      split : map f events ≡ one ++ it ∷ rest
-      split = ap (map f) (sym (take-append-drop k events) ∙ ap (λ t. take k events ++ t) (drop-cons events k d low)) ∙ map-append f (take k events) (get_or events k d ∷ drop (suc k) events)
-
-      by : ((xs : List Exchange) × DoesUnlessRefused answers between it xs after) ⊎ IsPart answers between (it ∷ []) after → BeginsRun answers before (map f events) after.service
-      by (inl (xs, passes)) =
-          let more = run_more answers before one ls between it xs after run passes in
-          runs_begin before after (one ++ it ∷ []) rest (map f events) (ls ++ lines (number it) xs) (split ∙ sym (append_assoc one (it ∷ []) rest)) more.0
-      by (inr (inl same)) = subst (λ (h : HubState S). BeginsRun answers before (map f events) h.service) (sym same) (runs_begin before between one (it ∷ rest) (map f events) ls split run.0)
-      by (inr (inr (session, piece, xs, is, answered))) =
-          piece_begins before between after one rest (map f events) ls session piece xs (split ∙ ap (λ (e : Happening). one ++ e ∷ rest) is) run answered
+      → ((ls : List Line) × RunsSo answers before (map f (take k events)) ls between) → Comes between (f (get_or events k d)) after → BeginsRun answers before (map f events) after.service
+  begun f before between after events k d low (ls, run) =
+      begun_at before between after (map f (take k events)) (map f (drop (suc k) events)) (map f events) (f (get_or events k d)) ls (around f events k d low) run
 
   -- nothing was done
   pub stopped_first : (before : HubState S) (events : List Happening) → Runs answers before [] [] before → Stops answers before events before

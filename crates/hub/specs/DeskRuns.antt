@@ -13,10 +13,11 @@ use Rattle.book.specs.Shows.{index_of}
 use Rattle.book.specs.Sound.{IsSound}
 use Rattle.book.specs.Turns.{Run}
 use Rattle.epochs.specs.DirectoryStates.{book, provider, HasKeysOf}
+use Rattle.wire.specs.declared.message_refusals.FeedRefusal.TheVariants as feed
 use Rattle.wire.specs.declared.message_refusals.ReadRefusal.{ReadRefusal}
 use Rattle.wire.specs.Frames.{frame_bytes}
 use Rattle.wire.specs.Laws.{IsReadAs}
-use Rattle.wire.specs.Refusals.{read_refusal_number}
+use Rattle.wire.specs.Refusals.{feed_refusal_number, read_refusal_number}
 use Rattle.wire.specs.Requests as request
 use Rattle.wire.specs.Responses as response
 use Rattle.wire.specs.Responses.{response_frame}
@@ -24,6 +25,7 @@ use Rattle.wire.specs.Streams.{Message, Whole, BadFrame}
 use Rattle.hub.specs.Desks.{command, reply_frame, DeskState, IsRead, IsResponseOf}
 use Rattle.hub.specs.Exchanges.{refused_frame}
 use Rattle.hub.specs.Runs.{Line}
+use Rattle.hub.specs.declared.desk.TheConstants.{NOT_OPERATOR}
 
 -- the message reaches the directory, and asks this of it, where the operator has this token
 abbrev pub Reaches : List ℕ → Message → Operation → Type 0
@@ -35,8 +37,8 @@ Reaches token BadFrame asked = ⊥
 abbrev pub IsTurnedAway : List ℕ → Message → ℕ → Type 0
 IsTurnedAway token (Whole frame) code =
     ((refusal : ReadRefusal) × IsRead frame (Err refusal) × (code ≡ read_refusal_number refusal))
-    ⊎ ((requested : request.RequestContent) × IsRead frame (Ok requested) × (command token requested ≡ None) × (code ≡ 12))
-IsTurnedAway token BadFrame code = code ≡ 1
+    ⊎ ((requested : request.RequestContent) × IsRead frame (Ok requested) × (command token requested ≡ None) × (code ≡ NOT_OPERATOR))
+IsTurnedAway token BadFrame code = code ≡ feed_refusal_number feed.BadFrame
 
 -- the messages that reach the directory ask these commands and are told these replies; the others are refused
 abbrev pub ShowReplies : List ℕ → List Line → List Operation → List Reply → Type 0

@@ -20,6 +20,7 @@ use Rattle.wire.specs.Requests as request
 use Rattle.wire.specs.Responses as response
 use Rattle.wire.specs.Responses.{proof_frame, response_frame}
 use Rattle.hub.specs.Exchanges.{refused_frame}
+use Rattle.hub.specs.declared.desk.TheConstants.{NOT_OPERATOR}
 
 pub record DeskState (R K : Type 0) : Type 0 where
   pub directory : DirectoryState R
@@ -37,6 +38,11 @@ abbrev pub command : List ℕ → request.RequestContent → Option Operation
 command token (request.Query question) = Some (Query question)
 command token (request.Put verb name key) = Some (Edit (Put verb name key))
 command token (request.Turn given epoch nonce) = if bytes_eq given token then Some (Edit (ask.Turn epoch nonce)) else None
+
+-- without the token nobody closes an epoch
+abbrev pub or_not_operator : Option Operation → Result Operation ℕ
+or_not_operator None = Err NOT_OPERATOR
+or_not_operator (Some asked) = Ok asked
 
 -- the frame of a reply; that of a look-up has the reply's own bytes
 abbrev pub reply_frame : Reply → Frame
@@ -58,7 +64,7 @@ module _ {R K : Type 0} (digest_of : List ℕ → List ℕ) (value_of signature_
   -- the directory takes the turn of a command, and the frame of its reply is told; whoever closes an epoch
   -- without the token is not the operator
   abbrev pub Commanded : DeskState R K → Option Operation → List ℕ → DeskState R K → Type 0
-  Commanded before None text after = (text ≡ refused_frame 12) × (after ≡ before)
+  Commanded before None text after = (text ≡ refused_frame NOT_OPERATOR) × (after ≡ before)
   Commanded before (Some asked) text after = (told : Reply)
       × Turn (provider digest_of value_of signature_of before.directory) kept failed (book stream before.directory) before.keeper asked told (book stream after.directory) after.keeper
       × (text ≡ frame_bytes (reply_frame told)) × HasKeysOf before.directory after.directory × (after.token ≡ before.token)

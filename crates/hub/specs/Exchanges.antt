@@ -1,7 +1,9 @@
 -- Messages of one session, each answered.
 use Rattle.std.specs.Prelude.{◌≡◌, ◌≢◌, ◌+◌, ◌<◌, ℕ, List, [], ◌∷◌, ◌++◌, ⊤, Bool, true, false, Result, Ok, Err}
 use Rattle.std.specs.declared.alloc.AllocError.{AllocError}
+use Rattle.wire.specs.declared.message_refusals.FeedRefusal.TheVariants as feed
 use Rattle.wire.specs.Frames.{Frame, frame_bytes}
+use Rattle.wire.specs.Refusals.{feed_refusal_number}
 use Rattle.wire.specs.Responses.{response_frame, Refused}
 use Rattle.wire.specs.Streams.{Remainder, Message, Failed, Whole, BadFrame, with_more, IsSpent, TakesMessage}
 use Rattle.hub.specs.declared.hub_refusal.HubRefusal.{HubRefusal}
@@ -34,7 +36,7 @@ module _ {S : Type 0} (answers : S → Frame → List ℕ → S → Type 0) wher
   -- the reply to a message; a length that no frame has is refused
   abbrev pub Replies : S → Message → List ℕ → S → Type 0
   Replies service (Whole frame) reply after = answers service frame reply after
-  Replies service BadFrame reply after = (reply ≡ refused_frame 1) × (after ≡ service)
+  Replies service BadFrame reply after = (reply ≡ refused_frame (feed_refusal_number feed.BadFrame)) × (after ≡ service)
 
   -- messages taken from what a session holds, each answered at its place
   abbrev pub Exchanges : S → Remainder → List Exchange → S → Remainder → Type 0

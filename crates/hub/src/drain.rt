@@ -46,7 +46,7 @@ fn drain<S: Service>(
         match feed.next() {
             Next::Frame(kind, body) => service.answer(kind, body, output),
             Next::Failed => {
-                write_refused(1, output);
+                write_refused(FeedRefusal::BadFrame.number(), output);
                 return Ok(());
             }
             Next::Wait => unreachable!(),

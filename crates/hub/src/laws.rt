@@ -3,13 +3,16 @@ ghost use Rattle.wire.specs.Streams.{Remainder};
 ghost use Rattle.hub.specs.Exchanges.{Exchange, Exchanges};
 ghost use Rattle.hub.specs.Laws.{RunsTellTheirOwn, SessionsHearTheirOwn};
 ghost use Rattle.hub.specs.Runs.{lines, AllAnswered, Line};
+ghost use Rattle.hub.specs.declared.desk.TheConstants.{NOT_OPERATOR};
 ghost use Rattle.hub.specs.declared.sessions.TheConstants.{MAX_SESSIONS};
 
 use crate::Service;
 
-/// At most 1,024 sessions are open at once.
+/// At most 1,024 sessions are open at once, and a closing without the operator's token is refused with the
+/// number 12.
 pub fn limit_has_its_value()
-    ensures { MAX_SESSIONS ≡ 1024 }
+    ensures sessions { MAX_SESSIONS ≡ 1024 }
+    ensures not_operator { NOT_OPERATOR ≡ 12 }
 {}
 
 /// The messages of a session are those of its own streams, whatever the other sessions send, and

@@ -12,7 +12,7 @@ use Rattle.wire.specs.Requests as request
 use Rattle.wire.specs.Responses as response
 use Rattle.wire.specs.Responses.{ResponseContent}
 use Rattle.wire.specs.declared.response.TheConstants.{PROOF}
-use Rattle.hub.specs.Desks.{command, reply_frame}
+use Rattle.hub.specs.Desks.{command, or_not_operator, reply_frame}
 use Rattle.book.specs.declared.reply.Reply.{Reply}
 use Rattle.book.specs.declared.reply.Reply.TheVariants as reply
 use Rattle.book.specs.Steps.{Answer, Promised, Found, Told, Last, Outcome}
@@ -34,7 +34,7 @@ use Rattle.play.specs.Checked.{line_of_reply, HasLookedUp}
 use Rattle.play.specs.Checking.{IsShownIn}
 use Rattle.play.specs.Hearing.{response_text}
 use Rattle.play.specs.Lines.{answer_text, checked_text, found_text, upshot_text}
-use Rattle.play.specs.Messages.{comes_of, upshot_of, or_not_operator, request_asks, Upshot}
+use Rattle.play.specs.Messages.{comes_of, upshot_of, request_asks, Upshot}
 use Rattle.play.specs.Parties.{book_of, chain_under, provider_of, HasAsked, Parties}
 use Rattle.play.specs.declared.ask.Ask.{Ask}
 use Rattle.play.specs.declared.ask.Ask.TheVariants as made

@@ -22,9 +22,10 @@ use Rattle.book.specs.Honest.{key_at}
 use Rattle.book.specs.Maps.{at, Map}
 use Rattle.book.specs.Refusals.{book_refusal_number}
 use Rattle.book.proofs.Members.{first-there, later-there}
+use Rattle.hub.specs.Desks.{or_not_operator}
 use Rattle.play.specs.Laws.{after_lines, is_plain, script_after_line, IsChecked, IsCheckedIn, IsPlain, IsQuestioned, IsRequested, LinesArePlain, NothingIsRefused}
 use Rattle.play.specs.Lines.{checked_text, is_double, of_session, refused_proof, root_text, roots_text, statement_text, upshot_text}
-use Rattle.play.specs.Messages.{Upshot, asks, comes_of, heard, upshot_of, or_not_operator, request_asks}
+use Rattle.play.specs.Messages.{Upshot, asks, comes_of, heard, upshot_of, request_asks}
 use Rattle.play.specs.Played.{Stand, after_promise, answered, line_played, opening, piece_events, watch_on, watcher_of}
 use Rattle.play.specs.Printing as printing
 use Rattle.play.specs.Printing.{played_from}

@@ -1,5 +1,5 @@
 -- What the messages of sessions ask of the directory, and what comes of each.
-use Rattle.std.specs.Prelude.{ℕ, List, [], ◌∷◌, map, Option, Some, None, Result, Ok, Err}
+use Rattle.std.specs.Prelude.{ℕ, List, [], ◌∷◌, map, Result, Ok, Err}
 use Rattle.commands.specs.Operations.{Operation}
 use Rattle.wire.specs.declared.message_refusals.FeedRefusal.TheVariants as feed
 use Rattle.wire.specs.declared.message_refusals.ReadRefusal.{ReadRefusal}
@@ -10,17 +10,12 @@ use Rattle.wire.specs.Streams.{Remainder, Message, Whole, BadFrame}
 use Rattle.book.specs.Steps.{Answer, Outcome, Answers, Refuses, step}
 use Rattle.book.specs.Books.{Book}
 use Rattle.book.specs.Refusals.{book_refusal_number}
-use Rattle.hub.specs.Desks.{command}
+use Rattle.hub.specs.Desks.{command, or_not_operator}
 use Rattle.hub.specs.Events.{BySession, Happening}
 use Rattle.hub.specs.Runs.{after_events, commands, each, rest_of, unanswered}
 use Rattle.play.specs.Scripts.{token}
 
 -- ---- what is asked
-
--- without the token nobody closes an epoch
-abbrev pub or_not_operator : Option Operation → Result Operation ℕ
-or_not_operator None = Err 12
-or_not_operator (Some asked) = Ok asked
 
 -- what a request asks, or the number of its refusal
 abbrev pub request_asks : RequestContent → Result Operation ℕ

@@ -21,6 +21,6 @@ pub returns-in-Failed-clause-drained : goal.returns-in-Failed-clause-drained
 returns-in-Failed-clause-drained g c =
     let given = rw c.in-Failed.is at c.next.follows.holds-at-none in
     let i = c.loop-output.invariant in
-    let x : Exchange = record { message = BadFrame; reply = refused_frame 1 } in
-    let more = exchanged_more g.S.Service.answers _ _ _ _ _ _ _ x _ _ (i.0, i.1, i.2) (takes_bad_length _ _ i.3 given.0 given.1) (refl, refl) (c.write_refused.ensures ∙ ap (λ (t : List ℕ). t ++ x.reply) c.in_ok-reserve.ensures.items) in
+    let x : Exchange = record { message = BadFrame; reply = refused_frame c.number.result } in
+    let more = exchanged_more g.S.Service.answers _ _ _ _ _ _ _ x _ _ (i.0, i.1, i.2) (takes_bad_length _ _ i.3 given.0 given.1) (ap refused_frame c.number.ensures, refl) (c.write_refused.ensures ∙ ap (λ (t : List ℕ). t ++ x.reply) c.in_ok-reserve.ensures.items) in
     (more.0, more.1, subst IsSpent (sym given.1) tt, more.2)
