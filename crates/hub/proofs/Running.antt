@@ -5,11 +5,11 @@ use Rattle.std.specs.Prelude.{◌==◌, is_some}
 use Rattle.wire.specs.Frames.{Frame}
 use Rattle.wire.specs.Streams.{Message}
 use Rattle.hub.specs.Events.{Happening, HubState, at_session, due, number}
-use Rattle.hub.specs.Exchanges.{Exchange, replies}
+use Rattle.hub.specs.Exchanges.{Exchange, exchange_messages, replies}
 use Rattle.hub.specs.Happenings.{DoesUnlessRefused}
 use Rattle.hub.specs.Runs.{Line, Streams, after_event, after_events, asked_by, brought, commands, each, unanswered, was_open, rest_of, told_to, AllAnswered, Runs}
 use Rattle.hub.proofs.Entries.{AllAt}
-use Rattle.hub.proofs.Steps.{lines, messages_of, all_fresh, does_changes, due_same, each_fresh, IsTold}
+use Rattle.hub.proofs.Steps.{lines, all_fresh, does_changes, due_same, each_fresh, IsTold}
 
 -- ---- one event more
 
@@ -29,7 +29,7 @@ commands_append streams (it ∷ events) more =
 pub commands_one : (streams : Streams) (it : Happening) → commands streams (it ∷ []) ≡ of_session it (brought streams it)
 commands_one streams it = append-nil (of_session it (brought streams it))
 
-pub asked_lines : (it : Happening) (xs : List Exchange) → map asked_by (lines (number it) xs) ≡ of_session it (messages_of xs)
+pub asked_lines : (it : Happening) (xs : List Exchange) → map asked_by (lines (number it) xs) ≡ of_session it (exchange_messages xs)
 asked_lines it [] = refl
 asked_lines it (x ∷ xs) = ap (λ (t : List (ℕ × Message)). (number it, x.message) ∷ t) (asked_lines it xs)
 
@@ -88,14 +88,14 @@ module _ {S : Type 0} (answers : S → Frame → List ℕ → S → Type 0) wher
   nothing_run before = (record { messages = refl; answered = refl; left = each_fresh before.sessions }, all_fresh before.sessions)
 
   abbrev Stepped : HubState S → Streams → Happening → List Exchange → HubState S → Type 0
-  Stepped middle streams it xs after = (brought streams it ≡ messages_of xs) × (after.sessions ≡ each rest_of (after_event streams it)) × AllAt IsTold (after_event streams it)
+  Stepped middle streams it xs after = (brought streams it ≡ exchange_messages xs) × (after.sessions ≡ each rest_of (after_event streams it)) × AllAt IsTold (after_event streams it)
       × AllAnswered answers middle.service (lines (number it) xs) after.service
 
   pub stepped : (middle after : HubState S) (streams : Streams) (it : Happening) (xs : List Exchange) → middle.sessions ≡ each rest_of streams → AllAt IsTold streams
       → DoesUnlessRefused answers middle it xs after → Stepped middle streams it xs after
   stepped middle after streams it xs same all (inl (refusal, is, none, stays)) =
       let refused : due streams it ≡ Some refusal = sym (due_same middle.sessions streams it (same, all)) ∙ is in (
-        rw refused (ap messages_of (sym none)),
+        rw refused (ap exchange_messages (sym none)),
         rw refused (ap (λ (h : HubState S). h.sessions) stays ∙ same),
         rw refused all,
         subst (λ (xs : List Exchange). AllAnswered answers middle.service (lines (number it) xs) after.service) (sym none) (ap (λ (h : HubState S). h.service) stays),

@@ -1,5 +1,5 @@
 -- What an event does to what sessions hold is what it does to their streams.
-use Rattle.std.proofs.Common.{◌≡◌, ℕ, List, [], ◌∷◌, ◌++◌, Bool, true, length, drop, map, Option, Some, None, refl, sym, ap, subst, ◌∙◌, append_assoc}
+use Rattle.std.proofs.Common.{◌≡◌, ℕ, List, [], ◌∷◌, ◌++◌, Bool, true, length, drop, Option, Some, None, refl, sym, ap, subst, ◌∙◌, append_assoc}
 use Rattle.std.proofs.Math.Seq.{drop-append_seam}
 use Rattle.std.specs.Option.{option_map}
 use Rattle.std.specs.Ordering.{nat_cmp}
@@ -8,7 +8,7 @@ use Rattle.std.specs.Map.{remove_entry, set_value}
 use Rattle.wire.specs.Frames.{Frame}
 use Rattle.wire.specs.Streams.{Remainder, Message, Rest, messages, messages_within, with_more, IsSpent, TellsMessages}
 use Rattle.hub.specs.Events.{BySession, Happening, Open, Bytes, End, HubState, at_session, due, number}
-use Rattle.hub.specs.Exchanges.{Exchange, Exchanges}
+use Rattle.hub.specs.Exchanges.{Exchange, Exchanges, exchange_messages}
 use Rattle.hub.specs.Happenings.{Answered, Does}
 pub use Rattle.hub.specs.Runs.{lines}
 use Rattle.hub.specs.Runs.{Stream, Streams, changed, completed, completed_by, each, rest_of, unanswered, with_piece, AllAnswered}
@@ -29,10 +29,6 @@ all_fresh (entry ∷ more) = (fresh_told entry.1, all_fresh more)
 pub each_fresh : (sessions : BySession Remainder) → sessions ≡ each rest_of (each unanswered sessions)
 each_fresh [] = refl
 each_fresh (entry ∷ more) = ap (λ (t : BySession Remainder). entry ∷ t) (each_fresh more)
-
--- the messages that are answered
-abbrev pub messages_of : List Exchange → List Message
-messages_of = map (λ exchange. exchange.message)
 
 -- a piece whose messages are all told
 piece_told : (stream : Stream) (piece : List ℕ) (now : List Message) (left : Remainder) → IsTold stream → TellsMessages (with_more (rest_of stream) piece) now left → IsSpent left
@@ -89,7 +85,7 @@ pub bytes_completed : (streams : Streams) (session : ℕ) (piece : List ℕ) (st
 bytes_completed streams session piece stream here = rw here refl
 
 module _ {S : Type 0} (answers : S → Frame → List ℕ → S → Type 0) where
-  pub exchanges_tell : (s : S) (h : Remainder) (xs : List Exchange) (t : S) (left : Remainder) → Exchanges answers s h xs t left → TellsMessages h (messages_of xs) left
+  pub exchanges_tell : (s : S) (h : Remainder) (xs : List Exchange) (t : S) (left : Remainder) → Exchanges answers s h xs t left → TellsMessages h (exchange_messages xs) left
   exchanges_tell s h [] t left (e, f) = f
   exchanges_tell s h (x ∷ xs) t left (middle, between, takes, replies, rest) = (between, takes, exchanges_tell middle between xs t left rest)
 
@@ -100,11 +96,11 @@ module _ {S : Type 0} (answers : S → Frame → List ℕ → S → Type 0) wher
   -- a piece that is heard in its session
   bytes_does : (before after : HubState S) (streams : Streams) (session : ℕ) (piece : List ℕ) (xs : List Exchange) → Matches before.sessions streams
       → Answered answers before session piece true xs after
-      → (completed_by streams (Bytes session piece) ≡ messages_of xs) × Matches after.sessions (changed streams (Bytes session piece)) × AllAnswered answers before.service (lines session xs) after.service
+      → (completed_by streams (Bytes session piece) ≡ exchange_messages xs) × Matches after.sessions (changed streams (Bytes session piece)) × AllAnswered answers before.service (lines session xs) after.service
   bytes_does before after streams session piece xs match (held, left, here, set, exchanges, spent) =
       let s = stream_at before.sessions streams session held match here in
       let tells = exchanges_tell before.service (with_more held piece) xs after.service left exchanges in
-      let all = piece_told s.0 piece (messages_of xs) left s.3 (subst (λ (h : Remainder). TellsMessages (with_more h piece) (messages_of xs) left) (sym s.2) tells) spent in
+      let all = piece_told s.0 piece (exchange_messages xs) left s.3 (subst (λ (h : Remainder). TellsMessages (with_more h piece) (exchange_messages xs) left) (sym s.2) tells) spent in
       let is = bytes_changed streams session piece s.0 s.1 in
       let p : ℕ → Bool = is_at (nat_cmp session) in (
         bytes_completed streams session piece s.0 s.1 ∙ all.0,
@@ -117,9 +113,9 @@ module _ {S : Type 0} (answers : S → Frame → List ℕ → S → Type 0) wher
 
   -- what an event does that is not refused
   pub does_changes : (before after : HubState S) (streams : Streams) (it : Happening) (xs : List Exchange) → Matches before.sessions streams → Does answers before it xs after
-      → (completed_by streams it ≡ messages_of xs) × Matches after.sessions (changed streams it) × AllAnswered answers before.service (lines (number it) xs) after.service
+      → (completed_by streams it ≡ exchange_messages xs) × Matches after.sessions (changed streams it) × AllAnswered answers before.service (lines (number it) xs) after.service
   does_changes before after streams (Open session) xs match (none, same) = (
-    ap messages_of (sym none),
+    ap exchange_messages (sym none),
     (
       ap (λ (h : HubState S). h.sessions) same ∙ ap (λ (m : BySession Remainder). insert_entry nat_cmp m session (Rest [])) match.0 ∙ insert_each rest_of streams session (unanswered (Rest [])),
       all_inserted IsTold streams session (unanswered (Rest [])) match.1 (fresh_told (Rest [])),
@@ -128,7 +124,7 @@ module _ {S : Type 0} (answers : S → Frame → List ℕ → S → Type 0) wher
   )
   does_changes before after streams (Bytes session piece) xs match does = bytes_does before after streams session piece xs match does
   does_changes before after streams (End session) xs match (none, same) = (
-    ap messages_of (sym none),
+    ap exchange_messages (sym none),
     (
       ap (λ (h : HubState S). h.sessions) same ∙ ap (λ (m : BySession Remainder). remove_entry (is_at (nat_cmp session)) m) match.0 ∙ remove_each rest_of (is_at (nat_cmp session)) streams,
       all_removed IsTold (is_at (nat_cmp session)) streams match.1,
@@ -139,9 +135,9 @@ module _ {S : Type 0} (answers : S → Frame → List ℕ → S → Type 0) wher
   -- a piece of whose messages the first are answered
   pub bytes_begins : (before after : HubState S) (streams : Streams) (session : ℕ) (piece : List ℕ) (all : Bool) (xs : List Exchange) → Matches before.sessions streams
       → Answered answers before session piece all xs after
-      → (later : List Message) × (completed_by streams (Bytes session piece) ≡ messages_of xs ++ later) × AllAnswered answers before.service (lines session xs) after.service × (due streams (Bytes session piece) ≡ None)
+      → (later : List Message) × (completed_by streams (Bytes session piece) ≡ exchange_messages xs ++ later) × AllAnswered answers before.service (lines session xs) after.service × (due streams (Bytes session piece) ≡ None)
   bytes_begins before after streams session piece all xs match (held, left, here, set, exchanges, spent) =
       let s = stream_at before.sessions streams session held match here in
       let tells = exchanges_tell before.service (with_more held piece) xs after.service left exchanges in
-      let t = piece_begun s.0 piece (messages_of xs) left s.3 (subst (λ (h : Remainder). TellsMessages (with_more h piece) (messages_of xs) left) (sym s.2) tells) in
+      let t = piece_begun s.0 piece (exchange_messages xs) left s.3 (subst (λ (h : Remainder). TellsMessages (with_more h piece) (exchange_messages xs) left) (sym s.2) tells) in
       (t.0, bytes_completed streams session piece s.0 s.1 ∙ t.1, exchanges_answer before.service (with_more held piece) xs after.service left session exchanges, rw s.1 refl)

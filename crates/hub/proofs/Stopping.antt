@@ -5,11 +5,11 @@ use Rattle.std.proofs.lemmas.List.{append-nil, map-append, take-append-drop}
 use Rattle.wire.specs.Frames.{Frame}
 use Rattle.wire.specs.Streams.{Message}
 use Rattle.hub.specs.Events.{Bytes, Happening, HubState, number}
-use Rattle.hub.specs.Exchanges.{Exchange}
+use Rattle.hub.specs.Exchanges.{Exchange, exchange_messages}
 use Rattle.hub.specs.Happenings.{Answered, DoesUnlessRefused, IsPart}
 use Rattle.hub.specs.Runs.{Line, Streams, after_event, after_events, asked_by, brought, commands, each, unanswered, BeginsRun, Runs, Stops}
 use Rattle.hub.proofs.Running.{answered_append, asked_lines, commands_append, of_session, run_more, RunsSo}
-use Rattle.hub.proofs.Steps.{bytes_begins, lines, messages_of}
+use Rattle.hub.proofs.Steps.{bytes_begins, lines}
 
 pub any_err : {T E : Type 0} (r : Result T E) (P : Type 0) → P → OnErr r P
 any_err (Ok done) P p = tt
@@ -66,11 +66,11 @@ module _ {S : Type 0} (answers : S → Frame → List ℕ → S → Type 0) wher
       let it : Happening = Bytes session piece in
       let t = bytes_begins answers between after streams session piece false xs (run.left, all) answered in
       let later : List (ℕ × Message) = of_session it t.0 ++ commands (after_event streams it) rest in
-      let bring : brought streams it ≡ messages_of xs ++ t.0 = rw t.3 t.1 in
+      let bring : brought streams it ≡ exchange_messages xs ++ t.0 = rw t.3 t.1 in
       let first : commands streams (it ∷ rest) ≡ map asked_by (lines session xs) ++ later =
       ap (λ (m : List Message). of_session it m ++ commands (after_event streams it) rest) bring
-      ∙ ap (λ (m : List (ℕ × Message)). m ++ commands (after_event streams it) rest) (map-append (λ message. (session, message)) (messages_of xs) t.0)
-      ∙ append_assoc (of_session it (messages_of xs)) (of_session it t.0) (commands (after_event streams it) rest)
+      ∙ ap (λ (m : List (ℕ × Message)). m ++ commands (after_event streams it) rest) (map-append (λ message. (session, message)) (exchange_messages xs) t.0)
+      ∙ append_assoc (of_session it (exchange_messages xs)) (of_session it t.0) (commands (after_event streams it) rest)
       ∙ ap (λ (m : List (ℕ × Message)). m ++ later) (sym (asked_lines it xs))
       in (
         ls ++ lines session xs,

@@ -1,5 +1,5 @@
 -- Messages of one session, each answered.
-use Rattle.std.specs.Prelude.{◌≡◌, ◌≢◌, ◌+◌, ◌<◌, ℕ, List, [], ◌∷◌, ◌++◌, ⊤, Bool, true, false, Result, Ok, Err}
+use Rattle.std.specs.Prelude.{◌≡◌, ◌≢◌, ◌+◌, ◌<◌, ℕ, List, [], ◌∷◌, ◌++◌, map, ⊤, Bool, true, false, Result, Ok, Err}
 use Rattle.std.specs.declared.alloc.AllocError.{AllocError}
 use Rattle.wire.specs.declared.message_refusals.FeedRefusal.TheVariants as feed
 use Rattle.wire.specs.Frames.{Frame, frame_bytes}
@@ -14,6 +14,10 @@ use Rattle.wire.specs.declared.answer.TheConstants.{MAX_ANSWER_LEN}
 pub record Exchange : Type 0 where
   pub message : Message
   pub reply : List ℕ
+
+-- the messages, without their replies
+abbrev pub exchange_messages : List Exchange → List Message
+exchange_messages = map (λ exchange. exchange.message)
 
 -- the replies, joined
 abbrev pub replies : List Exchange → List ℕ

@@ -9,7 +9,7 @@ use Rattle.std.proofs.lemmas.Map.Steps.{set_value_same}
 use Rattle.wire.specs.Frames.{Frame, read_frame}
 use Rattle.wire.specs.Streams.{Remainder, Message, Rest, messages_within, with_more, IsSpent}
 use Rattle.hub.specs.Events.{BySession, HubState, at_session}
-use Rattle.hub.specs.Exchanges.{Exchange, Exchanges, replies}
+use Rattle.hub.specs.Exchanges.{Exchange, Exchanges, exchange_messages, replies}
 use Rattle.hub.proofs.Joining.{exchanges_joined, replies_append}
 use Rattle.hub.proofs.Others.{set_found}
 use Rattle.hub.proofs.Steps.{exchanges_tell}
@@ -18,7 +18,7 @@ use Rattle.server.specs.declared.serve_fault.ServeFault.{ServeFault}
 use Rattle.server.specs.declared.serve_fault.ServeFault.TheVariants.{CannotRead, CannotWrite, OutOfMemory, OutOfMemoryAndCannotWrite}
 use Rattle.server.specs.declared.serving.TheConstants.{PIECE_SIZE}
 use Rattle.server.specs.Pieces.{AnswersPiece}
-use Rattle.server.specs.Serving.{exchange_messages, AllReplied, AnswersEach, AnswersFirst, AnswersPart, Serves}
+use Rattle.server.specs.Serving.{AllReplied, AnswersEach, AnswersFirst, AnswersPart, Serves}
 use Rattle.server.proofs.Opened.{set_twice}
 
 spent-none : IsSpent (Rest [])

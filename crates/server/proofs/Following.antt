@@ -10,7 +10,7 @@ use Rattle.wire.specs.Frames.{Frame}
 use Rattle.wire.specs.Streams.{Remainder, Message, Rest, with_more, IsSpent, TellsMessages}
 use Rattle.wire.proofs.Streams.{nothing_yet}
 use Rattle.hub.specs.Events.{BySession, Bytes, End, HubState, at_session}
-use Rattle.hub.specs.Exchanges.{Exchange, replies}
+use Rattle.hub.specs.Exchanges.{Exchange, exchange_messages, replies}
 use Rattle.hub.specs.Happenings.{Answered, DoesUnlessRefused}
 use Rattle.hub.specs.Laws.{lines_for}
 use Rattle.hub.specs.Runs.{lines, told_to, Line}
@@ -23,7 +23,7 @@ use Rattle.hub.proofs.Streaming.{tells_append, tells_more, told_all}
 use Rattle.connections.specs.declared.ending.SessionFault.TheVariants as fault
 use Rattle.connections.specs.Histories.{At, Ordered, GoesOn, Syncs, NoneWaits, On, Deed, Comes, Opens, Refuses, Reads, IsOver, IsSilent, Hears, Misses, Lacks, Takes, TakesNone, Fails, Ends, Closes, History, Course, clock, course, done_at}
 use Rattle.connections.specs.Soundness.{Here, IsNew, IsSoundHistory, MayHear}
-use Rattle.server.specs.Serving.{exchange_messages, spelled}
+use Rattle.server.specs.Serving.{spelled}
 use Rattle.server.specs.Sessions.{AreLines, Ended, IsAnsweredBy, Loses, Opened, Proceeds}
 
 -- ---- lines of a session

@@ -13,18 +13,16 @@ use Rattle.server.specs.declared.serve_fault.ServeFault.{ServeFault}
 use Rattle.server.specs.declared.serve_fault.ServeFault.TheVariants.{CannotRead, CannotWrite, OutOfMemory, OutOfMemoryAndCannotWrite}
 
 module _ {S : Type 0} (answers : S → Frame → List ℕ → S → Type 0) where
-  -- the session, which held this, answers these messages of it and a piece, and then holds what is left
-  abbrev pub Goes : HubState S → ℕ → Remainder → List ℕ → List Exchange → HubState S → Remainder → Type 0
-  Goes before session held piece exchanges after left = (at_session before.sessions session ≡ Some held)
-      × (after.sessions ≡ set_value (is_at (nat_cmp session)) before.sessions left)
-      × Exchanges answers before.service (with_more held piece) exchanges after.service left
-
-  -- the session answers the first of these messages, and what is left waits: the session then holds that, or what it
-  -- held if the piece was not taken
+  -- the session, which held this, answers the first messages of it and a piece, and what is left waits: the session
+  -- then holds that, or what it held if the piece was not taken
   abbrev pub GoesPart : HubState S → ℕ → Remainder → List ℕ → List Exchange → HubState S → Remainder → Remainder → Type 0
   GoesPart before session held piece exchanges after left kept = (at_session before.sessions session ≡ Some held)
       × (after.sessions ≡ set_value (is_at (nat_cmp session)) before.sessions kept)
       × Exchanges answers before.service (with_more held piece) exchanges after.service left
+
+  -- the session answers these messages, and then holds what is left
+  abbrev pub Goes : HubState S → ℕ → Remainder → List ℕ → List Exchange → HubState S → Remainder → Type 0
+  Goes before session held piece exchanges after left = GoesPart before session held piece exchanges after left left
 
   -- a piece is answered in its session, and the replies are written; where memory is wanting, these are to its first messages
   abbrev pub AnswersPiece : HubState S → ℕ → List ℕ → Option (List ℕ) → Result (Unit {0}) ServeFault → HubState S → Option (List ℕ) → Type 0

@@ -1,5 +1,5 @@
 -- One session, from a reader to a writer.
-use Rattle.std.specs.Prelude.{◌≡◌, ◌≤◌, ℕ, List, [], ◌∷◌, ◌++◌, length, flat_map, map, Option, Result, Ok, Err}
+use Rattle.std.specs.Prelude.{◌≡◌, ◌≤◌, ℕ, List, [], ◌∷◌, ◌++◌, length, flat_map, Option, Result, Ok, Err}
 use Rattle.std.specs.Io.KnownBytes.{Appends, Consumes, IsAtEnd}
 use Rattle.textio.specs.Output.{WritesBeginning}
 use Rattle.rand_core.specs.Stream.{Stream}
@@ -8,7 +8,7 @@ use Rattle.wire.specs.Streams.{Message, Rest, messages}
 use Rattle.book.specs.declared.record.Record.{Record}
 use Rattle.hub.specs.DeskRuns.{ShowHonestRun}
 use Rattle.hub.specs.Desks.{DeskState, DeskAnswers}
-use Rattle.hub.specs.Exchanges.{Exchange, replies}
+use Rattle.hub.specs.Exchanges.{Exchange, exchange_messages, replies}
 use Rattle.hub.specs.Runs.{lines, AllAnswered, Line}
 use Rattle.server.specs.declared.serve_fault.ServeFault.{ServeFault}
 use Rattle.server.specs.declared.serve_fault.ServeFault.TheVariants.{CannotRead, CannotWrite, OutOfMemory, OutOfMemoryAndCannotWrite}
@@ -17,9 +17,6 @@ use Rattle.server.specs.declared.serving.TheConstants.{PIECE_SIZE}
 -- the messages that these bytes spell
 abbrev pub spelled : List ℕ → List Message
 spelled bytes = (messages (Rest bytes)).0
-
-abbrev pub exchange_messages : List Exchange → List Message
-exchange_messages = map (λ exchange. exchange.message)
 
 -- each message is answered as the service stands after those before it
 abbrev pub AllReplied : {S : Type 0} → (S → Frame → List ℕ → S → Type 0) → ℕ → S → List Exchange → S → Type 0

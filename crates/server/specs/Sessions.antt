@@ -7,13 +7,13 @@ use Rattle.connections.specs.declared.ending.SessionFault.TheVariants as fault
 use Rattle.hub.specs.declared.hub_refusal.HubRefusal.{HubRefusal}
 use Rattle.hub.specs.declared.hub_refusal.HubRefusal.TheVariants.{TooManySessions, SessionOpen, NoSession, Memory}
 use Rattle.hub.specs.Events.{Happening, Open, Bytes, End, HubState, at_session, due}
-use Rattle.hub.specs.Exchanges.{Exchange, replies}
+use Rattle.hub.specs.Exchanges.{Exchange, exchange_messages, replies}
 use Rattle.hub.specs.Happenings.{Answered, Does, DoesUnlessRefused, TakesMemory}
 use Rattle.hub.specs.Laws.{lines_for}
 use Rattle.hub.specs.Runs.{lines, told_to, Line}
 use Rattle.connections.specs.Histories.{At, Ordered, GoesOn, Syncs, NoneWaits, On, Comes, Opens, Refuses, Reads, IsOver, IsSilent, Hears, Misses, Lacks, Takes, TakesNone, Fails, Ends, Closes, History, Course, Leads, course}
 use Rattle.connections.specs.Laws.{AreInOrder}
-use Rattle.server.specs.Serving.{exchange_messages, spelled}
+use Rattle.server.specs.Serving.{spelled}
 
 -- only want of memory is told as such
 abbrev pub session_fault : HubRefusal → SessionFault
