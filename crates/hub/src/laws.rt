@@ -10,7 +10,7 @@ use crate::Service;
 
 /// At most 1,024 sessions are open at once, and a closing without the operator's token is refused with the
 /// number 12.
-pub fn limit_has_its_value()
+pub fn limits_have_their_values()
     ensures sessions { MAX_SESSIONS ≡ 1024 }
     ensures not_operator { NOT_OPERATOR ≡ 12 }
 {}

@@ -1,7 +1,6 @@
 -- A promise of a key that waits is handed to the monitors of its name, as to the watchers.
-use Rattle.std.proofs.Common.{◌≡◌, ◌≢◌, ◌⊎◌, ℕ, zero, suc, ◌<◌, ◌≤◌, List, [], ◌∷◌, ◌++◌, length, drop, get_or, Option, Some, Ok, Err, Bool, true, false, if◌then◌else◌, IsSome, Contains, refl, sym, ap, ap₂, subst, inl, inr, ◌∙◌, arith}
+use Rattle.std.proofs.Common.{◌≡◌, ◌≢◌, ◌⊎◌, ℕ, zero, suc, ◌<◌, ◌≤◌, List, [], ◌∷◌, ◌++◌, length, drop, get_or, Option, Some, Ok, Err, Bool, true, if◌then◌else◌, IsSome, Contains, refl, sym, ap, ap₂, subst, inl, inr, ◌∙◌, arith}
 use Rattle.std.specs.Prelude.{is_some}
-use Rattle.std.specs.BTreeMap.{is_at}
 use Rattle.std.specs.List.{AllByRecursion, AllZip}
 use Rattle.std.specs.Str.{bytes_eq}
 use Rattle.std.proofs.lemmas.Bool.{false_from_ne_true}
@@ -30,10 +29,10 @@ use Rattle.book.specs.Steps.{Answer, Promised, Found, Told, Last, with_pending}
 use Rattle.book.specs.Books.{Binding, Book, Page}
 use Rattle.book.specs.Honest.{IsKept}
 use Rattle.book.specs.Keeps.{KeepsNothing, NeverFails}
-use Rattle.book.specs.Maps.{Map, at, put_name}
+use Rattle.book.specs.Maps.{at}
 use Rattle.book.specs.Shows.{Provider, index_of, roots}
 use Rattle.book.specs.Turns.{Shows, Turn}
-use Rattle.book.proofs.Entries.{at_put_other, at_put_same, is_name, is_no_name}
+use Rattle.book.proofs.Entries.{at_put_same}
 use Rattle.book.proofs.Members.{first-or-later, first-there, none-there}
 use Rattle.client.specs.Clients.{HasRootOf}
 use Rattle.monitor.specs.Expecting.{MayExpect}
@@ -50,7 +49,6 @@ use Rattle.play.proofs.Comes.{turn_comes, Comes, HasCome}
 use Rattle.play.proofs.Grown.{put_waits}
 use Rattle.play.proofs.InTime.{promises-later}
 use Rattle.play.proofs.Taken.{below-all}
-use Rattle.encoding.specs.Bytes.{bytes_cmp}
 
 -- a watcher after a promise, by whether it is one of the name
 abbrev given : ℕ → List ℕ → Watcher → Bool → Watcher

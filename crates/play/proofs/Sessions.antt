@@ -9,7 +9,7 @@ use Rattle.std.specs.Ordering.{nat_cmp}
 use Rattle.std.specs.BTreeMap.{is_at}
 use Rattle.rand_core.specs.Stream.{Stream}
 use Rattle.encoding.specs.Bytes.{IsBytes}
-use Rattle.encoding.proofs.ByteLists.{IsBytes-append, IsBytes-back}
+use Rattle.encoding.proofs.ByteLists.{IsBytes-back}
 use Rattle.epochs.specs.DirectoryStates.{HasKeysOf}
 use Rattle.wire.specs.Frames.{Frame, frame_bytes}
 use Rattle.wire.specs.Streams.{Remainder, Message, Rest, Failed, Whole, BadFrame, with_more, AreBytes, TakesMessage}

@@ -1,7 +1,7 @@
 -- What is told of one call of the directory is what comes of the step of its book.
-use Rattle.std.proofs.Common.{◌≡◌, ◌≢◌, ℕ, ◌^◌, ◌<◌, List, [], ◌∷◌, ◌++◌, drop, map, subst₂, replicate, Option, Some, None, Ok, Err, All, AllPairs, Contains, refl, sym, ap, ap₂, subst, ◌∙◌, inl, inr, arith, codes, decimal, append_assoc}
+use Rattle.std.proofs.Common.{◌≡◌, ◌≢◌, ℕ, ◌^◌, ◌<◌, List, [], ◌∷◌, ◌++◌, drop, map, subst₂, replicate, Option, Some, None, Ok, Err, All, AllPairs, refl, sym, ap, ap₂, subst, ◌∙◌, inl, inr, arith, codes, decimal, append_assoc}
 use Rattle.std.specs.List.{flat_map, AllByRecursion, AllZip}
-use Rattle.std.proofs.lemmas.List.Elements.{All-contains, Contains-push}
+use Rattle.std.proofs.lemmas.List.Elements.{All-contains}
 use Rattle.std.proofs.lemmas.List.{get_or_append_left, length-append}
 use Rattle.encoding.specs.Endian.{big_bytes, big_number}
 use Rattle.encoding.proofs.Beginnings.{same_number_bytes}
@@ -22,12 +22,10 @@ use Rattle.book.specs.Steps.{Answer, Promised, Found, Last, Outcome, Answers, Re
 use Rattle.book.specs.Books.{Binding, Book, Page, pages}
 use Rattle.book.specs.Keeps.{KeepsNothing, NeverFails}
 use Rattle.book.specs.Refusals.{book_refusal_number}
-use Rattle.book.specs.Shows.{Provider, body_behind, index_of, promise, sealed_behind, signed, signed_promise, IsReplyOf, IsRootOf}
+use Rattle.book.specs.Shows.{Provider, index_of, promise, signed, signed_promise, IsReplyOf, IsRootOf}
 use Rattle.book.specs.Sound.{IsPage}
 use Rattle.book.specs.Turns.{Declines, Run, Turn}
 use Rattle.book.proofs.Growing.{run-grows}
-use Rattle.book.proofs.Members.{later-there}
-use Rattle.book.proofs.OneRoot.{one-root}
 use Rattle.book.proofs.Sealing.{sealed-page}
 use Rattle.book.proofs.Soundness.{IsBefore}
 use Rattle.book.proofs.Stepping.{Does, Finds, due_steps, finds, refused_due, stepped}
@@ -40,7 +38,7 @@ use Rattle.hub.specs.DeskRuns.{AreResponses, ShowReplies}
 use Rattle.hub.specs.Desks.{reply_frame, IsResponseOf}
 use Rattle.hub.specs.Runs.{Line}
 use Rattle.play.specs.Answering.{IsUnchecked}
-use Rattle.play.specs.Lines.{answer_text, last_epoch, upshot_text}
+use Rattle.play.specs.Lines.{answer_text, upshot_text}
 use Rattle.play.specs.Messages.{asks, comes_of, upshot_of, Upshot}
 use Rattle.play.specs.Hearing.{response_text, IsOfBytes}
 use Rattle.play.specs.Played.{answered}
