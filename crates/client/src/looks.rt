@@ -1,6 +1,6 @@
 //! The looks that a client accepted, in an ordered map by epoch, name and number, where the number counts
 //! the looks before. So those of one name and epoch stand beside each other, and the numbers give the order
-//! of acceptance.
+//! of acceptance. Epochs come first, since they compare faster than names.
 ghost use Rattle.std.specs.Prelude.{◌≡◌, ◌++◌, ◌∷◌, [], OnErr, OnOk};
 ghost use Rattle.encoding.specs.Limits.{IsName};
 

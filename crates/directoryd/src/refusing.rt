@@ -68,6 +68,7 @@ pub fn refuse<W: Write, E: Write>(
 pub fn refuse_bytes<E: Write>(error: &io::Error, errors: &mut E) -> Result<u8, ProgramFault>
     ensures memory { (result ≡ Err ProgramFault.OutOfMemory) ↔ (error_kind error.now ≡ IoKind.OutOfMemory) }
     ensures prints { Prints WRONG_WORDS no_text (E.contents errors.old) (E.contents errors.new) result }
+    ensures wrong_words { WRONG_WORDS ≡ 2 }
 {
     if error.kind() == IoKind::OutOfMemory {
         return Err(ProgramFault::OutOfMemory);

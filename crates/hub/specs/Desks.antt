@@ -39,7 +39,7 @@ command token (request.Query question) = Some (Query question)
 command token (request.Put verb name key) = Some (Edit (Put verb name key))
 command token (request.Turn given epoch nonce) = if bytes_eq given token then Some (Edit (ask.Turn epoch nonce)) else None
 
--- without the token nobody closes an epoch
+-- what is asked, or the number of the refusal where the token is not the operator's
 abbrev pub or_not_operator : Option Operation → Result Operation ℕ
 or_not_operator None = Err NOT_OPERATOR
 or_not_operator (Some asked) = Ok asked

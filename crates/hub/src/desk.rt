@@ -28,7 +28,7 @@ use std::marker::Model;
 use vrfiface::Vuf;
 use wire::{Answer, Request, begin_proof, end_proof};
 
-/// The number of the refusal of a closing without the operator's token.
+/// The number of the refusal of a closing or a rotation without the operator's token.
 const NOT_OPERATOR: u8 = 12;
 
 /// A directory with its keeper and the token of its operator, who alone may close an epoch.

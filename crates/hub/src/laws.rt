@@ -8,9 +8,9 @@ ghost use Rattle.hub.specs.declared.sessions.TheConstants.{MAX_SESSIONS};
 
 use crate::Service;
 
-/// At most 1,024 sessions are open at once, and a closing without the operator's token is refused with the
-/// number 12.
-pub fn limits_have_their_values()
+/// At most 1,024 sessions are open at once, and a closing or a rotation without the operator's token is refused
+/// with 12.
+pub fn numbers_have_their_values()
     ensures sessions { MAX_SESSIONS ≡ 1024 }
     ensures not_operator { NOT_OPERATOR ≡ 12 }
 {}

@@ -27,7 +27,7 @@ mod sessions;
 pub use desk::Desk;
 pub use event::Event;
 pub use hub_refusal::HubRefusal;
-pub use laws::{events_join, limits_have_their_values, sessions_hear_their_own};
+pub use laws::{events_join, numbers_have_their_values, sessions_hear_their_own};
 pub use laws_desk::{cuts_do_not_matter, replies_are_honest};
 pub use service::Service;
 pub use sessions::{Hub, MAX_SESSIONS};

@@ -116,7 +116,7 @@ impl<H: NodeHash, V: VufCheck, S: Verifier> Monitor<H, V, S> {
         }
     }
 
-    /// Updates the chain of the client.
+    /// Updates the chain of the client. Takes as many digests as `Client::update`.
     ///
     /// # Errors
     ///
@@ -135,7 +135,7 @@ impl<H: NodeHash, V: VufCheck, S: Verifier> Monitor<H, V, S> {
         self.client.update(hash, verifier, bytes)
     }
 
-    /// Takes each root that the next piece of a list makes whole, as `Client::update_from`.
+    /// Takes each root that the next piece of a list makes whole, as `Client::update_from`, with as many digests.
     ///
     /// # Errors
     ///

@@ -14,7 +14,7 @@ use Rattle.play.specs.Hearing.{response_text}
 use Rattle.play.specs.Lines.{of_session}
 use Rattle.play.specs.Watchers.{alarm_key}
 
--- where a monitor of a name is
+-- a word, a name in digits, and an epoch
 abbrev pub placed_text : List ℕ → List ℕ → ℕ → List ℕ
 placed_text word name epoch = word ++ encode_lower name ++ codes " " ++ decimal epoch
 

@@ -42,6 +42,7 @@ pub enum Ask {
         count: u16,
     },
     Head,
+    /// `close`, or `rotate` where there is a nonce.
     Turn {
         epoch: u64,
         nonce: Option<Hash32>,

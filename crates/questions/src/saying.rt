@@ -1,4 +1,4 @@
-//! What the programs tell of the values of `rootchain` and `proofs`.
+//! How programs of questions tell evidence, places and statements.
 
 use crate::Case;
 use proofs::Statement;

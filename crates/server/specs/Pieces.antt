@@ -13,8 +13,8 @@ use Rattle.server.specs.declared.serve_fault.ServeFault.{ServeFault}
 use Rattle.server.specs.declared.serve_fault.ServeFault.TheVariants.{CannotRead, CannotWrite, OutOfMemory, OutOfMemoryAndCannotWrite}
 
 module _ {S : Type 0} (answers : S → Frame → List ℕ → S → Type 0) where
-  -- the session, which held this, answers the first messages of it and a piece, and what is left waits: the session
-  -- then holds that, or what it held if the piece was not taken
+  -- the session answers the first messages of what it held and a piece, and what is left waits: the session then
+  -- holds that, or what it held if the piece was not taken
   abbrev pub GoesPart : HubState S → ℕ → Remainder → List ℕ → List Exchange → HubState S → Remainder → Remainder → Type 0
   GoesPart before session held piece exchanges after left kept = (at_session before.sessions session ≡ Some held)
       × (after.sessions ≡ set_value (is_at (nat_cmp session)) before.sessions kept)

@@ -13,7 +13,8 @@ use vrfiface::VufCheck;
 
 impl<H: NodeHash, V: VufCheck, S: Verifier> Client<H, V, S> {
     /// Takes the list of roots that these bytes spell, in order: those that the chain has are passed over,
-    /// and those that follow its head are appended. Takes at most one digest for each.
+    /// and those that follow its head are appended. Takes at most one digest for each
+    /// root that the number at the front announces.
     ///
     /// # Errors
     ///

@@ -14,7 +14,7 @@ use vrfiface::VufCheck;
 
 impl<H: NodeHash, V: VufCheck, S: Verifier> Client<H, V, S> {
     /// Takes each root that the next piece of a list makes whole, as `update` does, before the next one is
-    /// looked at. Takes at most one digest for each.
+    /// looked at. Takes at most one digest for each root that the piece makes whole.
     ///
     /// # Errors
     ///

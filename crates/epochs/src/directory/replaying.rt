@@ -1,5 +1,5 @@
-// A record is carried out as the call that it was kept of, by the same private functions, under its own salt and
-// over a keeper of nothing. So no record is kept, the salts to come stay, and the roots are the same bytes.
+// A record is replayed by the private functions of the call that made it, under its own salt, with a keeper that
+// keeps nothing. So no record is kept, the salts to come stay, and the roots are the same bytes.
 
 ghost use Rattle.std.specs.Prelude.{◌≡◌, ◌+◌, ◌≤◌, IsSome};
 ghost use Rattle.commands.specs.declared.edit.Verb.TheVariants.{Change, Register};
@@ -26,6 +26,7 @@ impl<H: NodeHash, V: Vuf, S: Signer, R: Rng> Directory<H, V, S, R> {
     pub fn foresee(&mut self, texts: [NodeText; AT_ONCE])
         ensures stays { self.new ≡ record self.old { digests = self.new.digests } }
         ensures work { self.new.digests ≤ self.old.digests + AT_ONCE }
+        ensures at_once { AT_ONCE ≡ 4 }
     {
         self.foreseen = Foreseen::digested(&mut self.hash, texts);
     }
@@ -106,7 +107,7 @@ impl<H: NodeHash, V: Vuf, S: Signer, R: Rng> Directory<H, V, S, R> {
         ensures keys { HasKeysOf self.old self.new }
         ensures work { self.new.digests ≤ self.old.digests + 1 }
     {
-        // As above.
+        // As in `register_again`.
         name.bytes();
         key.bytes();
         match self.rebind(&mut NoKeeper, what, name, key, salt) {

@@ -1,5 +1,5 @@
 // What a line asks goes as one frame to session 0 of the hub, and the frame that comes back is told. A proof is
-// told by what the client makes of it, and a promise also goes on to the monitors of its name.
+// told by what the client makes of it, and the promise of a new key also goes to the monitors of its name.
 
 ghost use Rattle.std.specs.Prelude.{◌≡◌, ◌≢◌, ◌==◌, ◌++◌, ◌∷◌, [], if◌then◌else◌, IfOk, List, OnOk};
 ghost use Rattle.commands.specs.declared.edit.Verb.{Verb};
