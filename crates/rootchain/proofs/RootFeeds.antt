@@ -395,6 +395,13 @@ front-spelled root more is =
     front-root (bytes ++ more) size (root.signature ++ more) told (omega (arith, is.1.1)) (omega (arith, whole, length-append bytes more))
     ∙ rw (take_at bytes more (148 + size) whole, drop_at bytes more (148 + size) whole, read) refl
 
+-- a root that is whole in a piece, where nothing is held
+pub in-place : (held piece : List ℕ) (root : SignedRoot) (rest : List ℕ) (len : ℕ) → held ≡ [] → piece ≡ signed_root_bytes root ++ rest → IsSignedRoot root
+    → len ≡ length (signed_root_bytes root) → front (held ++ piece) ≡ Whole root (drop len piece)
+in-place held piece root rest len none spelled is size =
+    ap (λ (z : List ℕ). front (z ++ piece)) none ∙ ap front spelled ∙ front-spelled root rest is
+    ∙ ap (Whole root) (sym (ap (drop len) spelled ∙ drop_at (signed_root_bytes root) rest len (sym size)))
+
 roots-spelled : (roots : List SignedRoot) → AllByRecursion IsSignedRoot roots → told (length roots) (flat_map signed_root_bytes roots) ≡ (roots, Done)
 roots-spelled [] each = refl
 roots-spelled (root ∷ roots) each =

@@ -235,6 +235,22 @@ fn first_of<'a>(held: &mut SignedRootText, piece: &'a [u8]) -> Next<'a>
     ensures front { IsFront (held.old ++ piece.entry.now) result held.new }
     ensures form { HasSpelledRoot result }
 {
+    // A root that is whole in the piece is read where it lies.
+    if held.bytes().is_empty() {
+        if let Ok(root) = SignedRoot::read_from(&mut Cursor::new(piece)) {
+            let rest = piece.split_at(root.written_len()).1;
+            return Next::Root(root, rest);
+        }
+    }
+    first_held(held, piece)
+}
+
+/// `first_of` by way of the bytes that are held.
+fn first_held<'a>(held: &mut SignedRootText, piece: &'a [u8]) -> Next<'a>
+    requires { front held.old ≡ Part }
+    ensures front { IsFront (held.old ++ piece.entry.now) result held.new }
+    ensures form { HasSpelledRoot result }
+{
     let rest = fill(held, FIXED_LEN, piece);
     let Ok(signature_len) = read_signature_len(&mut Cursor::new(held.bytes())) else {
         return Next::Wait;

@@ -1,44 +1,11 @@
-use Rattle.std.proofs.Common.{rules, ◌≡◌, ◌+◌, Ok, Err}
-use Rattle.encoding.specs.Reading.{whole_of}
-use Rattle.rootchain.specs.RootFeeds.{read_signature_len}
-use Rattle.rootchain.specs.SignedRoots.{read_signed_root}
-use Rattle.rootchain.proofs.RootFeeds.{ends, fails, waits, waits-again, Fills}
+use Rattle.std.proofs.Common.{rules, ◌≡◌, length, drop, []}
+use Rattle.std.proofs.lemmas.List.{nil_from_length}
+use Rattle.rootchain.proofs.RootFeeds.{in-place}
 use Rattle.rootchain.proofs.root_feed.first_of.Goals as goal
 
-pub returns-in_default-clause-front : goal.returns-in_default-clause-front
-returns-in_default-clause-front c =
-    let fills : Fills c.args.held.now c.args.piece.now 148 c.fill-rest.new.held c.fill-rest.result.now = record { joined = c.fill-rest.ensures.joined; full = c.fill-rest.ensures.full; most = c.fill-rest.ensures.most; stays = c.fill-rest.ensures.stays } in
-    let none : read_signature_len c.fill-rest.new.held ≡ Err c.in_default.field-0 = search rules in
-    waits _ _ _ _ fills c.in_default.field-0 none
-
-pub returns-then-signature_len-gt-MAX_SMALL_LEN-clause-front : goal.returns-then-signature_len-gt-MAX_SMALL_LEN-clause-front
-returns-then-signature_len-gt-MAX_SMALL_LEN-clause-front c =
-    let fills : Fills c.args.held.now c.args.piece.now 148 c.fill-rest.new.held c.fill-rest.result.now = record { joined = c.fill-rest.ensures.joined; full = c.fill-rest.ensures.full; most = c.fill-rest.ensures.most; stays = c.fill-rest.ensures.stays } in
-    let told : read_signature_len c.fill-rest.new.held ≡ Ok (c.in-Ok.signature_len, c.read_signature_len.new.cursor) = search rules in
-    fails _ _ _ _ fills c.in-Ok.signature_len c.read_signature_len.new.cursor told (search rules)
-
-pub returns-then-bytes-len-clause-front : goal.returns-then-bytes-len-clause-front
-returns-then-bytes-len-clause-front c =
-    let fills : Fills c.args.held.now c.args.piece.now 148 c.fill-rest.new.held c.fill-rest.result.now = record { joined = c.fill-rest.ensures.joined; full = c.fill-rest.ensures.full; most = c.fill-rest.ensures.most; stays = c.fill-rest.ensures.stays } in
-    let told : read_signature_len c.fill-rest.new.held ≡ Ok (c.in-Ok.signature_len, c.read_signature_len.new.cursor) = search rules in
-    let again : Fills c.fill-rest.new.held c.fill-rest.result.now (148 + c.in-Ok.signature_len) c.fill-rest-2.new.held c.fill-rest-2.result.now =
-    record { joined = c.fill-rest-2.ensures.joined; full = c.fill-rest-2.ensures.full; most = c.fill-rest-2.ensures.most; stays = c.fill-rest-2.ensures.stays } in
-    waits-again _ _ _ _ fills c.in-Ok.signature_len c.read_signature_len.new.cursor told (search rules) c.requires c.fill-rest-2.new.held c.fill-rest-2.result.now again (search rules)
-
-pub returns-in-Ok-read_whole-clause-front : goal.returns-in-Ok-read_whole-clause-front
-returns-in-Ok-read_whole-clause-front c =
-    let fills : Fills c.args.held.now c.args.piece.now 148 c.fill-rest.new.held c.fill-rest.result.now = record { joined = c.fill-rest.ensures.joined; full = c.fill-rest.ensures.full; most = c.fill-rest.ensures.most; stays = c.fill-rest.ensures.stays } in
-    let told : read_signature_len c.fill-rest.new.held ≡ Ok (c.in-Ok.signature_len, c.read_signature_len.new.cursor) = search rules in
-    let again : Fills c.fill-rest.new.held c.fill-rest.result.now (148 + c.in-Ok.signature_len) c.fill-rest-2.new.held c.fill-rest-2.result.now =
-    record { joined = c.fill-rest-2.ensures.joined; full = c.fill-rest-2.ensures.full; most = c.fill-rest-2.ensures.most; stays = c.fill-rest-2.ensures.stays } in
-    let read : whole_of (read_signed_root c.fill-rest-2.new.held) ≡ Ok c.in-Ok-read_whole.root = search rules in
-    (ends _ _ _ _ fills c.in-Ok.signature_len c.read_signature_len.new.cursor told (search rules) c.requires c.fill-rest-2.new.held c.fill-rest-2.result.now again (search rules) (Ok c.in-Ok-read_whole.root) read, c.new-in-Ok-read_whole.ensures)
-
-pub returns-in-Err-clause-front : goal.returns-in-Err-clause-front
-returns-in-Err-clause-front c =
-    let fills : Fills c.args.held.now c.args.piece.now 148 c.fill-rest.new.held c.fill-rest.result.now = record { joined = c.fill-rest.ensures.joined; full = c.fill-rest.ensures.full; most = c.fill-rest.ensures.most; stays = c.fill-rest.ensures.stays } in
-    let told : read_signature_len c.fill-rest.new.held ≡ Ok (c.in-Ok.signature_len, c.read_signature_len.new.cursor) = search rules in
-    let again : Fills c.fill-rest.new.held c.fill-rest.result.now (148 + c.in-Ok.signature_len) c.fill-rest-2.new.held c.fill-rest-2.result.now =
-    record { joined = c.fill-rest-2.ensures.joined; full = c.fill-rest-2.ensures.full; most = c.fill-rest-2.ensures.most; stays = c.fill-rest-2.ensures.stays } in
-    let read : whole_of (read_signed_root c.fill-rest-2.new.held) ≡ Err c.in-Err.field-0 = search rules in
-    ends _ _ _ _ fills c.in-Ok.signature_len c.read_signature_len.new.cursor told (search rules) c.requires c.fill-rest-2.new.held c.fill-rest-2.result.now again (search rules) (Err c.in-Err.field-0) read
+pub returns-in-Ok-clause-front : goal.returns-in-Ok-clause-front
+returns-in-Ok-clause-front c =
+    let few : length c.args.held.now ≡ 0 = search rules in
+    let none : c.args.held.now ≡ [] = nil_from_length _ few in
+    let rest : c.split_at.result.1.now ≡ drop c.written_len.result c.args.piece.now = search rules in
+    (rw rest (in-place c.args.held.now c.args.piece.now c.in-Ok.root c.read_from.new.cursor c.written_len.result none (search rules) (search rules) (search rules)), none)
