@@ -236,7 +236,7 @@ fn first_of<'a>(held: &mut SignedRootText, piece: &'a [u8]) -> Next<'a>
     ensures form { HasSpelledRoot result }
 {
     // A root that is whole in the piece is read where it lies.
-    if held.bytes().is_empty() {
+    if held.bytes().is_empty() && FIXED_LEN < piece.len() {
         if let Ok(root) = SignedRoot::read_from(&mut Cursor::new(piece)) {
             let rest = piece.split_at(root.written_len()).1;
             return Next::Root(root, rest);

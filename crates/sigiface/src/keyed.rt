@@ -4,7 +4,7 @@ ghost use Rattle.sigiface.specs.StandIn.{keyed_signature};
 
 use crate::{Signer, Verifier};
 use encoding::{Hash32, Small};
-use nodehash::keyed_digest;
+use nodehash::{keyed_digest, small_keyed_digest};
 use std::marker::Model;
 
 /// The kind byte of a signature: the letter S.
@@ -54,6 +54,6 @@ impl Signer for KeyedSign {
     }
 
     fn sign(&self, message: &[u8]) -> Small {
-        keyed_digest(SIGNATURE, &self.key, message)
+        small_keyed_digest(SIGNATURE, &self.key, message)
     }
 }

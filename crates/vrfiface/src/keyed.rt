@@ -5,7 +5,7 @@ ghost use Rattle.vrfiface.specs.StandIns.{keyed_value};
 
 use crate::{UniqueVuf, Vuf, VufCheck};
 use encoding::{Hash32, Name, Small};
-use nodehash::keyed_digest;
+use nodehash::{keyed_digest, small_keyed_digest};
 use std::marker::Model;
 
 /// The kind byte of a value: the letter V.
@@ -55,7 +55,7 @@ impl Vuf for KeyedVuf {
     }
 
     fn value(&self, name: &Name) -> Small {
-        keyed_digest(VALUE, &self.key, name.bytes())
+        small_keyed_digest(VALUE, &self.key, name.bytes())
     }
 }
 
