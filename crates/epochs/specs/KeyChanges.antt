@@ -6,11 +6,12 @@ use Rattle.book.specs.declared.directory_refusal.Refusal.{Refusal}
 use Rattle.book.specs.declared.directory_refusal.Refusal.TheVariants.{NoSuchName, PendingExists}
 use Rattle.book.specs.Books.{Binding}
 use Rattle.book.specs.Maps.{at}
+use Rattle.book.specs.Turns.{IsUnkept}
 use Rattle.prefixtree.specs.Placement.{Items, commitment_of, put}
 use Rattle.epochs.specs.declared.address.Address.{Address}
 use Rattle.epochs.specs.Addresses.{HistoryContent, NamesContent, with_name}
 use Rattle.epochs.specs.Histories.{Version, binding_at, waiting}
-use Rattle.epochs.specs.Versions.{AllBefore, IsUnkept, versions_of}
+use Rattle.epochs.specs.Versions.{AllBefore, versions_of}
 
 -- why a key is not changed, by what the last page shows of its name and what waits for it
 abbrev pub change_refusal : Option Binding → Option Binding → Option Refusal

@@ -1,9 +1,10 @@
 //! A change of the key of a name that has a history.
 ghost use Rattle.std.specs.Prelude.{◌≡◌, ◌+◌, ◌<◌, ◌≤◌, ◌++◌, ◌∷◌, [], None, MatchResult, Some};
+ghost use Rattle.book.specs.Turns.{IsUnkept};
 ghost use Rattle.commit.specs.Commitments.{commitment_bytes};
 ghost use Rattle.prefixtree.specs.Placement.{commitment_of, put};
 ghost use Rattle.epochs.specs.KeyChanges.{FitsHistory, IsChangedHistory, IsRefusedSo, refused_before};
-ghost use Rattle.epochs.specs.Versions.{AllBefore, IsUnkept, in_order};
+ghost use Rattle.epochs.specs.Versions.{AllBefore, in_order};
 
 use crate::foreseen::Foreseen;
 use crate::history::{History, Version};

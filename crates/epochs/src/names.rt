@@ -4,10 +4,11 @@ ghost use Rattle.std.specs.Prelude.{◌≡◌, ◌+◌, ◌<◌, ◌≤◌, [], 
 ghost use Rattle.std.specs.Option.{option_map};
 ghost use Rattle.commit.specs.Commitments.{commitment_bytes};
 ghost use Rattle.book.specs.Maps.{at};
+ghost use Rattle.book.specs.Turns.{IsUnkept};
 ghost use Rattle.epochs.specs.Addresses.{named, with_name};
 ghost use Rattle.epochs.specs.Histories.{binding_at};
 ghost use Rattle.epochs.specs.KeyChanges.{AreChangedNames, FitsNames, IsRefusedSo, refused_before};
-ghost use Rattle.epochs.specs.Versions.{AllBefore, AreHistories, IsUnkept, in_order, versions_of};
+ghost use Rattle.epochs.specs.Versions.{AllBefore, AreHistories, in_order, versions_of};
 
 use crate::address::Address;
 use crate::foreseen::Foreseen;

@@ -5,7 +5,8 @@ ghost use Rattle.commit.specs.Commitments.{commitment_bytes};
 ghost use Rattle.prefixtree.specs.Placement.{HasDistinctIndices, commitment_of, put};
 ghost use Rattle.epochs.specs.Addresses.{with_name};
 ghost use Rattle.epochs.specs.KeyChanges.{AreChangedNames, FitsNames, IsRefusedSo, refused_before};
-ghost use Rattle.epochs.specs.Versions.{AllBefore, IsUnkept, in_order, versions_of};
+ghost use Rattle.book.specs.Turns.{IsUnkept};
+ghost use Rattle.epochs.specs.Versions.{AllBefore, in_order, versions_of};
 
 use crate::address::Address;
 use crate::foreseen::Foreseen;

@@ -17,13 +17,12 @@ ghost use Rattle.book.specs.Maps.{at, overwritten};
 ghost use Rattle.book.specs.Replays.{put_refusal, with_bound};
 ghost use Rattle.book.specs.Shows.{index_of as index_by, placement};
 ghost use Rattle.book.specs.Sound.{HoldsName};
-ghost use Rattle.book.specs.Turns.{Shows, Turn};
+ghost use Rattle.book.specs.Turns.{IsUnkept, Shows, Turn};
 ghost use Rattle.epochs.specs.Addresses.{address_of};
 ghost use Rattle.epochs.specs.DirectoryStates.{book, provider, HasKeysOf};
 ghost use Rattle.epochs.specs.KeyChanges.{IsRefusedSo};
 ghost use Rattle.epochs.specs.Replayed.{changed_digests, tree_digests};
 ghost use Rattle.epochs.specs.Replied.{last, promised};
-ghost use Rattle.epochs.specs.Versions.{IsUnkept};
 
 use super::Directory;
 use crate::address::Address;

@@ -1,6 +1,7 @@
 use Rattle.std.proofs.Common.{subst, sym, ap, inr, ℕ}
 use Rattle.book.specs.declared.directory_refusal.Refusal.{Refusal}
-use Rattle.epochs.specs.Versions.{AllBefore, IsUnkept, in_order}
+use Rattle.book.specs.Turns.{IsUnkept}
+use Rattle.epochs.specs.Versions.{AllBefore, in_order}
 use Rattle.epochs.specs.KeyChanges.{IsRefusedSo, refused_before}
 use Rattle.epochs.specs.Histories.{Version}
 use Rattle.epochs.proofs.KeyChanges.{changed_history}
