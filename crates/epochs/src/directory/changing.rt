@@ -26,6 +26,7 @@ ghost use Rattle.epochs.specs.Replied.{last, promised};
 
 use super::Directory;
 use crate::address::Address;
+use crate::held::KeyChange;
 use crate::history::Version;
 use crate::signing::{hash_of, next_salt, signed_promise, signed_root};
 use crate::waiting::{let_change_wait, let_wait};
@@ -403,6 +404,12 @@ impl<H: NodeHash, V: Vuf, S: Signer, R: Rng> Directory<H, V, S, R> {
         key.bytes();
         salt.bytes();
         let page = self.roots.len();
+        let change = KeyChange {
+            name,
+            key,
+            salt,
+            page,
+        };
         let_change_wait(
             &mut self.names,
             &mut self.waiting,
@@ -410,10 +417,7 @@ impl<H: NodeHash, V: Vuf, S: Signer, R: Rng> Directory<H, V, S, R> {
             &mut self.hash,
             keeper,
             what,
-            name,
-            key,
-            salt,
-            page,
+            &change,
         )
     }
 
