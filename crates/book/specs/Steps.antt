@@ -1,6 +1,6 @@
 -- One step of a book: the first refusal of a command that applies, what the book answers, what it is after the
 -- command, and the record that is kept of it.
-use Rattle.std.specs.Prelude.{ℕ, ◌&&◌, ◌||◌, not, nat_le, Bool, false, if◌then◌else◌, List, [], ◌∷◌, length, filter, take, find, Option, Some, None, is_some, is_none, unwrap_or}
+use Rattle.std.specs.Prelude.{ℕ, ◌&&◌, ◌||◌, not, nat_le, Bool, false, if◌then◌else◌, List, [], ◌∷◌, ◌++◌, length, filter, take, find, Option, Some, None, is_some, is_none, unwrap_or}
 use Rattle.std.specs.Str.{bytes_eq}
 use Rattle.rand_core.specs.Stream.{fill_bytes}
 use Rattle.encoding.specs.Reading.{is_within}
@@ -68,6 +68,10 @@ abbrev pub bad_verb : Verb → Option Binding → Bool × Refusal
 bad_verb Register found = (is_some found, NameTaken)
 bad_verb Change found = (is_none found, NoSuchName)
 
+-- what is against a key for a name, by what the last page has at the name, and what waits for it
+abbrev pub binding_tests : Verb → Option Binding → Option Binding → List (Bool × Refusal)
+binding_tests verb shown waits = bad_verb verb shown ∷ (is_some waits, PendingExists) ∷ []
+
 module _ (index_of : List ℕ → List ℕ) where
   -- another name of these has the index of this one
   abbrev pub has_its_index : List ℕ → Map Binding → Bool
@@ -87,7 +91,7 @@ module _ (index_of : List ℕ → List ℕ) where
 
   -- what the book has against a key for a name, where both are within their limits
   abbrev pub put_tests : Book → Verb → List ℕ → List (Bool × Refusal)
-  put_tests book verb name = bad_verb verb (at book.last.bindings name) ∷ (is_some (at book.pending name), PendingExists) ∷ bad_index verb book name ∷ []
+  put_tests book verb name = binding_tests verb (at book.last.bindings name) (at book.pending name) ++ bad_index verb book name ∷ []
 
   -- the first refusal of an edit that applies, if one does, but for want of memory and what is not kept
   abbrev pub edit_refusal : Book → Revision → Option Refusal

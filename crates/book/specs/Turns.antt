@@ -13,6 +13,10 @@ use Rattle.commands.specs.Operations.{Operation}
 use Rattle.book.specs.Books.{Binding, Book, Page}
 use Rattle.book.specs.Shows.{Provider, index_of, promise, signed_promise, IsReplyOf, IsRootOf}
 
+-- why a command is refused that has a record to keep: memory is wanting, or the keeper failed to keep the record
+abbrev pub IsUnkept : {K : Type 0} → (K → Record → K → Type 0) → K → Record → Refusal → K → Type 0
+IsUnkept failed keeper lost why after = ((why ≡ Memory) × (after ≡ keeper)) ⊎ ((why ≡ KeepFailed) × failed keeper lost after)
+
 module _ (provider : Provider) where
   -- the reply shows the answer of a book, as the book is after it
   abbrev pub Shows : Book → Answer → Reply → Type 0
@@ -35,7 +39,7 @@ module _ (provider : Provider) where
     abbrev pub Declines : Outcome → Option Record → K → Refusal → K → Type 0
     Declines (Refuses due) lost keeper why after = (why ≡ due) × (after ≡ keeper)
     Declines (Answers answer) None keeper why after = ⊥
-    Declines (Answers answer) (Some lost) keeper why after = ((why ≡ Memory) × (after ≡ keeper)) ⊎ ((why ≡ KeepFailed) × failed keeper lost after)
+    Declines (Answers answer) (Some lost) keeper why after = IsUnkept failed keeper lost why after
 
     -- a call: a refusal leaves the book; else the answer and the book after it are the step's, the record
     -- was kept, and the reply shows the answer

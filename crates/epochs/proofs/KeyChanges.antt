@@ -16,10 +16,11 @@ use Rattle.book.specs.Maps.{at}
 use Rattle.book.specs.Replays.{put_refusal, with_bound}
 use Rattle.book.specs.Shows.{Provider, index_of}
 use Rattle.book.specs.Sound.{HoldsName}
+use Rattle.book.specs.Steps.{binding_tests, first}
 use Rattle.epochs.specs.declared.address.Address.{Address}
 use Rattle.epochs.specs.Addresses.{AreAddresses, HistoryContent, NamesContent, address_of, named, with_history}
 use Rattle.epochs.specs.Histories.{Version, binding_at, chosen, waiting}
-use Rattle.epochs.specs.KeyChanges.{AreChangedNames, FitsHistory, FitsNames, IsChangedHistory, change_refusal, refused_before}
+use Rattle.epochs.specs.KeyChanges.{AreChangedNames, FitsHistory, FitsNames, IsChangedHistory, refused_before}
 use Rattle.epochs.specs.Parts.{Keeps, Parts, last_of, pending_of}
 use Rattle.epochs.specs.Versions.{AllBefore, AreHistories, versions_of}
 use Rattle.epochs.proofs.Addresses.{address-kept, addresses_with, chosen_found, same-some}
@@ -31,6 +32,10 @@ use Rattle.epochs.proofs.Parts.{book_of}
 use Rattle.epochs.proofs.Versions.{histories_with}
 
 -- ---- what the tests tell
+
+-- the first of them that holds
+abbrev change_refusal : Option Binding → Option Binding → Option Refusal
+change_refusal shown waits = first (binding_tests Change shown waits)
 
 lacking : (shown waits : Option Binding) → is_some shown ≡ false → change_refusal shown waits ≡ Some NoSuchName
 lacking None waits is = refl

@@ -12,11 +12,10 @@ use Rattle.commands.specs.declared.edit.Verb.{Verb}
 use Rattle.commands.specs.Operations.{Operation, Edit, Put}
 use Rattle.book.specs.Books.{Book}
 use Rattle.book.specs.Shows.{Provider, index_of}
-use Rattle.book.specs.Turns.{KeepsOne, Shows, Turn}
+use Rattle.book.specs.Turns.{IsUnkept, KeepsOne, Shows, Turn}
 use Rattle.book.proofs.Calls.{answers, fails, wants}
 use Rattle.book.proofs.Stepping.{Does}
 use Rattle.epochs.specs.Replied.{last, promised}
-use Rattle.epochs.specs.Versions.{IsUnkept}
 
 module _ (provider : Provider) {K : Type 0} (kept failed : K → Record → K → Type 0) (book done : Book) (keeper : K) (asked : Operation) (answer : Answer) (what : Record)
     (none : refusal (index_of provider) book asked ≡ None) (does : Does book asked answer done) (recorded : kept_of book asked ≡ Some what) where

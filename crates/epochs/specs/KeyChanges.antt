@@ -1,24 +1,21 @@
 -- A change of a name's key: why it is refused, where a version may come, and what comes of it.
-use Rattle.std.specs.Prelude.{◌≡◌, ◌⊎◌, ℕ, ◌-◌, List, [], ◌∷◌, ◌++◌, Option, Some, None, is_none, is_some, if◌then◌else◌}
+use Rattle.std.specs.Prelude.{◌≡◌, ◌⊎◌, ℕ, ◌-◌, List, [], ◌∷◌, ◌++◌, Option, Some, None}
 use Rattle.std.specs.Option.{option_map}
+use Rattle.commands.specs.declared.edit.Verb.TheVariants.{Change}
 use Rattle.book.specs.declared.record.Record.{Record}
 use Rattle.book.specs.declared.directory_refusal.Refusal.{Refusal}
-use Rattle.book.specs.declared.directory_refusal.Refusal.TheVariants.{NoSuchName, PendingExists}
-use Rattle.book.specs.Books.{Binding}
 use Rattle.book.specs.Maps.{at}
+use Rattle.book.specs.Steps.{binding_tests, first}
+use Rattle.book.specs.Turns.{IsUnkept}
 use Rattle.prefixtree.specs.Placement.{Items, commitment_of, put}
 use Rattle.epochs.specs.declared.address.Address.{Address}
 use Rattle.epochs.specs.Addresses.{HistoryContent, NamesContent, with_name}
 use Rattle.epochs.specs.Histories.{Version, binding_at, waiting}
-use Rattle.epochs.specs.Versions.{AllBefore, IsUnkept, versions_of}
+use Rattle.epochs.specs.Versions.{AllBefore, versions_of}
 
--- why a key is not changed, by what the last page shows of its name and what waits for it
-abbrev pub change_refusal : Option Binding → Option Binding → Option Refusal
-change_refusal shown waits = if is_none shown then Some NoSuchName else (if is_some waits then Some PendingExists else None)
-
--- the same of a name of these versions, before this page
+-- why the key of a name of these versions is not changed before this page
 abbrev pub refused_before : ℕ → List Version → Option Refusal
-refused_before page versions = change_refusal (binding_at (page - 1) versions) (waiting page versions)
+refused_before page versions = first (binding_tests Change (binding_at (page - 1) versions) (waiting page versions))
 
 -- why a call refuses: as is due; where nothing is, memory is wanting, or the keeper failed
 abbrev pub IsRefusedSo : {K : Type 0} → (K → Record → K → Type 0) → K → Record → Option Refusal → Refusal → K → Type 0

@@ -1,12 +1,9 @@
 -- Names with their versions: in which order they stand, and how one more comes.
-use Rattle.std.specs.Prelude.{◌≡◌, ◌⊎◌, ℕ, ◌<◌, ◌≤◌, List, [], ◌∷◌, ◌++◌}
+use Rattle.std.specs.Prelude.{ℕ, ◌<◌, ◌≤◌, List, [], ◌∷◌, ◌++◌}
 use Rattle.std.specs.List.{AllByRecursion}
 use Rattle.std.specs.List.Sorted.{IsStrictlySortedBy}
 use Rattle.std.specs.Map.{keys_of}
 use Rattle.std.specs.Option.{unwrap_or}
-use Rattle.book.specs.declared.record.Record.{Record}
-use Rattle.book.specs.declared.directory_refusal.Refusal.{Refusal}
-use Rattle.book.specs.declared.directory_refusal.Refusal.TheVariants.{Memory, KeepFailed}
 use Rattle.prefixtree.specs.Placement.{Items}
 use Rattle.epochs.specs.Histories.{Version}
 use Rattle.book.specs.Maps.{Map, at, put_name}
@@ -50,7 +47,3 @@ at_bytes bytes of (entry ∷ entries) = put_name (at_bytes bytes of entries) (by
 -- the items that the entries of a map are, in the order of their indices
 abbrev pub in_order : Items → Items
 in_order entries = at_bytes (λ index. index) (λ commitment. commitment) entries
-
--- why a change is not made: memory is wanting, or the keeper failed to keep its record
-abbrev pub IsUnkept : {K : Type 0} → (K → Record → K → Type 0) → K → Record → Refusal → K → Type 0
-IsUnkept failed keeper lost why after = ((why ≡ Memory) × (after ≡ keeper)) ⊎ ((why ≡ KeepFailed) × failed keeper lost after)

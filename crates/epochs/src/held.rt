@@ -1,9 +1,10 @@
 //! A change of the key of a name that has a history.
 ghost use Rattle.std.specs.Prelude.{◌≡◌, ◌+◌, ◌<◌, ◌≤◌, ◌++◌, ◌∷◌, [], None, MatchResult, Some};
+ghost use Rattle.book.specs.Turns.{IsUnkept};
 ghost use Rattle.commit.specs.Commitments.{commitment_bytes};
 ghost use Rattle.prefixtree.specs.Placement.{commitment_of, put};
 ghost use Rattle.epochs.specs.KeyChanges.{FitsHistory, IsChangedHistory, IsRefusedSo, refused_before};
-ghost use Rattle.epochs.specs.Versions.{AllBefore, IsUnkept, in_order};
+ghost use Rattle.epochs.specs.Versions.{AllBefore, in_order};
 
 use crate::foreseen::Foreseen;
 use crate::history::{History, Version};
@@ -14,6 +15,15 @@ use nodehash::NodeHash;
 use std::alloc::Global;
 use std::collections::HashMap;
 use std::collections::hash_map::Entry;
+
+/// Another key for a name, under this salt, from this page on.
+#[derive(Clone, Copy)]
+pub(crate) struct KeyChange<'a> {
+    pub(crate) name: &'a Name,
+    pub(crate) key: &'a KeyData,
+    pub(crate) salt: Hash32,
+    pub(crate) page: usize,
+}
 
 /// Adds a version of this page to a history, and its commitment to what waits, once the record is kept. Gives
 /// the index of the name. Takes at most one digest.
@@ -29,27 +39,24 @@ pub(crate) fn change_at<H: NodeHash, K: Keeper>(
     hash: &mut H,
     keeper: &mut K,
     what: &Record,
-    name: &Name,
-    key: &KeyData,
-    salt: Hash32,
-    page: usize,
+    change: &KeyChange<'_>,
 ) -> Result<Index, Refusal>
-    requires begun { 0 < page }
-    requires fits { FitsHistory history.old (in_order commitments.old.entries) page }
+    requires begun { 0 < change.now.page }
+    requires fits { FitsHistory history.old (in_order commitments.old.entries) change.now.page }
     ensures made { MatchResult result
         (λ index. K.kept keeper.old what.now keeper.new
-        × IsChangedHistory history.old (in_order commitments.old.entries) (record { number = page; binding = record { key = key.now; salt = salt } })
-        (H.digest_of (commitment_bytes salt name.now key.now)) index history.new (in_order commitments.new.entries))
+        × IsChangedHistory history.old (in_order commitments.old.entries) (record { number = change.now.page; binding = record { key = change.now.key.now; salt = change.now.salt } })
+        (H.digest_of (commitment_bytes change.now.salt change.now.name.now change.now.key.now)) index history.new (in_order commitments.new.entries))
         (λ why. (history.new ≡ history.old) × (in_order commitments.new.entries ≡ in_order commitments.old.entries)
-        × IsRefusedSo K.failed keeper.old what.now (refused_before page history.old.versions) why keeper.new) }
+        × IsRefusedSo K.failed keeper.old what.now (refused_before change.now.page history.old.versions) why keeper.new) }
     ensures work { H.digests hash.new ≤ H.digests hash.old + 1 }
 {
-    match may_change(history, page) {
+    match may_change(history, change.page) {
         Ok(()) => {}
         Err(why) => return Err(why),
     }
-    let commitment = foreseen.commit(hash, &salt, name, key);
-    let version = Version::new(alloc, page, key, salt)?;
+    let commitment = foreseen.commit(hash, &change.salt, change.name, change.key);
+    let version = Version::new(alloc, change.page, change.key, change.salt)?;
     add_at(history, commitments, keeper, what, version, commitment)
 }
 

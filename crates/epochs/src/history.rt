@@ -5,8 +5,9 @@ ghost use Rattle.std.specs.Prelude.{◌≡◌, ◌<◌, ◌≤◌, ◌++◌, ◌
 ghost use Rattle.std.specs.List.Sorted.{IsPartitionPoint};
 ghost use Rattle.std.specs.Option.{option_map};
 ghost use Rattle.encoding.specs.Limits.{IsSmall};
+ghost use Rattle.book.specs.Turns.{IsUnkept};
 ghost use Rattle.epochs.specs.Histories.{binding_at, waiting};
-ghost use Rattle.epochs.specs.Versions.{AllBefore, Ascends, IsUnkept};
+ghost use Rattle.epochs.specs.Versions.{AllBefore, Ascends};
 
 use crate::address::Address;
 use book::{Keeper, Record, Refusal};

@@ -4,18 +4,19 @@ ghost use Rattle.std.specs.Prelude.{◌≡◌, ◌+◌, ◌<◌, ◌≤◌, [], 
 ghost use Rattle.std.specs.Option.{option_map};
 ghost use Rattle.commit.specs.Commitments.{commitment_bytes};
 ghost use Rattle.book.specs.Maps.{at};
+ghost use Rattle.book.specs.Turns.{IsUnkept};
 ghost use Rattle.epochs.specs.Addresses.{named, with_name};
 ghost use Rattle.epochs.specs.Histories.{binding_at};
 ghost use Rattle.epochs.specs.KeyChanges.{AreChangedNames, FitsNames, IsRefusedSo, refused_before};
-ghost use Rattle.epochs.specs.Versions.{AllBefore, AreHistories, IsUnkept, in_order, versions_of};
+ghost use Rattle.epochs.specs.Versions.{AllBefore, AreHistories, in_order, versions_of};
 
 use crate::address::Address;
 use crate::foreseen::Foreseen;
-use crate::held::change_at;
+use crate::held::{KeyChange, change_at};
 use crate::history::{History, Version};
 use crate::seeded::Seeded;
 use book::{Keeper, Record, Refusal};
-use encoding::{Hash32, Index, KeyData, Name};
+use encoding::{Hash32, Index, Name};
 use nodehash::NodeHash;
 use std::alloc::{AllocError, Global};
 use std::collections::HashMap;
@@ -127,19 +128,16 @@ impl Names {
         hash: &mut H,
         keeper: &mut K,
         what: &Record,
-        name: &Name,
-        key: &KeyData,
-        salt: Hash32,
-        page: usize,
+        change: &KeyChange<'_>,
     ) -> Result<Index, Refusal>
-        requires begun { 0 < page }
-        requires fits { FitsNames self.old (in_order commitments.old.entries) name.now page }
+        requires begun { 0 < change.now.page }
+        requires fits { FitsNames self.old (in_order commitments.old.entries) change.now.name.now change.now.page }
         ensures made { MatchResult result
             (λ index. K.kept keeper.old what.now keeper.new
-            × AreChangedNames self.old (in_order commitments.old.entries) name.now (record { number = page; binding = record { key = key.now; salt = salt } })
-            (H.digest_of (commitment_bytes salt name.now key.now)) index self.new (in_order commitments.new.entries))
+            × AreChangedNames self.old (in_order commitments.old.entries) change.now.name.now (record { number = change.now.page; binding = record { key = change.now.key.now; salt = change.now.salt } })
+            (H.digest_of (commitment_bytes change.now.salt change.now.name.now change.now.key.now)) index self.new (in_order commitments.new.entries))
             (λ why. (self.new ≡ self.old) × (in_order commitments.new.entries ≡ in_order commitments.old.entries)
-            × IsRefusedSo K.failed keeper.old what.now (refused_before page (versions_of self.old.versions name.now)) why keeper.new) }
+            × IsRefusedSo K.failed keeper.old what.now (refused_before change.now.page (versions_of self.old.versions change.now.name.now)) why keeper.new) }
         ensures work { H.digests hash.new ≤ H.digests hash.old + 1 }
     {
         change_held(
@@ -150,10 +148,7 @@ impl Names {
             hash,
             keeper,
             what,
-            name,
-            key,
-            salt,
-            page,
+            change,
         )
     }
 }
@@ -168,22 +163,19 @@ fn change_held<H: NodeHash, K: Keeper>(
     hash: &mut H,
     keeper: &mut K,
     what: &Record,
-    name: &Name,
-    key: &KeyData,
-    salt: Hash32,
-    page: usize,
+    change: &KeyChange<'_>,
 ) -> Result<Index, Refusal>
-    requires begun { 0 < page }
-    requires fits { FitsNames (named (λ key. key.items) histories.old.entries) (in_order commitments.old.entries) name.now page }
+    requires begun { 0 < change.now.page }
+    requires fits { FitsNames (named (λ key. key.items) histories.old.entries) (in_order commitments.old.entries) change.now.name.now change.now.page }
     ensures made { MatchResult result
         (λ index. K.kept keeper.old what.now keeper.new
-        × AreChangedNames (named (λ key. key.items) histories.old.entries) (in_order commitments.old.entries) name.now (record { number = page; binding = record { key = key.now; salt = salt } })
-        (H.digest_of (commitment_bytes salt name.now key.now)) index (named (λ key. key.items) histories.new.entries) (in_order commitments.new.entries))
+        × AreChangedNames (named (λ key. key.items) histories.old.entries) (in_order commitments.old.entries) change.now.name.now (record { number = change.now.page; binding = record { key = change.now.key.now; salt = change.now.salt } })
+        (H.digest_of (commitment_bytes change.now.salt change.now.name.now change.now.key.now)) index (named (λ key. key.items) histories.new.entries) (in_order commitments.new.entries))
         (λ why. (named (λ key. key.items) histories.new.entries ≡ named (λ key. key.items) histories.old.entries) × (in_order commitments.new.entries ≡ in_order commitments.old.entries)
-        × IsRefusedSo K.failed keeper.old what.now (refused_before page (versions_of (named (λ key. key.items) histories.old.entries).versions name.now)) why keeper.new) }
+        × IsRefusedSo K.failed keeper.old what.now (refused_before change.now.page (versions_of (named (λ key. key.items) histories.old.entries).versions change.now.name.now)) why keeper.new) }
     ensures work { H.digests hash.new ≤ H.digests hash.old + 1 }
 {
-    match histories.get_mut(name.bytes()) {
+    match histories.get_mut(change.name.bytes()) {
         Some(history) => change_at(
             alloc,
             history,
@@ -192,10 +184,7 @@ fn change_held<H: NodeHash, K: Keeper>(
             hash,
             keeper,
             what,
-            name,
-            key,
-            salt,
-            page,
+            change,
         ),
         None => Err(Refusal::NoSuchName),
     }

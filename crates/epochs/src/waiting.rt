@@ -5,15 +5,17 @@ ghost use Rattle.commit.specs.Commitments.{commitment_bytes};
 ghost use Rattle.prefixtree.specs.Placement.{HasDistinctIndices, commitment_of, put};
 ghost use Rattle.epochs.specs.Addresses.{with_name};
 ghost use Rattle.epochs.specs.KeyChanges.{AreChangedNames, FitsNames, IsRefusedSo, refused_before};
-ghost use Rattle.epochs.specs.Versions.{AllBefore, IsUnkept, in_order, versions_of};
+ghost use Rattle.book.specs.Turns.{IsUnkept};
+ghost use Rattle.epochs.specs.Versions.{AllBefore, in_order, versions_of};
 
 use crate::address::Address;
 use crate::foreseen::Foreseen;
+use crate::held::KeyChange;
 use crate::history::Version;
 use crate::names::Names;
 use crate::seeded::Seeded;
 use book::{Keeper, Record, Refusal};
-use encoding::{Hash32, Index, KeyData, Name};
+use encoding::{Hash32, Index, Name};
 use nodehash::NodeHash;
 use prefixtree::{Item, placed_within};
 use std::alloc::{AllocError, Global};
@@ -115,19 +117,16 @@ pub(crate) fn let_change_wait<H: NodeHash, K: Keeper>(
     hash: &mut H,
     keeper: &mut K,
     what: &Record,
-    name: &Name,
-    key: &KeyData,
-    salt: Hash32,
-    page: usize,
+    change: &KeyChange<'_>,
 ) -> Result<Index, Refusal>
-    requires begun { 0 < page }
-    requires fits { FitsNames names.old waiting.old name.now page }
+    requires begun { 0 < change.now.page }
+    requires fits { FitsNames names.old waiting.old change.now.name.now change.now.page }
     ensures made { MatchResult result
         (λ index. K.kept keeper.old what.now keeper.new
-        × AreChangedNames names.old waiting.old name.now (record { number = page; binding = record { key = key.now; salt = salt } })
-        (H.digest_of (commitment_bytes salt name.now key.now)) index names.new waiting.new)
+        × AreChangedNames names.old waiting.old change.now.name.now (record { number = change.now.page; binding = record { key = change.now.key.now; salt = change.now.salt } })
+        (H.digest_of (commitment_bytes change.now.salt change.now.name.now change.now.key.now)) index names.new waiting.new)
         (λ why. (names.new ≡ names.old) × (waiting.new ≡ waiting.old)
-        × IsRefusedSo K.failed keeper.old what.now (refused_before page (versions_of names.old.versions name.now)) why keeper.new) }
+        × IsRefusedSo K.failed keeper.old what.now (refused_before change.now.page (versions_of names.old.versions change.now.name.now)) why keeper.new) }
     ensures work { H.digests hash.new ≤ H.digests hash.old + 1 }
 {
     names.change(
@@ -136,10 +135,7 @@ pub(crate) fn let_change_wait<H: NodeHash, K: Keeper>(
         hash,
         keeper,
         what,
-        name,
-        key,
-        salt,
-        page,
+        change,
     )
 }
 

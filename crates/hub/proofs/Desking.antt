@@ -22,15 +22,8 @@ use Rattle.book.specs.Turns.{IsReadAnswer, IsRefused, ReadsOnly, Turn}
 use Rattle.epochs.specs.DirectoryStates.{DirectoryState, HasKeysOf, book as book_kept, provider as provider_kept}
 use Rattle.epochs.specs.Replied.{TellsRoots}
 use Rattle.epochs.proofs.Running.{head_reads, reads_turn, tells_reads}
-use Rattle.wire.specs.declared.message_refusals.ReadRefusal.{ReadRefusal}
-use Rattle.wire.specs.declared.message_refusals.ReadRefusal.TheVariants.{BadKind, BadBody}
 use Rattle.wire.specs.Frames.{frame_bytes}
-use Rattle.wire.specs.Requests.{ReadsRequest}
-use Rattle.hub.specs.Desks.{reply_frame, Commanded, IsRead}
-
-pub read_refused : (kind : ℕ) (body : List ℕ) (why : ReadRefusal) → ReadsRequest kind body (Err why) → IsRead (record { kind = kind; body = body }) (Err why)
-read_refused kind body BadKind h = h
-read_refused kind body BadBody h = h
+use Rattle.hub.specs.Desks.{reply_frame, Commanded}
 
 -- ---- the roots of a history
 

@@ -14,11 +14,12 @@ use Rattle.wire.specs.declared.message_refusals.ReadRefusal.TheVariants.{BadKind
 use Rattle.wire.specs.Frames.{Frame, frame_bytes}
 use Rattle.wire.specs.Refusals.{read_refusal_number}
 use Rattle.wire.specs.Requests as request
+use Rattle.wire.specs.Requests.{ReadsContent}
 use Rattle.wire.specs.Responses as response
 use Rattle.wire.specs.Responses.{proof_frame, response_frame}
 use Rattle.wire.specs.Streams.{Message, Whole, BadFrame}
 use Rattle.wire.proofs.Requests.{one_request}
-use Rattle.hub.specs.Desks.{command, or_not_operator, reply_frame, IsRead}
+use Rattle.hub.specs.Desks.{command, or_not_operator, reply_frame}
 use Rattle.hub.specs.DeskRuns.{IsTurnedAway, Reaches, RefuseAlike, ShowReplies}
 use Rattle.hub.specs.Exchanges.{refused_frame}
 use Rattle.hub.specs.Runs.{Line, asked_by}
@@ -26,7 +27,7 @@ use Rattle.hub.proofs.Cutting.{same_cons}
 
 -- ---- a message means one thing
 
-read_once : (frame : Frame) (read other : Result request.RequestContent ReadRefusal) → IsRead frame read → IsRead frame other → read ≡ other
+read_once : (frame : Frame) (read other : Result request.RequestContent ReadRefusal) → ReadsContent frame.kind frame.body read → ReadsContent frame.kind frame.body other → read ≡ other
 read_once frame (Ok requested) (Ok other) is also = ap (λ (a : request.RequestContent). Ok a) (one_request frame.kind frame.body requested other is also)
 read_once frame (Ok requested) (Err BadKind) is also = absurd (also (requested, is.0))
 read_once frame (Ok requested) (Err BadBody) is also = absurd (also.1 requested is)
@@ -55,7 +56,7 @@ abbrev IsMeant : List ℕ → Message → Meant → Type 0
 IsMeant token message (Ok asked) = Reaches token message asked
 IsMeant token message (Err code) = IsTurnedAway token message code
 
-whole_meant : (token : List ℕ) (frame : Frame) (one : Meant) → IsMeant token (Whole frame) one → (read : Result request.RequestContent ReadRefusal) × IsRead frame read × (one ≡ meant token read)
+whole_meant : (token : List ℕ) (frame : Frame) (one : Meant) → IsMeant token (Whole frame) one → (read : Result request.RequestContent ReadRefusal) × ReadsContent frame.kind frame.body read × (one ≡ meant token read)
 whole_meant token frame (Ok asked) (requested, read, is) = (Ok requested, read, sym (ap or_not_operator is))
 whole_meant token frame (Err code) (inl (refusal, read, is)) = (Err refusal, read, ap (λ (n : ℕ). Err n) is)
 whole_meant token frame (Err code) (inr (requested, read, none, is)) = (Ok requested, read, ap (λ (n : ℕ). Err n) is ∙ sym (ap or_not_operator none))

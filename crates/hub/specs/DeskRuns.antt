@@ -19,25 +19,26 @@ use Rattle.wire.specs.Frames.{frame_bytes}
 use Rattle.wire.specs.Laws.{IsReadAs}
 use Rattle.wire.specs.Refusals.{feed_refusal_number, read_refusal_number}
 use Rattle.wire.specs.Requests as request
+use Rattle.wire.specs.Requests.{ReadsContent}
 use Rattle.wire.specs.Responses as response
 use Rattle.wire.specs.Responses.{response_frame}
 use Rattle.wire.specs.Streams.{Message, Whole, BadFrame}
-use Rattle.hub.specs.Desks.{command, reply_frame, DeskState, IsRead, IsResponseOf}
+use Rattle.hub.specs.Desks.{command, reply_frame, DeskState, IsResponseOf}
 use Rattle.hub.specs.Exchanges.{refused_frame}
 use Rattle.hub.specs.Runs.{Line}
 use Rattle.hub.specs.declared.desk.TheConstants.{NOT_OPERATOR}
 
 -- the message reaches the directory, and asks this of it, where the operator has this token
 abbrev pub Reaches : List ℕ → Message → Operation → Type 0
-Reaches token (Whole frame) asked = (requested : request.RequestContent) × IsRead frame (Ok requested) × (command token requested ≡ Some asked)
+Reaches token (Whole frame) asked = (requested : request.RequestContent) × ReadsContent frame.kind frame.body (Ok requested) × (command token requested ≡ Some asked)
 Reaches token BadFrame asked = ⊥
 
 -- the message does not reach the directory, and this is the number of its refusal: it has a length that no
 -- frame has, it is no request, or it closes an epoch without the token
 abbrev pub IsTurnedAway : List ℕ → Message → ℕ → Type 0
 IsTurnedAway token (Whole frame) code =
-    ((refusal : ReadRefusal) × IsRead frame (Err refusal) × (code ≡ read_refusal_number refusal))
-    ⊎ ((requested : request.RequestContent) × IsRead frame (Ok requested) × (command token requested ≡ None) × (code ≡ NOT_OPERATOR))
+    ((refusal : ReadRefusal) × ReadsContent frame.kind frame.body (Err refusal) × (code ≡ read_refusal_number refusal))
+    ⊎ ((requested : request.RequestContent) × ReadsContent frame.kind frame.body (Ok requested) × (command token requested ≡ None) × (code ≡ NOT_OPERATOR))
 IsTurnedAway token BadFrame code = code ≡ feed_refusal_number feed.BadFrame
 
 -- the messages that reach the directory ask these commands and are told these replies; the others are refused

@@ -12,10 +12,9 @@ use Rattle.book.specs.Refusals.{book_refusal_number}
 use Rattle.book.specs.Turns.{Turn}
 use Rattle.epochs.specs.DirectoryStates.{DirectoryState, book, provider, HasKeysOf}
 use Rattle.wire.specs.declared.message_refusals.ReadRefusal.{ReadRefusal}
-use Rattle.wire.specs.declared.message_refusals.ReadRefusal.TheVariants.{BadKind, BadBody}
 use Rattle.wire.specs.Frames.{Frame, frame_bytes}
 use Rattle.wire.specs.Refusals.{read_refusal_number}
-use Rattle.wire.specs.Requests.{Asks, IsRequestKind}
+use Rattle.wire.specs.Requests.{ReadsContent}
 use Rattle.wire.specs.Requests as request
 use Rattle.wire.specs.Responses as response
 use Rattle.wire.specs.Responses.{proof_frame, response_frame}
@@ -26,12 +25,6 @@ pub record DeskState (R K : Type 0) : Type 0 where
   pub directory : DirectoryState R
   pub keeper : K
   pub token : List ℕ
-
--- the request that a frame is, or why it is none
-abbrev pub IsRead : Frame → Result request.RequestContent ReadRefusal → Type 0
-IsRead frame (Ok requested) = Asks frame.kind frame.body requested
-IsRead frame (Err BadKind) = ¬ IsRequestKind frame.kind
-IsRead frame (Err BadBody) = IsRequestKind frame.kind × ((requested : request.RequestContent) → ¬ Asks frame.kind frame.body requested)
 
 -- what a request asks of the directory: a new page only with the operator's token
 abbrev pub command : List ℕ → request.RequestContent → Option Operation
@@ -79,4 +72,4 @@ module _ {R K : Type 0} (digest_of : List ℕ → List ℕ) (value_of signature_
   Told before (Err refusal) text after = (text ≡ refused_frame (read_refusal_number refusal)) × (after ≡ before)
 
   abbrev pub DeskAnswers : DeskState R K → Frame → List ℕ → DeskState R K → Type 0
-  DeskAnswers before frame text after = (read : Result request.RequestContent ReadRefusal) × IsRead frame read × Told before read text after
+  DeskAnswers before frame text after = (read : Result request.RequestContent ReadRefusal) × ReadsContent frame.kind frame.body read × Told before read text after

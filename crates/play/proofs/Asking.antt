@@ -18,7 +18,7 @@ use Rattle.wire.specs.declared.message_refusals.ReadRefusal.TheVariants.{BadKind
 use Rattle.wire.specs.Frames.{Frame, frame_bytes, read_frame, IsFrame}
 use Rattle.wire.specs.FrameViews.{frame_seen, BeginsWith}
 use Rattle.wire.specs.Laws.{FrameIsOneMessage, IsReadAs, RequestsAreOne}
-use Rattle.wire.specs.Requests.{RequestContent, request_frame, Asks, IsAsked}
+use Rattle.wire.specs.Requests.{RequestContent, request_frame, Asks, IsAsked, ReadsContent}
 use Rattle.wire.specs.Responses.{response_body, Refused, ResponseContent}
 use Rattle.wire.specs.Streams.{Remainder, Message, Rest, Whole, with_more, TellsMessages}
 use Rattle.book.specs.declared.keeper.NoKeeper.{NoKeeper}
@@ -33,7 +33,7 @@ use Rattle.book.specs.Shows.{Provider}
 use Rattle.book.specs.Turns.{Run, Turn}
 use Rattle.epochs.specs.DirectoryStates.{HasKeysOf}
 use Rattle.hub.specs.declared.hub_refusal.HubRefusal.{HubRefusal}
-use Rattle.hub.specs.Desks.{command, reply_frame, DeskState, DeskAnswers, IsRead, IsResponseOf}
+use Rattle.hub.specs.Desks.{command, reply_frame, DeskState, DeskAnswers, IsResponseOf}
 use Rattle.hub.specs.DeskRuns.{AreResponses, IsSoundDesk, IsTurnedAway, ShowHonestRun, ShowReplies}
 use Rattle.hub.specs.declared.hub_refusal.HubRefusal.TheVariants.{NoSession}
 use Rattle.hub.specs.Events.{HubState, at_session, due, BySession, Bytes}
@@ -120,7 +120,7 @@ command_of ask.Head = (Query asking.Head, refl)
 command_of (ask.Turn epoch nonce) = (Edit (asking.Turn epoch nonce), refl)
 
 -- what a request that was read is, where the body spells this one
-read_as : RequestsAreOne → (frame : Frame) (requested other : RequestContent) → Asks frame.kind frame.body requested → IsRead frame (Ok other) → other ≡ requested
+read_as : RequestsAreOne → (frame : Frame) (requested other : RequestContent) → Asks frame.kind frame.body requested → ReadsContent frame.kind frame.body (Ok other) → other ≡ requested
 read_as one frame requested other asks read = one frame.kind frame.body other requested read asks
 
 not_turned : RequestsAreOne → (given : List ℕ) (frame : Frame) (requested : RequestContent) (asked : Operation) (code : ℕ) → Asks frame.kind frame.body requested

@@ -13,7 +13,7 @@ use Rattle.wire.specs.Frames.{Frame}
 use Rattle.wire.specs.declared.message_refusals.ReadRefusal.{ReadRefusal}
 use Rattle.wire.specs.declared.message_refusals.ReadRefusal.TheVariants.{BadKind, BadBody}
 use Rattle.wire.specs.Refusals.{read_refusal_number}
-use Rattle.wire.specs.Requests.{RequestContent, read_request, request_body, request_frame, request_kind, Asks, IsAsked}
+use Rattle.wire.specs.Requests.{RequestContent, read_request, request_body, request_frame, request_kind, Asks, IsAsked, ReadsContent}
 use Rattle.wire.specs.Responses as response
 use Rattle.wire.specs.Responses.{ResponseContent, response_frame}
 use Rattle.wire.specs.Streams.{Message, Whole, BadFrame}
@@ -36,7 +36,7 @@ use Rattle.book.proofs.Soundness.{IsBefore}
 use Rattle.book.proofs.Stepping.{Does, due_steps, finds, refused_due, stepped}
 use Rattle.book.proofs.Turning.{asked-page}
 use Rattle.hub.specs.DeskRuns.{AreResponses, IsTurnedAway, Reaches, ShowReplies}
-use Rattle.hub.specs.Desks.{reply_frame, IsRead, IsResponseOf}
+use Rattle.hub.specs.Desks.{reply_frame, IsResponseOf}
 use Rattle.hub.specs.Runs.{Line, asked_by}
 use Rattle.play.specs.Hearing.{response_text, HasFrameBytes, IsGranted, IsHeardAs, IsOfBytes, RunsAreHeard}
 use Rattle.play.specs.Lines.{answer_text, last_epoch, upshot_text}
@@ -63,7 +63,7 @@ pub away-asks : (message : Message) (code : ℕ) → HasFrameBytes message → I
 away-asks BadFrame code small is = ap Err (sym is)
 away-asks (Whole frame) code small (inl (refusal, read, is)) = by refusal read is (read_request frame.kind frame.body) refl
   where
-    by : (refusal : ReadRefusal) → IsRead frame (Err refusal) → code ≡ read_refusal_number refusal → (r : Result (RequestContent × List ℕ) ReadRefusal) → read_request frame.kind frame.body ≡ r
+    by : (refusal : ReadRefusal) → ReadsContent frame.kind frame.body (Err refusal) → code ≡ read_refusal_number refusal → (r : Result (RequestContent × List ℕ) ReadRefusal) → read_request frame.kind frame.body ≡ r
         → reading_asks r ≡ Err code
     by BadKind read is (Ok (other, [])) e = absurd (read (other, (reads_whole frame.kind frame.body other small e).0))
     by BadKind read is (Ok (other, byte ∷ more)) e = absurd (read (reads_more frame.kind frame.body other (byte ∷ more) (λ f. absurd cc) e).0)

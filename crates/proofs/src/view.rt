@@ -1,3 +1,6 @@
+//! A reply in place in its bytes. `read` goes over the parts once, from the front, and keeps the body, and
+//! where the value, the end of the way and the siblings lie: it copies none of these, and the calls return
+//! them as they lie. Only their form is tested here; whether they fit together is for `checking` to say.
 ghost use Rattle.std.specs.Prelude.{◌≡◌};
 ghost use Rattle.encoding.specs.Limits.{IsKeyData};
 ghost use Rattle.encoding.specs.Reading.{Gives};

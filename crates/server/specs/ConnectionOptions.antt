@@ -1,6 +1,7 @@
 -- How a server is asked to take connections.
 use Rattle.std.specs.Prelude.{ℕ, ◌*◌, ◌-◌, ◌^◌, min, max, Bool, List}
 use Rattle.hub.specs.declared.sessions.TheConstants.{MAX_SESSIONS}
+use Rattle.server.specs.declared.listening.TheConstants.{MILLISECONDS_PER_SECOND}
 use Rattle.server.specs.declared.order.ListenOrder.{ListenOrder}
 
 -- how many, and how many at once; for how many seconds one may be idle; whether the end of the input is an order to
@@ -17,7 +18,7 @@ connections_of order = record { count = order.count; sessions = order.sessions; 
 
 -- for how many milliseconds a connection may be idle; 0 for ever
 abbrev pub idle_limit : ConnectionOptions → ℕ
-idle_limit taken = min (taken.idle * 1000) (2 ^ 64 - 1)
+idle_limit taken = min (taken.idle * MILLISECONDS_PER_SECOND) (2 ^ 64 - 1)
 
 -- how many connections are open at once at most
 abbrev pub most_open : ConnectionOptions → ℕ

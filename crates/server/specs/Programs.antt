@@ -19,6 +19,7 @@ use Rattle.server.specs.declared.serve_fault.ServeFault.TheVariants as fault
 use Rattle.journal.specs.Journals.{KeepsRecord, LosesRecord, JournalState}
 use Rattle.textio.specs.Output.{WritesBeginning}
 use Rattle.server.specs.declared.journal_file.DiskFile.{DiskFile}
+use Rattle.server.specs.declared.streams.TheConstants.{SESSION}
 use Rattle.server.specs.Faults.{outcome_of}
 use Rattle.server.specs.Reopening.{journal_line, IsUnopened, Reopens}
 use Rattle.server.specs.DirectoryOptions.{DirectoryOptions}
@@ -29,7 +30,7 @@ use Rattle.server.specs.Serving.{RepliedHonestly, Serves}
 module _ {K : Type 0} (kept failed : K → Record → K → Type 0) where
   -- what the desk of a served directory replies to the messages of its one session
   abbrev pub ServedReplied : DeskState ChaCha K → List Exchange → DeskState ChaCha K → Type 0
-  ServedReplied = RepliedHonestly sha256 keyed_value keyed_signature salts kept failed KeyedAccepts KeyedVerifies 1
+  ServedReplied = RepliedHonestly sha256 keyed_value keyed_signature salts kept failed KeyedAccepts KeyedVerifies SESSION
 
   -- its desk answers these messages, of whichever sessions, one after another, and they show one run of its directory
   abbrev pub ShownBy : DeskState ChaCha K → List Line → DeskState ChaCha K → Type 0

@@ -11,7 +11,9 @@ ghost use Rattle.connections.specs.Laws.{AlwaysWaitWithin};
 ghost use Rattle.connections.specs.Soundness.{IsSoundHistory};
 ghost use Rattle.server.specs.Directories.{salts};
 ghost use Rattle.server.specs.Serving.{all_lines, AllServed};
+ghost use Rattle.server.specs.declared.listening.TheConstants.{MILLISECONDS_PER_SECOND};
 ghost use Rattle.server.specs.declared.serving.TheConstants.{PIECE_SIZE};
+ghost use Rattle.server.specs.declared.streams.TheConstants.{SESSION};
 ghost use Rattle.server.specs.Sessions.{AlwaysAnswered, AlwaysInOrder, AreLines, HubLeads};
 ghost use Rattle.wire.specs.declared.answer.TheConstants.{MAX_ANSWER_LEN};
 
@@ -21,9 +23,12 @@ use rand_core::Rng;
 use sigiface::Signer;
 use vrfiface::Vuf;
 
-/// At most 4,096 bytes are read at once.
-pub fn limit_has_its_value()
-    ensures { PIECE_SIZE ≡ 4096 }
+/// At most 4,096 bytes are read at once, a session that is served alone has number 1, and a second has 1,000
+/// milliseconds.
+pub fn numbers_have_their_values()
+    ensures piece { PIECE_SIZE ≡ 4096 }
+    ensures session { SESSION ≡ 1 }
+    ensures milliseconds { MILLISECONDS_PER_SECOND ≡ 1000 }
 {}
 
 /// Sessions that are served one after another, each as `serve` ensures, are sessions of one hub: their

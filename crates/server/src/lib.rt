@@ -26,8 +26,8 @@ pub use hub::MAX_SESSIONS;
 pub use journal_file::{DiskFile, JournalFile};
 pub use keys::{ServedDesk, ServedDirectory};
 pub use laws::{
-    crowd_outputs_are_bounded, crowds_show_one_run, limit_has_its_value, salts_have_their_size,
-    sessions_show_one_run,
+    crowd_outputs_are_bounded, crowds_show_one_run, numbers_have_their_values,
+    salts_have_their_size, sessions_show_one_run,
 };
 pub use listening::listen;
 pub use order::{DirectoryOrder, ListenOrder};

@@ -38,6 +38,9 @@ use std::net::{Net, SocketAddr};
 use std::time::Clock;
 use textio::{ProgramFault, write_text};
 
+/// How many milliseconds a second has.
+const MILLISECONDS_PER_SECOND: u64 = 1000;
+
 /// Writes the line that says where a server listens.
 fn tell_address<E: Write>(
     alloc: Global,
@@ -91,7 +94,7 @@ fn limits_of(order: ListenOrder<'_>) -> Limits
 {
     Limits {
         count: order.count,
-        idle: order.idle.saturating_mul(1000),
+        idle: order.idle.saturating_mul(MILLISECONDS_PER_SECOND),
     }
 }
 

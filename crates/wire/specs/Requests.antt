@@ -95,10 +95,15 @@ IsRequestKind kind = (requested : RequestContent) × (request_kind requested ≡
 
 -- What reading answers: the request that the body spells; BadKind where no request is of the kind, and
 -- BadBody where some is, but the body spells none of them.
+abbrev pub ReadsContent : ℕ → List ℕ → Result RequestContent ReadRefusal → Type 0
+ReadsContent kind body (Ok requested) = Asks kind body requested
+ReadsContent kind body (Err BadKind) = ¬ IsRequestKind kind
+ReadsContent kind body (Err BadBody) = IsRequestKind kind × ((requested : RequestContent) → ¬ Asks kind body requested)
+
+-- the same, where the request lies in the bytes
 abbrev pub ReadsRequest : ℕ → List ℕ → Result Request ReadRefusal → Type 0
-ReadsRequest kind body (Ok read) = Asks kind body (request_seen read)
-ReadsRequest kind body (Err BadKind) = ¬ IsRequestKind kind
-ReadsRequest kind body (Err BadBody) = IsRequestKind kind × ((requested : RequestContent) → ¬ Asks kind body requested)
+ReadsRequest kind body (Ok read) = ReadsContent kind body (Ok (request_seen read))
+ReadsRequest kind body (Err refusal) = ReadsContent kind body (Err refusal)
 
 -- ---- reading
 

@@ -17,16 +17,16 @@ ghost use Rattle.book.specs.Maps.{at, overwritten};
 ghost use Rattle.book.specs.Replays.{put_refusal, with_bound};
 ghost use Rattle.book.specs.Shows.{index_of as index_by, placement};
 ghost use Rattle.book.specs.Sound.{HoldsName};
-ghost use Rattle.book.specs.Turns.{Shows, Turn};
+ghost use Rattle.book.specs.Turns.{IsUnkept, Shows, Turn};
 ghost use Rattle.epochs.specs.Addresses.{address_of};
 ghost use Rattle.epochs.specs.DirectoryStates.{book, provider, HasKeysOf};
 ghost use Rattle.epochs.specs.KeyChanges.{IsRefusedSo};
 ghost use Rattle.epochs.specs.Replayed.{changed_digests, tree_digests};
 ghost use Rattle.epochs.specs.Replied.{last, promised};
-ghost use Rattle.epochs.specs.Versions.{IsUnkept};
 
 use super::Directory;
 use crate::address::Address;
+use crate::held::KeyChange;
 use crate::history::Version;
 use crate::signing::{hash_of, next_salt, signed_promise, signed_root};
 use crate::waiting::{let_change_wait, let_wait};
@@ -404,6 +404,12 @@ impl<H: NodeHash, V: Vuf, S: Signer, R: Rng> Directory<H, V, S, R> {
         key.bytes();
         salt.bytes();
         let page = self.roots.len();
+        let change = KeyChange {
+            name,
+            key,
+            salt,
+            page,
+        };
         let_change_wait(
             &mut self.names,
             &mut self.waiting,
@@ -411,10 +417,7 @@ impl<H: NodeHash, V: Vuf, S: Signer, R: Rng> Directory<H, V, S, R> {
             &mut self.hash,
             keeper,
             what,
-            name,
-            key,
-            salt,
-            page,
+            &change,
         )
     }
 

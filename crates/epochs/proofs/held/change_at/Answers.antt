@@ -1,6 +1,7 @@
 use Rattle.std.proofs.Common.{subst, sym, ap, inr, ℕ}
 use Rattle.book.specs.declared.directory_refusal.Refusal.{Refusal}
-use Rattle.epochs.specs.Versions.{AllBefore, IsUnkept, in_order}
+use Rattle.book.specs.Turns.{IsUnkept}
+use Rattle.epochs.specs.Versions.{AllBefore, in_order}
 use Rattle.epochs.specs.KeyChanges.{IsRefusedSo, refused_before}
 use Rattle.epochs.specs.Histories.{Version}
 use Rattle.epochs.proofs.KeyChanges.{changed_history}
@@ -16,7 +17,7 @@ add_at-requires-clause-free g c = (c.requires.fits c.in-Ok.ensures).1
 
 pub returns-clause-made : goal.returns-clause-made
 returns-clause-made g c =
-    let due = refused_before c.args.page c.args.history.now.versions in
+    let due = refused_before c.args.change.now.page c.args.history.now.versions in
     let kept = g.K.Keeper.kept c.args.keeper.now c.args.what.now c.add_at.new.keeper in
     let unkept = λ (why : Refusal). IsUnkept g.K.Keeper.failed c.args.keeper.now c.args.what.now why c.add_at.new.keeper in
     let refused = λ (why : Refusal). IsRefusedSo g.K.Keeper.failed c.args.keeper.now c.args.what.now due why c.add_at.new.keeper in

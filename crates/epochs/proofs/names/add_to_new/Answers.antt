@@ -3,7 +3,7 @@ use Rattle.std.specs.HashMap.Entry.{map_with_value}
 use Rattle.std.specs.declared.collections.hash_map.Entry.TheVariants.{Occupied, Vacant}
 use Rattle.book.specs.declared.directory_refusal.Refusal.{Refusal}
 use Rattle.epochs.specs.Addresses.{named, with_history}
-use Rattle.epochs.specs.Versions.{IsUnkept}
+use Rattle.book.specs.Turns.{IsUnkept}
 use Rattle.epochs.proofs.Hashed.{found_at}
 use Rattle.epochs.proofs.Named.{added-new, added-there, named-put_at, versions-there}
 use Rattle.epochs.proofs.names.add_to_new.Goals as goal

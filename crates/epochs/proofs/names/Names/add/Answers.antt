@@ -1,5 +1,5 @@
 use Rattle.book.specs.declared.directory_refusal.Refusal.{Refusal}
-use Rattle.epochs.specs.Versions.{IsUnkept}
+use Rattle.book.specs.Turns.{IsUnkept}
 use Rattle.epochs.proofs.Named.{histories_after}
 use Rattle.epochs.proofs.names.Names.add.Goals as goal
 

@@ -11,7 +11,7 @@ invariant_of-self g c =
     let names = named (λ key. key.items) c.self.inside.histories.entries in
     let after = named (λ key. key.items) c.change_held.new.histories.entries in
     let kept = g.K.Keeper.kept c.args.keeper.now c.args.what.now c.change_held.new.keeper in
-    let refused = λ (why : Refusal). IsRefusedSo g.K.Keeper.failed c.args.keeper.now c.args.what.now (refused_before c.args.page (versions_of names.versions c.args.name.now)) why c.change_held.new.keeper in
-    histories_changed kept refused names after (in_order c.args.commitments.now.entries) (in_order c.change_held.new.commitments.entries) c.args.name.now
-    (record { number = c.args.page; binding = record { key = c.args.key.now; salt = c.args.salt } }) (g.H.NodeHash.digest_of (commitment_bytes c.args.salt c.args.name.now c.args.key.now)) c.change_held.result
+    let refused = λ (why : Refusal). IsRefusedSo g.K.Keeper.failed c.args.keeper.now c.args.what.now (refused_before c.args.change.now.page (versions_of names.versions c.args.change.now.name.now)) why c.change_held.new.keeper in
+    histories_changed kept refused names after (in_order c.args.commitments.now.entries) (in_order c.change_held.new.commitments.entries) c.args.change.now.name.now
+    (record { number = c.args.change.now.page; binding = record { key = c.args.change.now.key.now; salt = c.args.change.now.salt } }) (g.H.NodeHash.digest_of (commitment_bytes c.args.change.now.salt c.args.change.now.name.now c.args.change.now.key.now)) c.change_held.result
     c.self.invariant (rw (← c.self.view_is) at c.requires.fits) c.change_held.ensures.made

@@ -1,7 +1,6 @@
 use Rattle.std.proofs.Common.{Err, Ok, ap, refl}
 use Rattle.wire.specs.Requests.{request_seen}
 use Rattle.hub.specs.Exchanges.{refused_frame}
-use Rattle.hub.proofs.Desking.{read_refused}
 use Rattle.hub.proofs.desk.DeskService.answer.Goals as goal
 
 pub returns-in-Ok : goal.returns-in-Ok
@@ -9,5 +8,4 @@ returns-in-Ok g c = (c.serve.ensures.0, (Ok (request_seen c.in-Ok.request), c.in
 
 pub returns-in-Err : goal.returns-in-Err
 returns-in-Err g c =
-    let why = c.in-Err.refusal in
-    (refused_frame c.number.result, (Err why, read_refused c.args.kind c.args.body.now why c.in-Err.ensures, (ap refused_frame c.number.ensures, refl)), c.write_refused.ensures)
+    (refused_frame c.number.result, (Err c.in-Err.refusal, c.in-Err.ensures, (ap refused_frame c.number.ensures, refl)), c.write_refused.ensures)
