@@ -1,7 +1,8 @@
 // First the chains decide. If they agree, the first pair of looks for one name and epoch that state two things
 // leads to two texts with one digest, or to two values of the name.
 
-ghost use Rattle.std.specs.Prelude.{◌≡◌, ◌≢◌, ◌⊎◌, ◌↔◌, ℕ, Contains};
+ghost use Rattle.std.specs.Prelude.{◌≡◌, ◌≢◌, ◌⊎◌, ◌↔◌, ◌+◌, ◌*◌, ◌≤◌, ℕ, Contains};
+ghost use Rattle.prefixtree.specs.declared.path.TheConstants.{MAX_SIBLINGS};
 ghost use Rattle.rootchain.specs.Chains.{IsAt};
 ghost use Rattle.rootchain.specs.declared.signed_root.SignedRoot.{SignedRoot};
 ghost use Rattle.client.specs.Agreements.{AreOfOne, AreReconciled, ClientsAgree, HaveOneStatement, IsReconciled, OutcomeHolds, OutcomeIsSpelled};
@@ -23,7 +24,8 @@ use vrfiface::VufCheck;
 /// and a look of the second for one name and epoch, in order of acceptance, the first that states two things
 /// decides.
 ///
-/// This allocates nothing. Only replies for one name and epoch are compared with each other.
+/// This allocates nothing. Only replies for one name and epoch are compared with each other. Takes at most 517
+/// digests: one for the chains, and the others for one pair of looks.
 pub fn reconcile<H: NodeHash, V: VufCheck, S: Verifier>(
     hash: &mut H,
     one: &Client<H, V, S>,
@@ -37,6 +39,7 @@ pub fn reconcile<H: NodeHash, V: VufCheck, S: Verifier>(
     // What the one client saw of a name at an epoch is what the other saw, or the answer is one of the other three.
     ensures seen { (look also : Look) → Contains one.now.looks look → Contains other.now.looks also → AreOfOne look also
         → HaveOneStatement look also ⊎ (result ≢ Agree) }
+    ensures counted { H.digests hash.new ≤ H.digests hash.old + (1 + 2 * (MAX_SIBLINGS + 2)) }
 {
     match Chain::compare(hash, one.chain(), other.chain()) {
         Compare::Equal => reconcile_looks(hash, one, other),
@@ -52,7 +55,8 @@ fn reconcile_looks<H: NodeHash, V: VufCheck, S: Verifier>(
     other: &Client<H, V, S>,
 ) -> Outcome
     requires { (epoch : ℕ) (root also : SignedRoot) → IsAt one.now.chain epoch root → IsAt other.now.chain epoch also → root.body ≡ also.body }
-    ensures { AreReconciled H.digest_of V.accepted one.now.looks other.now.looks result }
+    ensures reconciled { AreReconciled H.digest_of V.accepted one.now.looks other.now.looks result }
+    ensures counted { H.digests hash.new ≤ H.digests hash.old + 2 * (MAX_SIBLINGS + 2) }
 {
     let Some(unlike) = one.looks().first_unlike(other.looks()) else {
         return Outcome::Agree;

@@ -126,6 +126,7 @@ impl<'a, H: NodeHash, V: VufCheck> Accepted<'a, H, V> {
     pub(crate) fn end_text(&self, hash: &mut H) -> NodeText
         ensures value { result ≡ end_text H.digest_of self.now.reply.body.nonce self.now.name (H.digest_of self.now.reply.value) (length self.now.reply.siblings) self.now.reply.end }
         ensures no_interior { length result ≢ INTERIOR_LEN }
+        ensures counted { H.digests hash.new ≤ H.digests hash.old + 1 }
     {
         let nonce = &self.view.body().nonce;
         let level = self.view.hashes().len();

@@ -2,8 +2,9 @@
 //! ends. Both are climbed from the ends up, and the last pair of texts that differs is kept, which is the
 //! nearest to the root: the texts above it are equal, so the two have one digest. If no texts differ,
 //! the ends open two commitment texts with one digest.
-ghost use Rattle.std.specs.Prelude.{◌≡◌, ◌≢◌, ◌⊎◌, ◌≤◌, ℕ, List, Option, length, IsOkAnd, IsSomeAnd, MatchOption};
+ghost use Rattle.std.specs.Prelude.{◌≡◌, ◌≢◌, ◌⊎◌, ◌+◌, ◌*◌, ◌≤◌, ℕ, List, Option, length, IsOkAnd, IsSomeAnd, MatchOption};
 ghost use Rattle.nodehash.specs.declared.node_text.TheConstants.{INTERIOR_LEN};
+ghost use Rattle.prefixtree.specs.declared.path.TheConstants.{MAX_SIBLINGS};
 ghost use Rattle.proofs.specs.Accepts.{Accepts, HasIndex};
 ghost use Rattle.proofs.specs.Comparisons.{texts_of, Answers, AreOpposed, Compares, HaveOneIndex, IsOneBindingOr};
 ghost use Rattle.proofs.specs.Replies.{AreSiblings};
@@ -71,9 +72,10 @@ fn first_to_differ<H: NodeHash>(
     requires second_siblings { AreSiblings second_siblings.now }
     requires first_end { length first_end ≢ INTERIOR_LEN }
     requires second_end { length second_end ≢ INTERIOR_LEN }
-    ensures { MatchOption result
+    ensures found { MatchOption result
         (way_texts H.digest_of index.now 0 first_siblings.now first_end ≡ way_texts H.digest_of index.now 0 second_siblings.now second_end)
         (λ pair. AreFirstToDiffer (way_texts H.digest_of index.now 0 first_siblings.now first_end) (way_texts H.digest_of index.now 0 second_siblings.now second_end) pair.0 pair.1) }
+    ensures counted { H.digests hash.new ≤ H.digests hash.old + length first_siblings.now + length second_siblings.now }
 {
     let mut k = first_siblings.len().min(second_siblings.len());
     let mut first = climb(hash, index, first_siblings, first_end, k);
@@ -97,9 +99,10 @@ fn first_nodes<H: NodeHash, V: VufCheck>(
     second: &Accepted<'_, H, V>,
 ) -> Option<Pair>
     requires { HaveOneIndex H.digest_of first.now second.now }
-    ensures { MatchOption result
+    ensures found { MatchOption result
         (texts_of H.digest_of first.now ≡ texts_of H.digest_of second.now)
         (λ pair. AreFirstToDiffer (texts_of H.digest_of first.now) (texts_of H.digest_of second.now) pair.0 pair.1) }
+    ensures counted { H.digests hash.new ≤ H.digests hash.old + length first.now.reply.siblings + length second.now.reply.siblings + 2 }
 {
     let first_end = first.end_text(hash);
     let second_end = second.end_text(hash);
@@ -120,7 +123,8 @@ fn collision<H: NodeHash, V: VufCheck>(
     second: &Accepted<'_, H, V>,
 ) -> SameOr
     requires { AreOpposed H.digest_of V.accepted first.now second.now }
-    ensures { Answers H.digest_of V.accepted first.now second.now result }
+    ensures answers { Answers H.digest_of V.accepted first.now second.now result }
+    ensures counted { H.digests hash.new ≤ H.digests hash.old + length first.now.reply.siblings + length second.now.reply.siblings + 2 }
 {
     if let Some((x, y)) = first_nodes(hash, first, second) {
         return SameOr::Collision(x.copied(), y.copied());
@@ -136,13 +140,14 @@ fn collision<H: NodeHash, V: VufCheck>(
 }
 
 /// Compares two accepted replies. If they state two things with one index, finds two byte strings with
-/// one digest.
+/// one digest. Takes at most two digests, and one for each sibling of both.
 pub fn same_or_collision<H: NodeHash, V: VufCheck>(
     hash: &mut H,
     first: &Accepted<'_, H, V>,
     second: &Accepted<'_, H, V>,
 ) -> SameOr
-    ensures { Answers H.digest_of V.accepted first.now second.now result }
+    ensures answers { Answers H.digest_of V.accepted first.now second.now result }
+    ensures counted { H.digests hash.new ≤ H.digests hash.old + length first.now.reply.siblings + length second.now.reply.siblings + 2 }
 {
     if first.body() != second.body() {
         return SameOr::NotComparable;
@@ -160,7 +165,7 @@ pub fn same_or_collision<H: NodeHash, V: VufCheck>(
 }
 
 /// Reads, checks and compares two replies for one name under one body of a signed root, whoever made
-/// them.
+/// them. Takes at most 1032 digests.
 ///
 /// # Errors
 ///
@@ -180,6 +185,7 @@ pub fn compare_replies<H: NodeHash, V: VufCheck>(
         → Accepts H.digest_of V.accepted body.now name.now first.now statement → Accepts H.digest_of V.accepted body.now name.now second.now other
         → HasIndex H.digest_of first.now index → HasIndex H.digest_of second.now index
         → IsOkAnd result (IsOneBindingOr H.digest_of statement other) }
+    ensures counted { H.digests hash.new ≤ H.digests hash.old + 4 * (MAX_SIBLINGS + 2) }
 {
     // The prover does not cover `?` in a function with clauses whose result holds a view.
     let first = match accept(hash, vuf, body, name, first) {

@@ -14,12 +14,12 @@ reconcile_looks-requires g c =
 pub returns-in-Equal-clause-agree : goal.returns-in-Equal-clause-agree
 returns-in-Equal-clause-agree g c =
     let agree = rw (c.chain.ensures.value, c.chain-2.ensures.value) at c.in-Equal.ensures.equal.0 refl in
-    let told = agrees g.H.NodeHash.digest_of g.V.VufCheck.accepted c.args.one.now.looks c.args.other.now.looks c.reconcile_looks.result c.reconcile_looks.ensures in
+    let told = agrees g.H.NodeHash.digest_of g.V.VufCheck.accepted c.args.one.now.looks c.args.other.now.looks c.reconcile_looks.result c.reconcile_looks.ensures.reconciled in
     (λ same. record { chains = agree; looks = told.0 same }, λ both. told.1 both.looks)
 
 pub returns-in-Equal-clause-holds : goal.returns-in-Equal-clause-holds
 returns-in-Equal-clause-holds g c =
-    looks-hold g.H.NodeHash.digest_of g.V.VufCheck.accepted c.args.one.now.looks c.args.other.now.looks g.S.Verifier.verified c.args.one.now.chain.key c.reconcile_looks.result c.reconcile_looks.ensures
+    looks-hold g.H.NodeHash.digest_of g.V.VufCheck.accepted c.args.one.now.looks c.args.other.now.looks g.S.Verifier.verified c.args.one.now.chain.key c.reconcile_looks.result c.reconcile_looks.ensures.reconciled
 
 pub returns-in-Evidence-clause-spelled : goal.returns-in-Evidence-clause-spelled
 returns-in-Evidence-clause-spelled g c =
@@ -28,4 +28,4 @@ returns-in-Evidence-clause-spelled g c =
 
 pub returns-in-Equal-clause-seen : goal.returns-in-Equal-clause-seen
 returns-in-Equal-clause-seen g c =
-    looks-seen g.H.NodeHash.digest_of g.V.VufCheck.accepted c.args.one.now.looks c.args.other.now.looks c.reconcile_looks.result c.reconcile_looks.ensures
+    looks-seen g.H.NodeHash.digest_of g.V.VufCheck.accepted c.args.one.now.looks c.args.other.now.looks c.reconcile_looks.result c.reconcile_looks.ensures.reconciled

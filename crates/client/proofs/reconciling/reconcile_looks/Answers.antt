@@ -1,4 +1,4 @@
-use Rattle.std.proofs.Common.{inl, inr, subst, ◌∙◌}
+use Rattle.std.proofs.Common.{inl, inr, subst, ◌∙◌, arith}
 use Rattle.proofs.specs.Comparisons.{Answers}
 use Rattle.proofs.specs.declared.comparing.SameOr.{SameOr}
 use Rattle.proofs.specs.declared.comparing.SameOr.TheVariants.{Collision, TwoValues}
@@ -33,19 +33,27 @@ unreachable-requires-in-Same g c =
     let u = rw (c.looks.ensures.value, c.looks-2.ensures.value) at c.in-Some.ensures in
     let answers : SameOr → Type 0 = Answers g.H.NodeHash.digest_of g.V.VufCheck.accepted c.again-first.result c.again-second.result in
     elim c.in-Same.is [
-      | inl same ↦ not-same g.H.NodeHash.digest_of g.V.VufCheck.accepted c.args.one.now.chain c.args.other.now.chain c.args.one.now.looks c.args.other.now.looks c.looks.ensures.sound.looks c.looks-2.ensures.sound.looks u.0 u.1 u.2 c.in-Ok.name c.in-Some.unlike.one.now c.in-Some.unlike.other.now (c.in-Ok.ensures.value ∙ u.3) u.4 u.5 c.again-first.result c.again-second.result c.again-first.ensures.named c.again-second.ensures.named c.again-first.ensures.spelled c.again-second.ensures.spelled (subst answers same c.same_or_collision.ensures)
-      | inr apart ↦ compared g.H.NodeHash.digest_of g.V.VufCheck.accepted c.args.one.now.chain c.args.other.now.chain c.args.one.now.looks c.args.other.now.looks c.looks.ensures.sound.looks c.looks-2.ensures.sound.looks u.0 u.1 u.2 c.in-Ok.name c.in-Some.unlike.one.now c.in-Some.unlike.other.now (c.in-Ok.ensures.value ∙ u.3) u.4 u.5 c.again-first.result c.again-second.result c.again-first.ensures.named c.again-second.ensures.named c.again-first.ensures.spelled c.again-second.ensures.spelled c.requires (subst answers apart c.same_or_collision.ensures)
+      | inl same ↦ not-same g.H.NodeHash.digest_of g.V.VufCheck.accepted c.args.one.now.chain c.args.other.now.chain c.args.one.now.looks c.args.other.now.looks c.looks.ensures.sound.looks c.looks-2.ensures.sound.looks u.0 u.1 u.2 c.in-Ok.name c.in-Some.unlike.one.now c.in-Some.unlike.other.now (c.in-Ok.ensures.value ∙ u.3) u.4 u.5 c.again-first.result c.again-second.result c.again-first.ensures.named c.again-second.ensures.named c.again-first.ensures.spelled c.again-second.ensures.spelled (subst answers same c.same_or_collision.ensures.answers)
+      | inr apart ↦ compared g.H.NodeHash.digest_of g.V.VufCheck.accepted c.args.one.now.chain c.args.other.now.chain c.args.one.now.looks c.args.other.now.looks c.looks.ensures.sound.looks c.looks-2.ensures.sound.looks u.0 u.1 u.2 c.in-Ok.name c.in-Some.unlike.one.now c.in-Some.unlike.other.now (c.in-Ok.ensures.value ∙ u.3) u.4 u.5 c.again-first.result c.again-second.result c.again-first.ensures.named c.again-second.ensures.named c.again-first.ensures.spelled c.again-second.ensures.spelled c.requires (subst answers apart c.same_or_collision.ensures.answers)
     ]
 
-pub returns-in-Collision : goal.returns-in-Collision
-returns-in-Collision g c =
+pub returns-in-Collision-clause-reconciled : goal.returns-in-Collision-clause-reconciled
+returns-in-Collision-clause-reconciled g c =
     let u = rw (c.looks.ensures.value, c.looks-2.ensures.value) at c.in-Some.ensures in
-    told g.H.NodeHash.digest_of g.V.VufCheck.accepted c.args.one.now.chain c.args.other.now.chain c.args.one.now.looks c.args.other.now.looks c.looks.ensures.sound.looks c.looks-2.ensures.sound.looks u.0 u.1 u.2 c.in-Ok.name c.in-Some.unlike.one.now c.in-Some.unlike.other.now (c.in-Ok.ensures.value ∙ u.3) u.4 u.5 c.again-first.result c.again-second.result c.again-first.ensures.named c.again-second.ensures.named c.again-first.ensures.spelled c.again-second.ensures.spelled (Collision c.in-Collision.x c.in-Collision.y) c.in-Collision.ensures
+    told g.H.NodeHash.digest_of g.V.VufCheck.accepted c.args.one.now.chain c.args.other.now.chain c.args.one.now.looks c.args.other.now.looks c.looks.ensures.sound.looks c.looks-2.ensures.sound.looks u.0 u.1 u.2 c.in-Ok.name c.in-Some.unlike.one.now c.in-Some.unlike.other.now (c.in-Ok.ensures.value ∙ u.3) u.4 u.5 c.again-first.result c.again-second.result c.again-first.ensures.named c.again-second.ensures.named c.again-first.ensures.spelled c.again-second.ensures.spelled (Collision c.in-Collision.x c.in-Collision.y) c.in-Collision.ensures.answers
 
-pub returns-in-TwoValues : goal.returns-in-TwoValues
-returns-in-TwoValues g c =
+pub returns-in-TwoValues-clause-reconciled : goal.returns-in-TwoValues-clause-reconciled
+returns-in-TwoValues-clause-reconciled g c =
     let u = rw (c.looks.ensures.value, c.looks-2.ensures.value) at c.in-Some.ensures in
-    told g.H.NodeHash.digest_of g.V.VufCheck.accepted c.args.one.now.chain c.args.other.now.chain c.args.one.now.looks c.args.other.now.looks c.looks.ensures.sound.looks c.looks-2.ensures.sound.looks u.0 u.1 u.2 c.in-Ok.name c.in-Some.unlike.one.now c.in-Some.unlike.other.now (c.in-Ok.ensures.value ∙ u.3) u.4 u.5 c.again-first.result c.again-second.result c.again-first.ensures.named c.again-second.ensures.named c.again-first.ensures.spelled c.again-second.ensures.spelled TwoValues c.in-TwoValues.ensures
+    told g.H.NodeHash.digest_of g.V.VufCheck.accepted c.args.one.now.chain c.args.other.now.chain c.args.one.now.looks c.args.other.now.looks c.looks.ensures.sound.looks c.looks-2.ensures.sound.looks u.0 u.1 u.2 c.in-Ok.name c.in-Some.unlike.one.now c.in-Some.unlike.other.now (c.in-Ok.ensures.value ∙ u.3) u.4 u.5 c.again-first.result c.again-second.result c.again-first.ensures.named c.again-second.ensures.named c.again-first.ensures.spelled c.again-second.ensures.spelled TwoValues c.in-TwoValues.ensures.answers
 
-pub returns-in_default : goal.returns-in_default
-returns-in_default g c = rw (c.looks.ensures.value, c.looks-2.ensures.value) at c.in_default.ensures
+pub returns-in_default-clause-reconciled : goal.returns-in_default-clause-reconciled
+returns-in_default-clause-reconciled g c = rw (c.looks.ensures.value, c.looks-2.ensures.value) at c.in_default.ensures
+
+pub returns-in-Collision-clause-counted : goal.returns-in-Collision-clause-counted
+returns-in-Collision-clause-counted g c =
+    omega (arith, c.again-first.ensures.counted, c.again-second.ensures.counted, c.in-Collision.ensures.counted, c.again-first.ensures.spelled.1.3.0, c.again-second.ensures.spelled.1.3.0)
+
+pub returns-in-TwoValues-clause-counted : goal.returns-in-TwoValues-clause-counted
+returns-in-TwoValues-clause-counted g c =
+    omega (arith, c.again-first.ensures.counted, c.again-second.ensures.counted, c.in-TwoValues.ensures.counted, c.again-first.ensures.spelled.1.3.0, c.again-second.ensures.spelled.1.3.0)
