@@ -26,7 +26,7 @@ ghost use Rattle.play.specs.Watchers.{Watcher};
 use super::handing::hand_all;
 use super::reading::{read_response, tell_promise};
 use super::wanting::happen;
-use super::{ASKING, Engine};
+use super::{Engine, OWN_SESSION};
 use crate::ask::Ask;
 use crate::laws::honest;
 use crate::telling::{tell_refusal, tell_response, tell_statement};
@@ -153,7 +153,7 @@ where
         self.hub.head();
         happen(
             &mut self.hub,
-            &Event::Bytes(ASKING, &self.request),
+            &Event::Bytes(OWN_SESSION, &self.request),
             &mut reply,
         )?;
         self.hub.head();
