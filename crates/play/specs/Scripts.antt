@@ -134,6 +134,11 @@ ask_seen (ask.History from count) = Query (History from count)
 ask_seen ask.Head = Query Head
 ask_seen (ask.Turn epoch nonce) = Turn token epoch nonce
 
+-- the request, where it has a token, with this token of the operator
+abbrev pub with_token : List ℕ → RequestContent → RequestContent
+with_token given (Turn other epoch nonce) = Turn given epoch nonce
+with_token given requested = requested
+
 abbrev pub line_seen : LineMade → ScriptLine
 line_seen line.Pass = Pass
 line_seen (line.Ask asked) = Ask (ask_seen asked)
