@@ -584,7 +584,7 @@ LOST_OPERATIONS = [
     "change 62 70", "close 18446744073709551615", "close 18446744073709551615", "lookup 61 0", "lookup 62 0",
     "lookup 63 0", "lookup 63 3", "history 0 64",
 ]
-SCRIPTS = ("two_epochs", "promises", "changes", "last_epoch", "limits_of_names_and_keys")
+SCRIPTS = ("two_epochs", "promises", "changes", "greatest_epoch", "limits_of_names_and_keys")
 
 
 def of_keepers(q):

@@ -13,7 +13,7 @@ FOLDER = "crates/play/specs"
 # The scripts of each file, which are those of session_scripts.py.
 FILES = {
     "WorkedScripts": [
-        "two_epochs", "promises", "changes", "last_epoch", "limits_of_histories", "half_messages", "failed_streams",
+        "two_epochs", "promises", "changes", "greatest_epoch", "limits_of_histories", "half_messages", "failed_streams",
         "messages_in_one_piece", "messages_byte_by_byte",
     ],
     "LongNames": ["limits_of_names_and_keys"],

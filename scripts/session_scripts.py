@@ -105,7 +105,7 @@ def changes():
 
 
 @script
-def last_epoch():
+def greatest_epoch():
     yield "# Epochs only rise, up to the greatest. Nothing is asked for behind it."
     yield "watch 61 -"
     yield from ["close 0", "close 1", f"close {TOP}", f"close {TOP}", "close 2"]

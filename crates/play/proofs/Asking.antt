@@ -44,7 +44,7 @@ use Rattle.hub.specs.Runs.{Line, AllAnswered}
 use Rattle.play.specs.declared.ask.Ask.{Ask}
 use Rattle.play.specs.declared.ask.Ask.TheVariants as ask
 use Rattle.play.specs.Parties.{book_of, provider_of, HasAsked, IsReady, Parties}
-use Rattle.play.specs.Scripts.{token, ask_seen}
+use Rattle.play.specs.Scripts.{token, ask_seen, with_token}
 
 -- ---- frames
 
@@ -118,6 +118,18 @@ command_of (ask.Lookup name epoch) = (Query (asking.Lookup name.items epoch), re
 command_of (ask.History from count) = (Query (asking.History from count), refl)
 command_of ask.Head = (Query asking.Head, refl)
 command_of (ask.Turn epoch nonce) = (Edit (asking.Turn epoch nonce), refl)
+
+-- a request with the token of a script is what the script asks
+pub asked_as : (it : Ask) (asked : RequestContent) (given : List ℕ) → asked ≡ with_token given (ask_seen it) → given ≡ token → asked ≡ ask_seen it
+asked_as it asked given is own = is ∙ ap (λ (t : List ℕ). with_token t (ask_seen it)) own ∙ by it
+  where
+    by : (one : Ask) → with_token token (ask_seen one) ≡ ask_seen one
+    by (ask.Put _ _ _) = refl
+    by (ask.Promise _) = refl
+    by (ask.Lookup _ _) = refl
+    by (ask.History _ _) = refl
+    by ask.Head = refl
+    by (ask.Turn _ _) = refl
 
 -- what a request that was read is, where the body spells this one
 read_as : RequestsAreOne → (frame : Frame) (requested other : RequestContent) → Asks frame.kind frame.body requested → ReadsContent frame.kind frame.body (Ok other) → other ≡ requested

@@ -1,6 +1,7 @@
 -- What is true of the lines that scripts print.
 use Rattle.std.specs.Prelude.{◌≡◌, ◌⊎◌, ℕ, ◌+◌, ◌==◌, ◌&&◌, Bool, true, false, not, List, [], ◌∷◌, ◌++◌, take, Option, Some, None, Contains}
 use Rattle.std.specs.List.{AllByRecursion}
+use Rattle.std.specs.Str.{byte}
 use Rattle.rand_core.specs.Stream.{Stream}
 use Rattle.commands.specs.Operations.{Question, Promise, Lookup, History, Head}
 use Rattle.textio.specs.Lines.{lines_of}
@@ -17,7 +18,7 @@ use Rattle.play.specs.Watchers.{Watcher, ahead}
 -- the line begins neither with `{`, as evidence does, nor with `c`, as what a client refuses does
 abbrev pub is_plain : List ℕ → Bool
 is_plain [] = false
-is_plain (byte ∷ bytes) = not (byte == 99) && not (byte == 123)
+is_plain (first ∷ more) = not (first == byte "c") && not (first == byte "{")
 
 abbrev pub IsPlain : List ℕ → Type 0
 IsPlain line = is_plain line ≡ true

@@ -32,6 +32,7 @@ use Rattle.hub.specs.Runs.{Line, Runs}
 use Rattle.auditor.specs.Chains.{Chains, chain_of}
 use Rattle.client.specs.Clients.{Client}
 use Rattle.monitor.specs.Monitors.{Monitor}
+use Rattle.play.specs.declared.engine.TheConstants.{OWN_SESSION}
 use Rattle.play.specs.Hearing.{IsOfBytes}
 use Rattle.play.specs.Lines.{as_lines}
 use Rattle.play.specs.Played.{Stand}
@@ -89,9 +90,9 @@ module _ {R : Type 0} (digest_of : List ℕ → List ℕ) (value_of signature_of
 
   -- ---- how all stand
 
-  -- session 0 is open and holds nothing, the others hold bytes, and the operator's token is a script's
+  -- the script's own session is open and holds nothing, the others hold bytes, and the operator's token is a script's
   pub record IsReady (parties : Parties R) : Type 0 where
-    pub idle : at_session parties.hub.sessions 0 ≡ Some (Rest [])
+    pub idle : at_session parties.hub.sessions OWN_SESSION ≡ Some (Rest [])
     pub bytes : HoldBytes parties.hub.sessions
     pub token : parties.hub.service.token ≡ token
     pub key : parties.hub.service.directory.signing_key ≡ parties.key

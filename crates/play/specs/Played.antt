@@ -8,6 +8,7 @@ use Rattle.book.specs.Books.{Book, pages}
 use Rattle.book.specs.Fresh as books
 use Rattle.hub.specs.Events.{BySession, Happening, Open, Bytes}
 use Rattle.hub.specs.Events as event
+use Rattle.play.specs.declared.engine.TheConstants.{OWN_SESSION}
 use Rattle.play.specs.Lines.{answer_text, checked_text, last_epoch, of_session, upshot_text}
 use Rattle.play.specs.Messages.{Upshot, asks, comes_of, heard, held_after, request_asks}
 use Rattle.play.specs.Scripts.{ScriptLine, Pass, Ask, Watch as Watching, Piece, End}
@@ -19,9 +20,9 @@ pub record Stand : Type 0 where
   pub sessions : BySession Remainder
   pub watchers : List Watcher
 
--- the book of epoch 1 without a name; session 0 is open, and there is no monitor
+-- the book of epoch 1 without a name; the script's own session is open, and there is no monitor
 abbrev pub opening : salt.Stream → Stand
-opening salts = record { book = books.fresh 1 (replicate 32 0) salts; sessions = (0, Rest []) ∷ []; watchers = [] }
+opening salts = record { book = books.fresh 1 (replicate 32 0) salts; sessions = (OWN_SESSION, Rest []) ∷ []; watchers = [] }
 
 -- only a registration or a change hands out its promise
 abbrev pub after_promise : RequestContent → ℕ → Upshot → List Watcher → List Watcher

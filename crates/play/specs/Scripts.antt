@@ -2,7 +2,7 @@
 use Rattle.std.specs.Prelude.{ℕ, ◌≤◌, ◌^◌, ◌-◌, ◌==◌, ◌&&◌, nat_le, if◌then◌else◌, List, [], ◌∷◌, drop, Option, Some, None, codes, decimal, option_and_then, replicate, ⊤}
 use Rattle.std.specs.Int.NonZero.{non_zero_u32_get}
 use Rattle.std.specs.List.{slice_split}
-use Rattle.std.specs.Str.{bytes_eq}
+use Rattle.std.specs.Str.{byte, bytes_eq}
 use Rattle.std.specs.Result.{result_ok}
 use Rattle.std.specs.Str.Parse.{digits_value}
 use Rattle.hex.specs.Hex.{decode_of}
@@ -18,6 +18,7 @@ use Rattle.wire.specs.Requests.{RequestContent, Query, Put, Turn, request_frame}
 use Rattle.book.specs.Steps.{has_length_within}
 use Rattle.play.specs.declared.ask.Ask.{Ask as AskMade}
 use Rattle.play.specs.declared.ask.Ask.TheVariants as ask
+use Rattle.play.specs.declared.engine.TheConstants.{OWN_SESSION}
 use Rattle.play.specs.declared.line.Line.{Line as LineMade}
 use Rattle.play.specs.declared.line.Line.TheVariants as line
 
@@ -41,7 +42,7 @@ token = replicate 32 0
 
 -- the words of a line, which one space parts
 abbrev pub words : List ℕ → List (List ℕ)
-words = slice_split (λ byte. byte == 32)
+words = slice_split (λ it. it == byte " ")
 
 -- bytes in hexadecimal digits of either case, or `-` for none
 abbrev pub hex_word : List ℕ → Option (List ℕ)
@@ -58,9 +59,9 @@ epoch_word = number_word (2 ^ 64 - 1)
 abbrev pub count_word : List ℕ → Option ℕ
 count_word = number_word (2 ^ 16 - 1)
 
--- a session's number; 0 is the session of the lines that ask
+-- the number of a session, which is not the script's own
 abbrev pub session_word : List ℕ → Option ℕ
-session_word word = option_and_then (λ session. if session == 0 then None else Some session) (number_word (2 ^ 32 - 1) word)
+session_word word = option_and_then (λ session. if session == OWN_SESSION then None else Some session) (number_word (2 ^ 32 - 1) word)
 
 -- ---- what the words behind a command say
 
@@ -121,7 +122,7 @@ line_of_words (verb ∷ behind) = said_among verbs verb behind
 -- what a line says, or none where it is no command; `#` begins a note
 abbrev pub line_of : List ℕ → Option ScriptLine
 line_of [] = Some Pass
-line_of (byte ∷ bytes) = if byte == 35 then Some Pass else line_of_words (words (byte ∷ bytes))
+line_of (first ∷ more) = if first == byte "#" then Some Pass else line_of_words (words (first ∷ more))
 
 -- ---- lines that were read, regardless of where their bytes lie
 
@@ -132,6 +133,11 @@ ask_seen (ask.Lookup name epoch) = Query (Lookup name.items epoch)
 ask_seen (ask.History from count) = Query (History from count)
 ask_seen ask.Head = Query Head
 ask_seen (ask.Turn epoch nonce) = Turn token epoch nonce
+
+-- the request, where it has a token, with this token of the operator
+abbrev pub with_token : List ℕ → RequestContent → RequestContent
+with_token given (Turn other epoch nonce) = Turn given epoch nonce
+with_token given requested = requested
 
 abbrev pub line_seen : LineMade → ScriptLine
 line_seen line.Pass = Pass

@@ -36,8 +36,8 @@ changes =
     ∷ []
 
 -- Epochs only rise, up to the greatest. Nothing is asked for behind it.
-abbrev pub last_epoch : List Row
-last_epoch =
+abbrev pub greatest_epoch : List Row
+greatest_epoch =
     (codes "watch 61 -", codes "kept 61 1" ∷ [])
     ∷ (codes "close 0", codes "refused 11" ∷ [])
     ∷ (codes "close 1", codes "refused 11" ∷ [])

@@ -1,12 +1,11 @@
 // What a line asks of the directory: how its words are read, and the request that asks it.
 
-ghost use Rattle.std.specs.Prelude.{◌≡◌, ◌↔◌, ◌++◌, IfOk, IsTrue, MatchOption, None, OnOk, Some, option_map};
+ghost use Rattle.std.specs.Prelude.{◌≡◌, ◌↔◌, IfOk, IsTrue, MatchOption, None, Some, option_map};
 ghost use Rattle.commands.specs.Operations as asked;
-ghost use Rattle.wire.specs.Frames.{frame_bytes, IsFrame};
 ghost use Rattle.wire.specs.Requests as asks;
-ghost use Rattle.wire.specs.Requests.{request_frame, IsAsked};
+ghost use Rattle.wire.specs.Requests.{request_seen};
 ghost use Rattle.textio.specs.Digits.{hex32};
-ghost use Rattle.play.specs.Scripts.{ask_seen, asked_line, asking, count_word, epoch_word, hex_word, other_verbs, said_among, token, verbs, with_no_word, with_one_word, with_two_words, words_behind, RequestFits};
+ghost use Rattle.play.specs.Scripts.{ask_seen, asked_line, asking, count_word, epoch_word, hex_word, other_verbs, said_among, token, verbs, with_no_word, with_one_word, with_token, with_two_words, words_behind, RequestFits};
 
 use crate::word::{one_word, read_bytes, read_count, read_epoch, two_words};
 use commands::{Put, Query, Verb};
@@ -50,66 +49,43 @@ pub enum Ask {
 }
 
 impl Ask {
-    // `fits` and `write` each make the request, since a function that only holds one does not prove.
+    /// The request that asks it, with this token of the operator.
+    pub fn request(&self, token: Hash32) -> Request<'_>
+        ensures { request_seen result ≡ with_token token (ask_seen self.now) }
+    {
+        match self {
+            Ask::Put { verb, name, key } => Request::Put(Put {
+                verb: *verb,
+                name,
+                key,
+            }),
+            Ask::Promise { name } => Request::Query(Query::Promise { name }),
+            Ask::Lookup { name, epoch } => Request::Query(Query::Lookup {
+                name,
+                epoch: *epoch,
+            }),
+            Ask::History { from, count } => Request::Query(Query::History {
+                from: *from,
+                count: *count,
+            }),
+            Ask::Head => Request::Query(Query::Head),
+            Ask::Turn { epoch, nonce } => Request::Turn {
+                token,
+                epoch: *epoch,
+                nonce: *nonce,
+            },
+        }
+    }
 
     /// Whether a frame has room for the request that asks it.
     pub(crate) fn fits(&self) -> bool
         ensures { IsTrue result ↔ RequestFits (ask_seen self.now) }
     {
-        match self {
-            Ask::Put { verb, name, key } => Request::Put(Put {
-                verb: *verb,
-                name,
-                key,
-            })
-            .fits(),
-            Ask::Promise { name } => Request::Query(Query::Promise { name }).fits(),
-            Ask::Lookup { name, epoch } => Request::Query(Query::Lookup {
-                name,
-                epoch: *epoch,
-            })
-            .fits(),
-            Ask::Turn { epoch, nonce } => Request::Turn {
-                token: token(),
-                epoch: *epoch,
-                nonce: *nonce,
-            }
-            .fits(),
-            Ask::History { .. } | Ask::Head => true,
-        }
-    }
-
-    /// Appends the frame of the request.
-    pub(crate) fn write(&self, output: &mut Vec<u8>) -> Result<(), AllocError>
-        requires { RequestFits (ask_seen self.now) }
-        ensures ok { OnOk result (output.new.items ≡ output.old.items ++ frame_bytes (request_frame (ask_seen self.now))) }
-        ensures form { IsAsked (ask_seen self.now) × IsFrame (request_frame (ask_seen self.now)) }
-    {
-        match self {
-            Ask::Put { verb, name, key } => Request::Put(Put {
-                verb: *verb,
-                name,
-                key,
-            })
-            .write(output),
-            Ask::Promise { name } => Request::Query(Query::Promise { name }).write(output),
-            Ask::Lookup { name, epoch } => Request::Query(Query::Lookup {
-                name,
-                epoch: *epoch,
-            })
-            .write(output),
-            Ask::History { from, count } => Request::Query(Query::History {
-                from: *from,
-                count: *count,
-            })
-            .write(output),
-            Ask::Head => Request::Query(Query::Head).write(output),
-            Ask::Turn { epoch, nonce } => Request::Turn {
-                token: token(),
-                epoch: *epoch,
-                nonce: *nonce,
-            }
-            .write(output),
+        // A `match`, since a function that only holds a request does not prove.
+        match self.request(token()) {
+            Request::Query(query) => Request::Query(query).fits(),
+            Request::Put(put) => Request::Put(put).fits(),
+            turn => turn.fits(),
         }
     }
 }

@@ -13,6 +13,7 @@ ghost use Rattle.book.specs.Fresh.{fresh};
 ghost use Rattle.book.specs.Shows.{index_of};
 ghost use Rattle.epochs.specs.DirectoryStates.{book, provider, HasKeysOf};
 ghost use Rattle.hub.specs.DeskRuns.{IsSoundDesk};
+ghost use Rattle.play.specs.declared.engine.TheConstants.{OWN_SESSION};
 ghost use Rattle.play.specs.Checked.{HasAnsweredLine};
 ghost use Rattle.play.specs.Parties.{AreAt, HaveDone};
 ghost use Rattle.play.specs.Played.{line_played, Stand};
@@ -43,8 +44,8 @@ mod reading;
 mod wanting;
 mod watching;
 
-/// The session through which a script's lines ask.
-const ASKING: u32 = 0;
+/// A script's own session: its lines ask through it.
+const OWN_SESSION: u32 = 0;
 
 /// The functions of those who check: their hash function, and what accepts values and signatures.
 #[derive(Drop)]
@@ -97,8 +98,8 @@ where
     S: Signer + Drop,
     R: Rng + Drop,
 {
-    /// The parties at the first root of a directory: session 0 is open, the client starts at the root, and the
-    /// auditor has observed it.
+    /// The parties at the first root of a directory: the script's own session is open, the client starts at
+    /// the root, and the auditor has observed it.
     ///
     /// # Errors
     ///
@@ -111,7 +112,7 @@ where
     ) -> Result<Self, AllocError>
         requires fresh { (epoch : ℕ) × (nonce : List ℕ) × (salts : Stream) × (book R.stream directory ≡ fresh epoch nonce salts) }
         requires own { directory.signing_key ≡ key }
-        ensures at { IfOk result (λ engine. AreAt H.digest_of V.value_of S.signature_of R.stream V.accepted S.verified engine (record { book = book R.stream directory; sessions = (0, Rest []) ∷ []; watchers = [] })) }
+        ensures at { IfOk result (λ engine. AreAt H.digest_of V.value_of S.signature_of R.stream V.accepted S.verified engine (record { book = book R.stream directory; sessions = (OWN_SESSION, Rest []) ∷ []; watchers = [] })) }
         ensures directory { IfOk result (λ engine. engine.hub.service.directory ≡ directory) }
     {
         let mut checks = checks;
@@ -120,7 +121,7 @@ where
         let mut auditor = Auditor::new(alloc);
         observe(&mut auditor, &mut checks, &key, root.bytes())?;
         let mut hub = Hub::new(alloc, directory, NoKeeper, token());
-        happen(&mut hub, &Event::Open(ASKING), &mut Vec::new(alloc))?;
+        happen(&mut hub, &Event::Open(OWN_SESSION), &mut Vec::new(alloc))?;
         Ok(Engine {
             alloc,
             hub,

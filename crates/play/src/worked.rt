@@ -7,14 +7,14 @@ ghost use Rattle.play.specs.Rotations.{rotations, rotations_in_frames};
 ghost use Rattle.play.specs.Rows.{AreNoCommands, PrintRows, PrintRowsApart, PrintRowsTogether, PrintsUnder, StopsAtLine};
 ghost use Rattle.play.specs.SessionScripts.{only_the_operator_closes, refusals_in_frames, two_sessions};
 ghost use Rattle.play.specs.Stops.{long_key_line, long_line, other_lines};
-ghost use Rattle.play.specs.WorkedScripts.{changes, failed_streams, half_messages, last_epoch, limits_of_histories, messages_byte_by_byte, messages_in_one_piece, promises, two_epochs};
+ghost use Rattle.play.specs.WorkedScripts.{changes, failed_streams, greatest_epoch, half_messages, limits_of_histories, messages_byte_by_byte, messages_in_one_piece, promises, two_epochs};
 
 /// The worked scripts, computed from the definitions alone: each line prints what stands beside it.
 pub fn worked_scripts()
     ensures two_epochs { PrintRows two_epochs }
     ensures promises { PrintRows promises }
     ensures changes { PrintRows changes }
-    ensures last_epoch { PrintRows last_epoch }
+    ensures greatest_epoch { PrintRows greatest_epoch }
     ensures limits_of_histories { PrintRows limits_of_histories }
     ensures half_messages { PrintRows half_messages }
     ensures failed_streams { PrintRows failed_streams }

@@ -26,8 +26,8 @@ ghost use Rattle.play.specs.Watchers.{Watcher};
 use super::handing::hand_all;
 use super::reading::{read_response, tell_promise};
 use super::wanting::happen;
-use super::{ASKING, Engine};
-use crate::ask::Ask;
+use super::{Engine, OWN_SESSION};
+use crate::ask::{Ask, token};
 use crate::laws::honest;
 use crate::telling::{tell_refusal, tell_response, tell_statement};
 use book::{NoKeeper, Refusal};
@@ -145,7 +145,7 @@ where
         ensures { IfOk result (λ reply. HasAsked H.digest_of V.value_of S.signature_of R.stream V.accepted S.verified self.old (ask_seen ask.now) reply.items self.new) }
     {
         self.request.clear();
-        ask.write(&mut self.request)?;
+        ask.request(token()).write(&mut self.request)?;
         let mut reply = mem::replace(&mut self.reply, Vec::new(self.alloc));
         reply.clear();
         // What the two calls of `head` ensure: the book is sound before and after, and the provider's
@@ -153,7 +153,7 @@ where
         self.hub.head();
         happen(
             &mut self.hub,
-            &Event::Bytes(ASKING, &self.request),
+            &Event::Bytes(OWN_SESSION, &self.request),
             &mut reply,
         )?;
         self.hub.head();

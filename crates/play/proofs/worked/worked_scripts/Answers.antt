@@ -18,9 +18,9 @@ pub returns-clause-changes : goal.returns-clause-changes
 unfolding read_frame read_request read_counted encode_with decode_pairs digits
 returns-clause-changes c = λ index_of salts. refl
 
-pub returns-clause-last_epoch : goal.returns-clause-last_epoch
+pub returns-clause-greatest_epoch : goal.returns-clause-greatest_epoch
 unfolding read_frame read_request read_counted encode_with decode_pairs digits
-returns-clause-last_epoch c = λ index_of salts. refl
+returns-clause-greatest_epoch c = λ index_of salts. refl
 
 pub returns-clause-limits_of_histories : goal.returns-clause-limits_of_histories
 unfolding read_frame read_request read_counted encode_with decode_pairs digits
