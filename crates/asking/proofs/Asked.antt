@@ -10,10 +10,10 @@ use Rattle.rootchain.specs.declared.signed_root.SignedRoot.{SignedRoot}
 use Rattle.monitor.specs.Monitors.{Monitor}
 use Rattle.wire.specs.Frames.{Frame}
 use Rattle.wire.specs.Requests.{RequestContent, Put}
+use Rattle.play.specs.Scripts.{with_token}
 use Rattle.asking.specs.declared.asker.Asker.{Asker}
 use Rattle.asking.specs.declared.asker.Mark.{Mark}
 use Rattle.asking.specs.declared.said.Said.{Said}
-use Rattle.asking.specs.Answering.{with_token}
 use Rattle.asking.specs.Asking.{AsksDirectory, CatchesUp, GoesOnAbove, Hands, HandsTo, Notes, SpeaksOf}
 use Rattle.asking.specs.Checking.{HearsFrame}
 use Rattle.asking.specs.Scenes.{scene}

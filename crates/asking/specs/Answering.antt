@@ -7,11 +7,6 @@ use Rattle.wire.specs.Responses.{ResponseContent, Proof, Roots, Root}
 use Rattle.wire.specs.Responses as response
 use Rattle.rootchain.specs.declared.signed_root.SignedRoot.{SignedRoot}
 
--- the request, where it has a token, with this token of the operator
-abbrev pub with_token : List ℕ → RequestContent → RequestContent
-with_token token (Turn other epoch nonce) = Turn token epoch nonce
-with_token token requested = requested
-
 -- a root of this epoch, and of this nonce if one was asked for
 abbrev pub IsOfTurn : ℕ → Option (List ℕ) → SignedRoot → Type 0
 IsOfTurn epoch None root = root.body.epoch ≡ epoch

@@ -13,8 +13,9 @@ use Rattle.wire.specs.Frames.{Frame}
 use Rattle.wire.specs.Requests.{RequestContent, Put}
 use Rattle.wire.specs.Responses.{ResponseContent, Promise, Proof, Roots, Root, Refused, Responds, ReadsResponse}
 use Rattle.wire.specs.declared.message_refusals.ReadRefusal.{ReadRefusal}
+use Rattle.play.specs.Scripts.{with_token}
 use Rattle.asking.specs.declared.asker.Mark.{Mark}
-use Rattle.asking.specs.Answering.{IsAnswerTo, with_token}
+use Rattle.asking.specs.Answering.{IsAnswerTo}
 use Rattle.asking.specs.Checking.{HearsFrame}
 use Rattle.asking.specs.Following.{Follows, StopsAfter, TakesSome}
 use Rattle.asking.specs.Scenes.{Scene}

@@ -2,49 +2,19 @@
 ghost use Rattle.std.specs.Prelude.{◌≡◌, ◌↔◌, codes, option_map, IfOk, IsTrue, OnErr, OnOk};
 ghost use Rattle.wire.specs.FrameViews.{frame_seen};
 ghost use Rattle.wire.specs.Refusals.{read_refusal_number};
-ghost use Rattle.wire.specs.Requests.{request_seen};
 ghost use Rattle.wire.specs.Responses.{response_seen, Refused};
 ghost use Rattle.play.specs.Hearing.{response_text};
 ghost use Rattle.play.specs.Scripts.{ask_seen};
-ghost use Rattle.asking.specs.Answering.{with_token, IsAnswerTo};
+ghost use Rattle.asking.specs.Answering.{IsAnswerTo};
 ghost use Rattle.asking.specs.Refused.{other_reply, refuses_text};
 ghost use Rattle.asking.specs.Scenes.{miss_told, GivesBody};
 ghost use Rattle.asking.specs.Reports.{refused, report_of, Tells};
 
 use crate::said::{Said, directory_words};
-use commands::{Put, Query};
-use encoding::{Hash32, Name};
+use encoding::Name;
 use play::{Ask, push_number, tell_response};
 use std::alloc::{AllocError, Global};
-use wire::{FrameView, ReadRefusal, Request, Response};
-
-/// The request that asks it, with this token of the operator.
-pub(crate) fn request_of<'a>(ask: &'a Ask, token: Hash32) -> Request<'a>
-    ensures { request_seen result ≡ with_token token (ask_seen ask.entry.now) }
-{
-    match ask {
-        Ask::Put { verb, name, key } => Request::Put(Put {
-            verb: *verb,
-            name,
-            key,
-        }),
-        Ask::Promise { name } => Request::Query(Query::Promise { name }),
-        Ask::Lookup { name, epoch } => Request::Query(Query::Lookup {
-            name,
-            epoch: *epoch,
-        }),
-        Ask::History { from, count } => Request::Query(Query::History {
-            from: *from,
-            count: *count,
-        }),
-        Ask::Head => Request::Query(Query::Head),
-        Ask::Turn { epoch, nonce } => Request::Turn {
-            token,
-            epoch: *epoch,
-            nonce: *nonce,
-        },
-    }
-}
+use wire::{FrameView, ReadRefusal, Response};
 
 /// Whether a response is one to what was asked: of its kind, and about what it names.
 pub(crate) fn answers(ask: &Ask, response: &Response<'_>) -> bool

@@ -8,7 +8,7 @@ ghost use Rattle.asking.specs.Reports.{report_of};
 ghost use Rattle.asking.specs.Scenes.{StartsAtHead, StopsAtHead};
 ghost use Rattle.asking.specs.declared.ask_fault.AskFault.TheVariants.{Stopped};
 
-use crate::answering::{body_of, request_of};
+use crate::answering::body_of;
 use crate::checking::tell_client;
 use crate::exchange::{exchange, frame_in};
 use crate::{AskFault, Said};
@@ -134,7 +134,7 @@ where
         ensures stops { IfErr result (λ fault. fault ≡ Stopped → StopsAtHead S.verified (ExchangesFrames T.contents T.remaining) key stream.old (report_of said.old) stream.new (report_of said.new)) }
         ensures halts { IfErr result (λ fault. fault ≢ Stopped → report_of said.new ≡ report_of said.old) }
     {
-        let reply = exchange(alloc, stream, &request_of(&Ask::Head, token))?;
+        let reply = exchange(alloc, stream, &Ask::Head.request(token))?;
         let frame = frame_in(&reply)?;
         let Some(root) = body_of(alloc, &Ask::Head, &frame, said)? else {
             return Err(AskFault::Stopped);

@@ -3,9 +3,8 @@ ghost use Rattle.std.specs.Prelude.{◌≡◌, ◌≢◌, ◌⊎◌, Err, IfErr,
 ghost use Rattle.wire.specs.Frames.{Frame};
 ghost use Rattle.wire.specs.FrameViews.{frame_seen};
 ghost use Rattle.wire.specs.Responses.{response_seen};
-ghost use Rattle.play.specs.Scripts.{ask_seen};
+ghost use Rattle.play.specs.Scripts.{ask_seen, with_token};
 ghost use Rattle.asking.specs.Askers.{asker_changes, asker_marks, asker_token};
-ghost use Rattle.asking.specs.Answering.{with_token};
 ghost use Rattle.asking.specs.Asking.{response_epoch, AsksDirectory, AsksSome, CatchesSome, CatchesUp, GoesOnAbove, GoesSomeAbove, Hands, Notes, SpeaksOf, StopsAsking, StopsBelow};
 ghost use Rattle.asking.specs.Checking.{HearsFrame};
 ghost use Rattle.asking.specs.Exchanges.{ExchangesFrames, HoldsFrame, IsOneFrame};
@@ -13,7 +12,7 @@ ghost use Rattle.asking.specs.Scenes.{scene, HaltsAfter, Remains, StaysWhole};
 ghost use Rattle.asking.specs.Reports.{report_of, Report, Tells};
 ghost use Rattle.asking.specs.declared.ask_fault.AskFault.TheVariants.{Stopped};
 
-use crate::answering::{answers, request_of};
+use crate::answering::answers;
 use crate::checking::hear;
 use crate::exchange::{exchange, frame_in};
 use crate::{AskFault, Asker, Said};
@@ -156,6 +155,6 @@ where
         ensures sent { IfOk result (λ bytes. (frame : Frame) → HoldsFrame bytes.items frame → ExchangesFrames T.contents T.remaining stream.old (with_token (self.now).token (ask_seen ask.now)) frame stream.new) }
         ensures err { IfErr result (λ fault. fault ≢ Stopped) }
     {
-        exchange(self.alloc, stream, &request_of(ask, self.token))
+        exchange(self.alloc, stream, &ask.request(self.token))
     }
 }

@@ -7,4 +7,4 @@ use Rattle.asking.proofs.asker.Asker.request.Goals as goal
 pub returns-clause-sent : goal.returns-clause-sent
 returns-clause-sent g c =
     subst (λ (asked : RequestContent). IfOk c.exchange.result (λ (bytes : Vec ℕ Global). (frame : Frame) → HoldsFrame bytes.items frame → ExchangesFrames g.T.Write.contents g.T.Read.remaining c.args.stream.now asked frame c.exchange.new.stream))
-    c.request_of.ensures c.exchange.ensures.sent
+    c.request.ensures c.exchange.ensures.sent

@@ -14,7 +14,7 @@ returns-in-Ok-clause-starts g c =
     let gives = rw c.in-Some.is at c.in_ok-root.ensures.gives in
     let sent = c.in_ok-reply.ensures.sent (frame_seen c.in_ok-frame.frame) (rw c.deref.ensures.value at c.in_ok-frame.ensures.ok) in (
       frame_seen c.in_ok-frame.frame,
-      subst (λ (asked : RequestContent). ExchangesFrames g.T.Write.contents g.T.Read.remaining c.args.stream.now asked (frame_seen c.in_ok-frame.frame) c.exchange.new.stream) c.request_of.ensures sent,
+      subst (λ (asked : RequestContent). ExchangesFrames g.T.Write.contents g.T.Read.remaining c.args.stream.now asked (frame_seen c.in_ok-frame.frame) c.exchange.new.stream) c.request.ensures sent,
       gives.0,
       subst (λ (bytes : List ℕ). Starts g.S.Verifier.verified c.args.key bytes (Ok c.in-Ok.asker.client)) gives.1 c.in-Ok.ensures.ok,
     )
@@ -25,7 +25,7 @@ returns-in_default-clause-stops g c =
     let sent = c.in_ok-reply.ensures.sent (frame_seen c.in_ok-frame.frame) (rw c.deref.ensures.value at c.in_ok-frame.ensures.ok) in
     λ stopped. (
       frame_seen c.in_ok-frame.frame,
-      subst (λ (asked : RequestContent). ExchangesFrames g.T.Write.contents g.T.Read.remaining c.args.stream.now asked (frame_seen c.in_ok-frame.frame) c.exchange.new.stream) c.request_of.ensures sent,
+      subst (λ (asked : RequestContent). ExchangesFrames g.T.Write.contents g.T.Read.remaining c.args.stream.now asked (frame_seen c.in_ok-frame.frame) c.exchange.new.stream) c.request.ensures sent,
       (gives.0, inl gives.1, told_onto c.args.said.now c.body_of.new.said gives.0 gives.2),
     )
 
@@ -37,7 +37,7 @@ returns-clause-stops g c =
     let tells = subst (λ (s : Said). Tells s refuses c.tell_client.new.said) gives.2 c.in_ok-tell_client-in-Err.ensures.told in
     λ stopped. (
       frame_seen c.in_ok-frame.frame,
-      subst (λ (asked : RequestContent). ExchangesFrames g.T.Write.contents g.T.Read.remaining c.args.stream.now asked (frame_seen c.in_ok-frame.frame) c.exchange.new.stream) c.request_of.ensures sent,
+      subst (λ (asked : RequestContent). ExchangesFrames g.T.Write.contents g.T.Read.remaining c.args.stream.now asked (frame_seen c.in_ok-frame.frame) c.exchange.new.stream) c.request.ensures sent,
       (
         refuses,
         inr (
