@@ -5,7 +5,7 @@ use audits::{AuditOrder, audit, judge_file};
 use book::NoKeeper;
 use items::{HashChoice, ProveOrder, RootOrder, prove, root};
 use play::play;
-use questions::Case;
+use questions::{Case, tells_of_memory};
 use server::{ServeFault, serve};
 use std::alloc::Global;
 use std::fmt;
@@ -214,7 +214,7 @@ const SESSION: u32 = 1;
 /// Marks an outcome where a reply tells that the directory was out of memory, also one that was not written.
 fn marked(outcome: Outcome, offered: &[u8]) -> Outcome {
     let mut marked = outcome;
-    if provider::lack_memory(offered) {
+    if tells_of_memory(offered) {
         marked.is_spoiled = true;
     }
     marked

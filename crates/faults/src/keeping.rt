@@ -2,12 +2,11 @@
 use crate::devices::LossyKeeper;
 use crate::provider::{self, Provided};
 use book::{Keeper, Refusal, Reply};
-use commands::{Command, Edit};
+use commands::Command;
 use hub::{Event, HubRefusal};
 use provider::ProvidedHub;
-use questions::Case;
+use questions::{Case, read_commands, tells_of_memory};
 use std::alloc::{AllocError, Global};
-use wire::Request;
 
 /// What a directory is asked.
 #[derive(Drop)]
@@ -16,42 +15,6 @@ enum Asked<'a> {
     Commands(Vec<Command<'a>>),
     /// In a session of a hub, by a stream of frames in pieces of so many bytes.
     Stream { piece: usize, frames: &'a [u8] },
-}
-
-/// The command that a request is.
-fn command<'a>(request: &Request<'a>) -> Command<'a> {
-    match request {
-        Request::Query(query) => Command::Query(*query),
-        Request::Put(put) => Command::Edit(Edit::Put(*put)),
-        Request::Turn { epoch, nonce, .. } => Command::Edit(Edit::Turn {
-            epoch: *epoch,
-            nonce: *nonce,
-        }),
-    }
-}
-
-/// Adds the command of a message: a kind byte and a body.
-fn push_command<'a>(case: &mut Case<'a>, commands: &mut Vec<Command<'a>>) {
-    let Some((kind, body)) = case.bytes().split_first() else {
-        return case.spoil();
-    };
-    match Request::read(*kind, body) {
-        Ok(request) => {
-            if commands.push(command(&request)).is_err() {
-                case.lack_memory();
-            }
-        }
-        Err(_) => case.spoil(),
-    }
-}
-
-/// The commands of the words that are left.
-pub(crate) fn commands<'a>(case: &mut Case<'a>) -> Vec<Command<'a>> {
-    let mut commands = Vec::new(case.alloc());
-    for _ in 0..case.left() {
-        push_command(case, &mut commands);
-    }
-    commands
 }
 
 /// Appends what a reply has: its bytes, or the number of its refusal.
@@ -131,7 +94,7 @@ fn ask_hub(
     for piece in frames.chunks(piece.max(1)) {
         hear(&mut hub, piece, output)?;
     }
-    if provider::lack_memory(output) {
+    if tells_of_memory(output) {
         return Err(AllocError);
     }
     Ok(())
@@ -177,7 +140,7 @@ fn answer(case: &mut Case<'_>, asked: &Asked<'_>) {
 
 /// `directory MESSAGE..`
 pub(crate) fn directory(case: &mut Case<'_>) {
-    let commands = commands(case);
+    let commands = read_commands(case);
     answer(case, &Asked::Commands(commands));
 }
 

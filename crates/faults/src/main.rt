@@ -20,6 +20,7 @@ mod job;
 mod keeping;
 mod peers;
 mod provider;
+mod row;
 mod stopping;
 mod sweep;
 

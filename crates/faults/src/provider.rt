@@ -1,5 +1,4 @@
-// The provider of all runs: its keys, its directory at epoch 1 and how a journal of it begins and is opened, and
-// what its replies tell of memory.
+// The provider of all runs: its keys, its directory at epoch 1 and how a journal of it begins and is opened.
 ghost use Rattle.std.specs.Prelude.{◌≡◌, [], IfOk};
 
 use book::{Keeper, Record};
@@ -91,26 +90,4 @@ pub(crate) fn hub<K: Keeper + Drop>(alloc: Global, keeper: K) -> Result<Provided
 {
     let directory = directory(alloc)?;
     Ok(Hub::new(alloc, directory, keeper, Hash32::new([4; 32])))
-}
-
-/// Whether one of these frames tells that the directory was out of memory.
-pub(crate) fn lack_memory(frames: &[u8]) -> bool {
-    let mut rest = frames;
-    for _ in 0..frames.len() {
-        let Some((frame, after)) = first_frame(rest) else {
-            return false;
-        };
-        if frame == [0xff, 14].as_slice() {
-            return true;
-        }
-        rest = after;
-    }
-    false
-}
-
-/// The kind and the body of the first frame, and what stands after it.
-fn first_frame(frames: &[u8]) -> Option<(&[u8], &[u8])> {
-    let (size, rest) = frames.split_at_checked(4)?;
-    let size = u32::from_be_bytes(size.try_into().ok()?);
-    rest.split_at_checked(size as usize)
 }

@@ -1,11 +1,12 @@
 // A journal stops where its writer fails, and what is there is opened.
 use crate::devices::{CutWriter, Failing};
-use crate::keeping::{ask_directory, commands};
+use crate::keeping::ask_directory;
 use crate::provider::{self, Provided};
+use crate::row::{counted, tell};
 use book::{Keeper, NoKeeper};
 use commands::Command;
 use journal::{Journal, Refusal};
-use questions::Case;
+use questions::{Case, read_commands};
 use std::alloc::{AllocError, Global};
 use std::fmt;
 use std::io::{self, ErrorKind, Write};
@@ -37,21 +38,6 @@ impl fmt::Display for Left {
             Left::After(count) => write!(f, "after {count}"),
             Left::Other => write!(f, "other"),
         }
-    }
-}
-
-/// So many runs in a row that left the same.
-#[derive(Clone, Copy, Debug)]
-struct Row {
-    runs: u64,
-    left: Left,
-}
-
-impl fmt::Display for Row {
-    fn fmt<W: fmt::Write>(&self, f: &mut fmt::Formatter<W>) -> fmt::Result {
-        let runs = self.runs;
-        let left = self.left;
-        write!(f, "{runs} {left};")
     }
 }
 
@@ -146,26 +132,6 @@ fn opened(
     }
 }
 
-fn tell(case: &mut Case<'_>, row: Option<Row>) {
-    if let Some(row) = row {
-        case.say_shown(row);
-    }
-}
-
-/// Counts a run to those before it that left the same, or tells them and begins to count anew.
-fn counted(case: &mut Case<'_>, row: Option<Row>, left: Left) -> Row {
-    match row {
-        Some(row) if row.left == left => Row {
-            runs: row.runs.saturating_add(1),
-            left,
-        },
-        _ => {
-            tell(case, row);
-            Row { runs: 1, left }
-        }
-    }
-}
-
 /// Room for the longest journal.
 const ROOM: usize = 1 << 16;
 
@@ -194,7 +160,7 @@ fn sweep(case: &mut Case<'_>, story: Story<'_>) -> Result<(), AllocError> {
 pub(crate) fn journal(case: &mut Case<'_>) {
     let piece = case.number_to(4096);
     let count = case.number_to(1000);
-    let commands = commands(case);
+    let commands = read_commands(case);
     let (run, asked) = commands.split_at(count.min(commands.len()));
     if sweep(case, Story { piece, run, asked }).is_err() {
         case.lack_memory();

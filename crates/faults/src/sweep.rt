@@ -1,6 +1,7 @@
 // The runs of a sweep.
 use crate::devices::{CutReader, CutWriter, Failing};
 use crate::job::{Input, Job, Outcome};
+use crate::row::{counted, tell};
 use questions::Case;
 use std::alloc::{AllocError, Global};
 use std::fmt;
@@ -57,29 +58,20 @@ struct Ending {
     written: Option<usize>,
 }
 
-/// So many runs in a row that ended so.
-#[derive(Clone, Copy, Debug)]
-struct Row {
-    runs: u64,
-    ending: Ending,
-}
-
-impl fmt::Display for Row {
+impl fmt::Display for Ending {
     fn fmt<W: fmt::Write>(&self, f: &mut fmt::Formatter<W>) -> fmt::Result {
-        let runs = self.runs;
-        write!(f, "{runs} ")?;
-        match self.ending.outcome.fault {
+        match self.outcome.fault {
             Some(fault) => write!(f, "{fault}")?,
             None => write!(f, "ok")?,
         }
-        match self.ending.written {
+        match self.written {
             Some(count) => write!(f, " {count}")?,
             None => write!(f, " other")?,
         }
-        if let Some(epoch) = self.ending.outcome.next {
+        if let Some(epoch) = self.outcome.next {
             write!(f, " next {epoch}")?;
         }
-        write!(f, ";")
+        Ok(())
     }
 }
 
@@ -122,26 +114,6 @@ fn beginning(whole: &[u8], written: &[u8]) -> Option<usize> {
         Some(written.len())
     } else {
         None
-    }
-}
-
-/// Counts a run to those before it that ended so, or tells them and begins to count anew.
-fn counted(case: &mut Case<'_>, row: Option<Row>, ending: Ending) -> Row {
-    match row {
-        Some(row) if row.ending == ending => Row {
-            runs: row.runs.saturating_add(1),
-            ending,
-        },
-        _ => {
-            tell(case, row);
-            Row { runs: 1, ending }
-        }
-    }
-}
-
-fn tell(case: &mut Case<'_>, row: Option<Row>) {
-    if let Some(row) = row {
-        case.say_shown(row);
     }
 }
 

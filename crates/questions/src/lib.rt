@@ -22,12 +22,16 @@
 //! ```
 #![tactic(auto)]
 
+mod any_sign;
 mod case;
 mod lines;
+mod messages;
 mod named;
 mod saying;
 mod word;
 
+pub use any_sign::AnySign;
 pub use case::Case;
 pub use lines::{Subjects, answer_all};
-pub use saying::{say_evidence, say_place, say_statement};
+pub use messages::{read_commands, tells_of_memory};
+pub use saying::{refuse_root, say_ended, say_evidence, say_fault, say_place, say_statement};

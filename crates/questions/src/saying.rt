@@ -1,8 +1,9 @@
-//! How programs of questions tell evidence, places and statements.
+//! How programs of questions tell evidence, places, refusals, statements and faults.
 
 use crate::Case;
 use proofs::Statement;
-use rootchain::{Place, RootEvidence, SignedRoot};
+use rootchain::{Place, Refusal, RootEvidence, SignedRoot};
+use textio::ProgramFault;
 
 fn say_roots(case: &mut Case<'_>, kind: &str, one: &SignedRoot, other: &SignedRoot) {
     case.say(kind);
@@ -30,6 +31,14 @@ pub fn say_place(case: &mut Case<'_>, place: &Place) {
     }
 }
 
+/// Refuses a call on a root.
+pub fn refuse_root(case: &mut Case<'_>, why: Refusal) {
+    if why == Refusal::Memory {
+        case.lack_memory();
+    }
+    case.refuse(why.number(), why);
+}
+
 /// What a reply states of a name.
 pub fn say_statement(case: &mut Case<'_>, statement: Statement<'_>) {
     match statement {
@@ -38,5 +47,25 @@ pub fn say_statement(case: &mut Case<'_>, statement: Statement<'_>) {
             case.say_bytes(key);
         }
         Statement::Absent => case.say("absent"),
+    }
+}
+
+/// The fault of a program whose output is kept in memory: it can lack memory, but not fail to write.
+pub fn say_fault(case: &mut Case<'_>, fault: ProgramFault) {
+    match fault {
+        ProgramFault::OutOfMemory | ProgramFault::CannotWrite => case.lack_memory(),
+        fault => {
+            case.say("fault");
+            case.say_shown(fault.status());
+            case.say_shown(fault);
+        }
+    }
+}
+
+/// How such a program ended: `ok`, or its fault.
+pub fn say_ended(case: &mut Case<'_>, ended: Result<(), ProgramFault>) {
+    match ended {
+        Ok(()) => case.say("ok"),
+        Err(fault) => say_fault(case, fault),
     }
 }

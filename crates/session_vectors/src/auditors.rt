@@ -1,12 +1,11 @@
 //! Of `auditor`: an auditor, which stays for the next lines, and judging.
 
-use crate::stand_ins::{AnySign, Functions, keyed};
-use crate::telling::refuse_root;
+use crate::stand_ins::{Functions, keyed};
 use auditor::{Auditor, Evidence, Observed, judge};
 use encoding::{Hash32, PROOF_TEXT_ROOM, ProofText};
 use nodehash::{NodeHash, Sha256Hash};
 use proofs::BrokenPromise;
-use questions::{Case, say_evidence, say_place};
+use questions::{AnySign, Case, refuse_root, say_evidence, say_place};
 use rootchain::{Refusal, RootEvidence, SignedPromise, SignedRoot};
 use sigiface::KeyedSign;
 use vrfiface::VufCheck;

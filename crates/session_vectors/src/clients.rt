@@ -1,12 +1,11 @@
 //! Of `client`: a client, and another one, which stay for the next lines.
 
 use crate::feeds;
-use crate::stand_ins::{AnySign, Functions, keyed, summed};
-use crate::telling::say_option;
+use crate::stand_ins::{Functions, keyed, summed};
 use client::{Client, Due, Outcome, Refusal, reconcile};
 use encoding::Hash32;
 use nodehash::{NodeHash, Sha256Hash, SumHash};
-use questions::{Case, say_evidence, say_statement};
+use questions::{AnySign, Case, say_evidence, say_statement};
 use rootchain::RootFeed;
 use sigiface::KeyedSign;
 use vrfiface::{KeyedVuf, PlainVuf, VufCheck};
@@ -229,6 +228,14 @@ where
 {
     let name = case.name();
     say_option(case, client.due_epoch(&name));
+}
+
+/// The last word of the number that may be there.
+pub(crate) fn say_option(case: &mut Case<'_>, number: Option<u64>) {
+    match number {
+        Some(number) => case.say_shown(number),
+        None => case.say("none"),
+    }
 }
 
 /// `put-aside`

@@ -3,18 +3,18 @@
 use crate::hubs::refuse;
 use crate::journals;
 use book::{NoKeeper, Record, Refusal, Reply};
-use commands::{Command, Edit, Verb};
+use commands::Verb;
 use encoding::{Hash32, PROOF_TEXT_ROOM};
 use epochs::Directory;
 use nodehash::{NodeHash, Sha256Hash, SumHash};
-use questions::Case;
+use questions::{Case, read_commands};
 use rand_chacha::ChaCha20Rng;
 use rand_core::SeedableRng;
 use rootchain::{MAX_ROOTS, SignedPromise, SignedRoot};
 use sigiface::KeyedSign;
 use std::alloc::{AllocError, Global};
 use vrfiface::{KeyedVuf, PlainVuf, Vuf};
-use wire::{Answer, Request};
+use wire::Answer;
 
 pub(crate) type Made<H, V> = Directory<H, V, KeyedSign, ChaCha20Rng>;
 
@@ -387,36 +387,10 @@ where
     V: Vuf + Drop,
 {
     let mut directory = made;
-    let commands = commands(case);
+    let commands = read_commands(case);
     match directory.run(&mut NoKeeper, &commands) {
         Ok(replies) => tell_replies(case, &replies),
         Err(_) => case.lack_memory(),
-    }
-}
-
-/// The commands of the words that are left.
-fn commands<'a>(case: &mut Case<'a>) -> Vec<Command<'a>> {
-    let mut commands = Vec::new(case.alloc());
-    for _ in 0..case.left() {
-        let Some(command) = command(case.bytes()) else {
-            case.spoil();
-            return commands;
-        };
-        if commands.push(command).is_err() {
-            case.lack_memory();
-        }
-    }
-    commands
-}
-
-/// The command of a message: the kind and the body of a request.
-fn command(message: &[u8]) -> Option<Command<'_>> {
-    let (kind, body) = message.split_first()?;
-    match Request::read(*kind, body) {
-        Ok(Request::Query(query)) => Some(Command::Query(query)),
-        Ok(Request::Put(put)) => Some(Command::Edit(Edit::Put(put))),
-        Ok(Request::Turn { epoch, nonce, .. }) => Some(Command::Edit(Edit::Turn { epoch, nonce })),
-        Err(_) => None,
     }
 }
 

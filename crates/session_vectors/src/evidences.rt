@@ -1,12 +1,11 @@
 //! Of `audits`: evidence as JSON, and the programs that judge and audit.
 
 use crate::auditors::{of_roots, proof_text};
-use crate::telling::{refuse_root, say_fault};
 use auditor::Evidence;
 use audits::{AuditOrder, ReadFault, Verdict, audit, evidence_json, judge_file, read_evidence};
 use encoding::{Cursor, Form};
 use proofs::BrokenPromise;
-use questions::{Case, say_evidence};
+use questions::{Case, refuse_root, say_ended, say_evidence, say_fault};
 use rootchain::{Refusal, SignedPromise, SignedRoot};
 use textio::ProgramFault;
 
@@ -155,13 +154,6 @@ fn audit_bytes(case: &mut Case<'_>) {
     let mut reader = case.bytes();
     let mut written = Vec::new(case.alloc());
     let audited = audit(case.alloc(), order, &mut reader, &mut written);
-    tell_audited(case, audited);
+    say_ended(case, audited);
     case.say_text(&written);
-}
-
-fn tell_audited(case: &mut Case<'_>, audited: Result<(), ProgramFault>) {
-    match audited {
-        Ok(()) => case.say("ok"),
-        Err(fault) => say_fault(case, fault),
-    }
 }

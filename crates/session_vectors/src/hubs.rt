@@ -2,11 +2,10 @@
 
 use crate::directories::{First, common_secrets, make_keyed, read_first};
 use crate::seen;
-use crate::telling::tells_of_memory;
 use book::{NoKeeper, Refusal};
 use encoding::Hash32;
 use hub::{Event, Hub, HubRefusal};
-use questions::Case;
+use questions::{Case, tells_of_memory};
 use server::ServedDesk;
 use std::alloc::{AllocError, Global};
 

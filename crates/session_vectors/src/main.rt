@@ -64,7 +64,6 @@ mod script;
 mod seen;
 mod serving;
 mod stand_ins;
-mod telling;
 
 use anyhow::Result;
 use auditor::Auditor;

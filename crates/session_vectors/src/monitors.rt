@@ -1,14 +1,15 @@
 //! Of `monitor`: a monitor, which stays for the next lines. It takes the client.
 
-use crate::clients::{KeyedClients, reconcile_both, refuse as refuse_client, say_cause, tell_done};
+use crate::clients::{
+    KeyedClients, reconcile_both, refuse as refuse_client, say_cause, say_option, tell_done,
+};
 use crate::feeds;
-use crate::stand_ins::{AnySign, Functions, keyed};
-use crate::telling::say_option;
+use crate::stand_ins::{Functions, keyed};
 use client::Client;
 use encoding::{Hash32, KeyData};
 use monitor::{Monitor, Refusal, Step};
 use nodehash::{NodeHash, Sha256Hash};
-use questions::{Case, say_statement};
+use questions::{AnySign, Case, say_statement};
 use sigiface::{KeyedSign, Verifier};
 use vrfiface::{KeyedVuf, VufCheck};
 

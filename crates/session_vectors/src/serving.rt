@@ -1,10 +1,9 @@
 //! Of `server`: one session of a directory that is begun for it.
-use crate::telling::{say_fault, tells_of_memory};
-use questions::Case;
+
+use questions::{Case, say_ended, tells_of_memory};
 use server::{DirectoryOrder, serve_directory};
 use std::fs::{File, Files};
 use std::num::NonZeroU64;
-use textio::ProgramFault;
 
 const SIGN: &str = "0101010101010101010101010101010101010101010101010101010101010101";
 
@@ -69,13 +68,6 @@ fn serve<F: Files<File = File>>(case: &mut Case<'_>, files: &F, order: Directory
     if tells_of_memory(&output) {
         case.lack_memory();
     }
-    tell(case, served);
+    say_ended(case, served);
     case.say_bytes(&output);
-}
-
-fn tell(case: &mut Case<'_>, served: Result<(), ProgramFault>) {
-    match served {
-        Ok(()) => case.say("ok"),
-        Err(fault) => say_fault(case, fault),
-    }
 }

@@ -1,9 +1,8 @@
 //! The functions under which questions are answered.
-ghost use Rattle.std.specs.Prelude.{⊤};
 
 use encoding::Hash32;
 use nodehash::{Sha256Hash, SumHash};
-use sigiface::{KeyedSign, Verifier};
+use sigiface::KeyedSign;
 use vrfiface::{KeyedVuf, PlainVuf};
 
 /// A hash function, a checker of values and one of signatures, of which none needs a key.
@@ -33,17 +32,5 @@ pub(crate) fn summed() -> Summed {
         hash: SumHash::new(),
         vuf: PlainVuf,
         verifier: KeyedSign::new(Hash32::default()),
-    }
-}
-
-/// Accepts each signature, so that questions reach roots with signatures of any length.
-#[derive(Drop)]
-pub(crate) struct AnySign;
-
-impl Verifier for AnySign {
-    ghost verified = { λ key message signature. ⊤ };
-
-    fn verify(&self, _key: &Hash32, _message: &[u8], _signature: &[u8]) -> bool {
-        true
     }
 }

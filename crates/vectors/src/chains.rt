@@ -1,12 +1,11 @@
 //! Of `rootchain`: a chain, which stays for the next lines. Two chains are compared in `comparing`.
 
-use crate::any::AnySign;
 use crate::comparing::compare;
 use crate::roots::{say_body, signed_root, verifier};
 use encoding::Hash32;
 use nodehash::{Sha256Hash, SumHash};
-use questions::{Case, say_evidence, say_place};
-use rootchain::{Chain, ListRefusal, Refusal, RootList};
+use questions::{AnySign, Case, refuse_root, say_evidence, say_place};
+use rootchain::{Chain, ListRefusal, RootList};
 use sigiface::{KeyedSign, Verifier};
 
 type Kept = Option<Chain<Sha256Hash, KeyedSign>>;
@@ -39,14 +38,6 @@ fn answer_on(case: &mut Case<'_>, verb: &[u8], chain: &mut Chain<Sha256Hash, Key
     }
 }
 
-/// Refuses a call of a chain.
-fn refuse(case: &mut Case<'_>, refusal: Refusal) {
-    if refusal == Refusal::Memory {
-        case.lack_memory();
-    }
-    case.refuse(refusal.number(), refusal);
-}
-
 /// `start KEY ROOT`
 fn start(case: &mut Case<'_>, kept: &mut Kept) {
     let key = case.hash();
@@ -58,7 +49,7 @@ fn start(case: &mut Case<'_>, kept: &mut Kept) {
             *kept = Some(chain);
             case.say("started");
         }
-        Err(refusal) => refuse(case, refusal),
+        Err(refusal) => refuse_root(case, refusal),
     }
 }
 
@@ -69,7 +60,7 @@ fn extend<S: Verifier>(case: &mut Case<'_>, chain: &mut Chain<Sha256Hash, S>, ve
     };
     match chain.extend(&mut Sha256Hash::new(), verifier, root) {
         Ok(()) => case.say("extended"),
-        Err(refusal) => refuse(case, refusal),
+        Err(refusal) => refuse_root(case, refusal),
     }
 }
 
@@ -80,7 +71,7 @@ fn place(case: &mut Case<'_>, chain: &mut Chain<Sha256Hash, KeyedSign>) {
     };
     match chain.place(&mut Sha256Hash::new(), &verifier(), &root) {
         Ok(place) => say_place(case, &place),
-        Err(refusal) => refuse(case, refusal),
+        Err(refusal) => refuse_root(case, refusal),
     }
 }
 
@@ -107,7 +98,7 @@ fn any(case: &mut Case<'_>, step: Step) {
                 }
             }
         }
-        Err(refusal) => refuse(case, refusal),
+        Err(refusal) => refuse_root(case, refusal),
     }
 }
 
@@ -118,7 +109,7 @@ fn take<S: Verifier>(case: &mut Case<'_>, chain: &mut Chain<Sha256Hash, S>, veri
     };
     match chain.take(&mut Sha256Hash::new(), verifier, root) {
         Ok(place) => say_place(case, &place),
-        Err(refusal) => refuse(case, refusal),
+        Err(refusal) => refuse_root(case, refusal),
     }
 }
 

@@ -1,9 +1,7 @@
 //! Of `items`: the programs on a list of items.
 
-use crate::texts::say_fault;
 use items::{HashChoice, ProveOrder, RootOrder, prove, root};
-use questions::Case;
-use textio::ProgramFault;
+use questions::{Case, say_ended};
 
 pub(crate) fn answer(case: &mut Case<'_>) {
     match case.word() {
@@ -29,13 +27,14 @@ fn order<'a>(case: &mut Case<'a>) -> RootOrder<'a> {
     }
 }
 
-/// `root HASH NONCE INPUT`
+/// `root HASH NONCE INPUT`: how it ended, and what was written; `prove` alike.
 fn root_of_items(case: &mut Case<'_>) {
     let order = order(case);
     let mut input = case.bytes();
     let mut output = Vec::new(case.alloc());
     let ended = root(case.alloc(), order, &mut input, &mut output);
-    say_ended(case, ended, &output);
+    say_ended(case, ended);
+    case.say_text(&output);
 }
 
 /// `prove HASH NONCE INDEX INPUT`
@@ -46,16 +45,6 @@ fn path_in_items(case: &mut Case<'_>) {
     let mut output = Vec::new(case.alloc());
     let order = ProveOrder { index, root };
     let ended = prove(case.alloc(), order, &mut input, &mut output);
-    say_ended(case, ended, &output);
-}
-
-/// What was written, or the fault and what was written before it. A writer of memory fails only where
-/// memory runs out.
-fn say_ended(case: &mut Case<'_>, ended: Result<(), ProgramFault>, output: &[u8]) {
-    match ended {
-        Ok(()) => case.say("ok"),
-        Err(ProgramFault::OutOfMemory | ProgramFault::CannotWrite) => case.lack_memory(),
-        Err(fault) => say_fault(case, fault),
-    }
-    case.say_text(output);
+    say_ended(case, ended);
+    case.say_text(&output);
 }

@@ -56,7 +56,7 @@
 
 mod accepted;
 mod answers;
-mod any;
+mod any_vuf;
 mod bits;
 mod chains;
 mod comparing;

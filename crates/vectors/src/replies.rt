@@ -2,7 +2,7 @@
 //! `accepted`, and replies are made in `made_replies`.
 
 use crate::accepted::{accepted, binds, same};
-use crate::any::AnyVuf;
+use crate::any_vuf::AnyVuf;
 use crate::made_replies::make_reply;
 use encoding::Hash32;
 use nodehash::{NodeHash, Sha256Hash, SumHash};

@@ -1,6 +1,6 @@
 //! Of `textio`: digits, and the faults that a program ends with; and refusals that no question leads to.
 
-use questions::Case;
+use questions::{Case, say_fault};
 use rootchain::{ListRefusal, Refusal};
 use textio::{ProgramFault, StreamFault, hex_digits, hex32, hex32_or_zeros, option_hex32};
 use wire::FeedRefusal;
@@ -45,12 +45,6 @@ fn bytes_or_zeros(case: &mut Case<'_>) {
         Ok(bytes) => case.say_bytes(&bytes),
         Err(fault) => say_fault(case, fault),
     }
-}
-
-pub(crate) fn say_fault(case: &mut Case<'_>, fault: ProgramFault) {
-    case.say("fault");
-    case.say_shown(fault.status());
-    case.say_shown(fault);
 }
 
 /// `fault NAME [LINE]`: the status, the text, and the line that tells it.
