@@ -1,11 +1,11 @@
 -- How each script begins (its keys are this form's own).
 use Rattle.std.specs.Prelude.{◌≡◌, ℕ, List, replicate}
 use Rattle.rand_core.specs.Stream.{Stream}
-use Rattle.rand_core.specs.Steps.{steps_u32, stream_of}
-use Rattle.rand_chacha.specs.ChaCha.{ChaCha, next_word, of_seed}
+use Rattle.rand_chacha.specs.ChaCha.{ChaCha, of_seed}
 use Rattle.nodehash.specs.Sha256.{sha256}
 use Rattle.vrfiface.specs.StandIns.{keyed_value}
 use Rattle.book.specs.Fresh.{fresh}
+use Rattle.book.specs.Salts.{chacha_salts}
 use Rattle.epochs.specs.DirectoryStates.{book, DirectoryState}
 
 -- the key of the provider's signatures, and that of its verifiable function
@@ -18,10 +18,6 @@ vuf_key = replicate 32 2
 -- the index of a name
 abbrev pub script_index : List ℕ → List ℕ
 script_index name = sha256 (keyed_value vuf_key name)
-
--- the salts that a generator will give
-abbrev pub chacha_salts : ChaCha → Stream
-chacha_salts = stream_of (steps_u32 (next_word 10))
 
 -- salts by ChaCha20 under a key of zeros
 abbrev pub script_salts : Stream

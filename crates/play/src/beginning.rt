@@ -8,7 +8,8 @@ ghost use Rattle.book.specs.Shows.{index_of};
 ghost use Rattle.epochs.specs.Beginnings.{IsBeginRefusal};
 ghost use Rattle.epochs.specs.DirectoryStates.{provider};
 ghost use Rattle.play.specs.Beginnings as script;
-ghost use Rattle.play.specs.Beginnings.{chacha_salts, script_index, script_salts, IsScriptStart};
+ghost use Rattle.book.specs.Salts.{chacha_salts};
+ghost use Rattle.play.specs.Beginnings.{script_index, script_salts, IsScriptStart};
 ghost use Rattle.play.specs.Parties.{AreAt};
 ghost use Rattle.play.specs.Played.{opening};
 

@@ -13,7 +13,7 @@ use Rattle.hub.specs.Desks.{DeskAnswers, DeskState}
 use Rattle.hub.specs.Events.{HubState}
 use Rattle.hub.specs.Runs.{Line}
 use Rattle.server.specs.ConnectionOptions.{ConnectionOptions, idle_limit, most_open}
-use Rattle.server.specs.Directories.{salts}
+use Rattle.book.specs.Salts.{chacha_salts}
 use Rattle.server.specs.Listening.{AnswersConnections, KeepsLimits, KeepsOrder}
 use Rattle.server.specs.Programs.{ShownBy}
 use Rattle.server.specs.Sessions.{AreLines}
@@ -27,10 +27,10 @@ module _ {K : Type 0} (kept failed : K → Record → K → Type 0) where
   pub answers_ordered : (taken : ConnectionOptions) (hub : HubState (DeskState ChaCha K)) (idle count size : ℕ) (before after : HubState (DeskState ChaCha K)) (errors new : Option (List ℕ))
       → hub.sessions ≡ [] → before ≡ hub → idle ≡ idle_limit taken → count ≡ taken.count → size ≡ most_open taken
       → (acts : History) → KeepsLimits idle count size acts → AlwaysWaitWithin MAX_ANSWER_LEN acts
-      → ((lines : List Line) × AreLines (DeskAnswers sha256 keyed_value keyed_signature salts kept failed) before acts after lines × ShownBy kept failed before.service lines after.service)
+      → ((lines : List Line) × AreLines (DeskAnswers sha256 keyed_value keyed_signature chacha_salts kept failed) before acts after lines × ShownBy kept failed before.service lines after.service)
       → TellsLosses acts errors new → AnswersConnections kept failed taken hub.service errors new
   answers_ordered taken hub idle count size before after errors new none same same_idle same_count same_size acts keeps waits (lines, are, shown) tells =
-      let answers = DeskAnswers sha256 keyed_value keyed_signature salts kept failed in
+      let answers = DeskAnswers sha256 keyed_value keyed_signature chacha_salts kept failed in
       let start : HubState (DeskState ChaCha K) = record { service = hub.service; sessions = [] } in
       let lines_are : AreLines answers start acts after lines = subst (λ (h : HubState (DeskState ChaCha K)). AreLines answers h acts after lines) (same ∙ ap (λ sessions. record { service = hub.service; sessions = sessions }) none) are in (
         acts,

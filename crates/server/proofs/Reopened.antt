@@ -14,18 +14,19 @@ use Rattle.journal.specs.Openings.{HasOtherKeys, IsCut, OpensTo}
 use Rattle.journal.specs.Records.{start_bytes, IsStart}
 use Rattle.textio.specs.declared.program_fault.ProgramFault.{ProgramFault}
 use Rattle.textio.specs.declared.program_fault.ProgramFault.TheVariants.{BadHex, BadItem, IndexRepeated, NotACommand, NotEvidence, BadRecord, OtherKeys, CannotRead, CannotWrite, CannotListen, OutOfMemory}
-use Rattle.server.specs.Directories.{salts, DirectoryKeys}
+use Rattle.book.specs.Salts.{chacha_salts}
+use Rattle.server.specs.Directories.{DirectoryKeys}
 use Rattle.server.specs.Reopening.{at_stream, beginning_with, index_by, of_refusal, Cuts, FileBecomes, FileHolds, HasRead, HasReopened, HasStarted, IsUnopened, StartsLess, StaysAt}
 
 pub unopened : (keys : DirectoryKeys) (known : Option (List ℕ)) (bytes counted opened : List ℕ) (count : ℕ) (why : Refusal) (fault : ProgramFault) → fault ≡ of_refusal why → FileHolds known bytes → counted ≡ bytes → Counts counted count
-    → opened ≡ bytes → IsOpenRefusal (index_by keys) keys.signing_key keys.vuf_key (salts (at_stream keys.salt_key count)) opened why → IsUnopened keys known fault
+    → opened ≡ bytes → IsOpenRefusal (index_by keys) keys.signing_key keys.vuf_key (chacha_salts (at_stream keys.salt_key count)) opened why → IsUnopened keys known fault
 unopened keys known bytes counted opened count refusal.BadRecord fault is holds same counts also bad = rw is (
   bytes,
   holds,
   (
     count,
     subst (λ (t : List ℕ). Counts t count) same counts,
-    subst (λ (t : List ℕ). IsOpenRefusal (index_by keys) keys.signing_key keys.vuf_key (salts (at_stream keys.salt_key count)) t refusal.BadRecord) also bad,
+    subst (λ (t : List ℕ). IsOpenRefusal (index_by keys) keys.signing_key keys.vuf_key (chacha_salts (at_stream keys.salt_key count)) t refusal.BadRecord) also bad,
   ),
 )
 unopened keys known bytes counted opened count refusal.OtherKeys fault is holds same counts also other =
@@ -33,13 +34,13 @@ unopened keys known bytes counted opened count refusal.OtherKeys fault is holds 
 unopened keys known bytes counted opened count refusal.Memory fault is holds same counts also begun = rw is tt
 
 pub has_read : {H V S : Type 0} (keys : DirectoryKeys) (known : Option (List ℕ)) (bytes counted opened : List ℕ) (what : Opened H V S ChaCha) (records size : ℕ) → FileHolds known bytes → length bytes ≡ size → counted ≡ bytes → Counts counted records
-    → opened ≡ bytes → Opens (index_by keys) keys.signing_key keys.vuf_key (salts (at_stream keys.salt_key records)) salts opened what → HasRead keys known what records size
+    → opened ≡ bytes → Opens (index_by keys) keys.signing_key keys.vuf_key (chacha_salts (at_stream keys.salt_key records)) chacha_salts opened what → HasRead keys known what records size
 has_read keys known bytes counted opened what records size holds is same counts also opens = (
   bytes,
   holds,
   is,
   subst (λ (t : List ℕ). Counts t records) same counts,
-  subst (λ (t : List ℕ). Opens (index_by keys) keys.signing_key keys.vuf_key (salts (at_stream keys.salt_key records)) salts t what) also opens,
+  subst (λ (t : List ℕ). Opens (index_by keys) keys.signing_key keys.vuf_key (chacha_salts (at_stream keys.salt_key records)) chacha_salts t what) also opens,
 )
 
 started : (known between after : Option (List ℕ)) (bytes start : List ℕ) → FileHolds known bytes → Keeps known between → IfSome between (λ all. after ≡ Some start) → FileBecomes known bytes after start
@@ -50,7 +51,7 @@ started (Some xs) (Some ys) after bytes start holds keeps is = (holds, is)
 pub starts_anew : {H V S : Type 0} (keys : DirectoryKeys) (known between after : Option (List ℕ)) (what : Opened H V S ChaCha) (directory : DirectoryState ChaCha) (records size : ℕ) → HasRead keys known what records size → what ≡ Nothing → Keeps known between
     → HasStarted keys between directory after → HasReopened keys known directory after 0 size
 starts_anew keys known between after what directory records size (bytes, holds, is, counts, opens) nothing keeps (begins, start) =
-    let short : IsCut start_bytes IsStart bytes = subst (λ o. Opens (index_by keys) keys.signing_key keys.vuf_key (salts (at_stream keys.salt_key records)) salts bytes o) nothing opens in
+    let short : IsCut start_bytes IsStart bytes = subst (λ o. Opens (index_by keys) keys.signing_key keys.vuf_key (chacha_salts (at_stream keys.salt_key records)) chacha_salts bytes o) nothing opens in
     (bytes, start_bytes (beginning_with keys), started known between after bytes (start_bytes (beginning_with keys)) holds keeps start, inl (short, begins, refl, refl, sym is))
 
 turned : (known between after : Option (List ℕ)) (bytes : List ℕ) (size : ℕ) → FileHolds known bytes → Keeps known between → Cuts between size after → FileBecomes known bytes after (take size bytes)
@@ -59,7 +60,7 @@ turned (Some xs) None after bytes size holds keeps cuts = absurd keeps
 turned (Some xs) (Some ys) after bytes size holds keeps cuts = (holds, cuts ∙ ap (λ (zs : List ℕ). Some (take size zs)) (keeps ∙ sym holds))
 
 abbrev pub IsOpen : DirectoryKeys → ℕ → DirectoryState ChaCha → ℕ → List ℕ → Type 0
-IsOpen keys records directory taken bytes = OpensTo (index_by keys) keys.signing_key keys.vuf_key (salts (at_stream keys.salt_key records)) bytes (book salts directory) taken
+IsOpen keys records directory taken bytes = OpensTo (index_by keys) keys.signing_key keys.vuf_key (chacha_salts (at_stream keys.salt_key records)) bytes (book chacha_salts directory) taken
     × (directory.signing_key ≡ keys.signing_key) × (directory.vuf_key ≡ keys.vuf_key)
 
 reopens : (keys : DirectoryKeys) (known between after : Option (List ℕ)) (bytes : List ℕ) (directory : DirectoryState ChaCha) (records taken size cut : ℕ) → FileHolds known bytes → length bytes ≡ size → Counts bytes records → Keeps known between
@@ -72,7 +73,7 @@ pub goes_on : {H V S : Type 0} (keys : DirectoryKeys) (known between after : Opt
     → Keeps known between → Cuts between taken after → cut ≡ size - taken → HasReopened keys known directory after records cut
 goes_on keys known between after what directory records taken size cut (bytes, holds, is, counts, opens) same keeps cuts off =
     reopens keys known between after bytes directory records taken size cut holds is counts keeps cuts off
-    (subst (λ o. Opens (index_by keys) keys.signing_key keys.vuf_key (salts (at_stream keys.salt_key records)) salts bytes o) same opens)
+    (subst (λ o. Opens (index_by keys) keys.signing_key keys.vuf_key (chacha_salts (at_stream keys.salt_key records)) chacha_salts bytes o) same opens)
 
 -- ---- what a file holds after a fault
 
@@ -94,7 +95,7 @@ unstarted keys CannotWrite (Some xs) None after what records size read nothing k
 unstarted keys CannotWrite (Some xs) (Some ys) after what records size (bytes, holds, is, counts, opens) nothing keeps less = elim less [
   | inl still ↦ inl (kept_still (Some xs) (Some ys) after keeps still)
   | inr left ↦ (
-      let short : IsCut start_bytes IsStart bytes = subst (λ o. Opens (index_by keys) keys.signing_key keys.vuf_key (salts (at_stream keys.salt_key records)) salts bytes o) nothing opens in
+      let short : IsCut start_bytes IsStart bytes = subst (λ o. Opens (index_by keys) keys.signing_key keys.vuf_key (chacha_salts (at_stream keys.salt_key records)) chacha_salts bytes o) nothing opens in
       inr (subst (λ (b : List ℕ). IsCut start_bytes IsStart b) holds short, left))
 ]
 unstarted keys BadHex known between after what records size read nothing keeps less = absurd less

@@ -1,9 +1,8 @@
 -- The directory that a server begins.
 use Rattle.std.specs.Prelude.{◌≡◌, ℕ, List, Option, None, Some}
-use Rattle.rand_core.specs.Stream.{Stream}
-use Rattle.rand_core.specs.Steps.{steps_u32, stream_of}
-use Rattle.rand_chacha.specs.ChaCha.{ChaCha, next_word, of_seed}
+use Rattle.rand_chacha.specs.ChaCha.{ChaCha, of_seed}
 use Rattle.book.specs.Fresh.{fresh}
+use Rattle.book.specs.Salts.{chacha_salts}
 use Rattle.epochs.specs.DirectoryStates.{book, DirectoryState}
 use Rattle.textio.specs.Digits.{hex32, hex32_or_zeros}
 use Rattle.server.specs.DirectoryOptions.{DirectoryOptions}
@@ -26,12 +25,8 @@ keys_if _ _ _ _ _ epoch = None
 abbrev pub keys_of : DirectoryOptions → Option DirectoryKeys
 keys_of asked = keys_if (hex32 asked.signing_key) (hex32 asked.vuf_key) (hex32 asked.salt_key) (hex32 asked.token) (hex32_or_zeros asked.nonce) asked.epoch
 
--- the salts that a generator will give
-abbrev pub salts : ChaCha → Stream
-salts = stream_of (steps_u32 (next_word 10))
-
 -- the directory is at its first page, with these keys, and salts by ChaCha20 under the salt key
 pub record HasBegun (keys : DirectoryKeys) (directory : DirectoryState ChaCha) : Type 0 where
-  pub book : book salts directory ≡ fresh keys.epoch keys.nonce (salts (of_seed keys.salt_key))
+  pub book : book chacha_salts directory ≡ fresh keys.epoch keys.nonce (chacha_salts (of_seed keys.salt_key))
   pub vuf_key : directory.vuf_key ≡ keys.vuf_key
   pub signing_key : directory.signing_key ≡ keys.signing_key

@@ -23,7 +23,8 @@ use Rattle.hub.specs.Events.{HubState}
 use Rattle.hub.specs.Runs.{Line}
 use Rattle.server.specs.ConnectionOptions.{ConnectionOptions, idle_limit, most_open}
 use Rattle.server.specs.DirectoryOptions.{DirectoryOptions}
-use Rattle.server.specs.Directories.{keys_of, salts, DirectoryKeys, HasBegun}
+use Rattle.book.specs.Salts.{chacha_salts}
+use Rattle.server.specs.Directories.{keys_of, DirectoryKeys, HasBegun}
 use Rattle.server.specs.Programs.{AfterJournal, KeepsInFile, LosesInFile, ShownBy}
 use Rattle.server.specs.Sessions.{AlwaysAnswered, AlwaysInOrder, AreLines}
 
@@ -73,8 +74,8 @@ KeepsOrder taken = KeepsLimits (idle_limit taken) taken.count (most_open taken)
 abbrev pub AnswersConnections : {K : Type 0} → (K → Record → K → Type 0) → (K → Record → K → Type 0) → ConnectionOptions → DeskState ChaCha K → Option (List ℕ) → Option (List ℕ) → Type 0
 AnswersConnections {K} kept failed taken desk errors new = (acts : History) × (lines : List Line) × (after : HubState (DeskState ChaCha K))
     × KeepsOrder taken acts × AlwaysWaitWithin MAX_ANSWER_LEN acts × AlwaysInOrder acts
-    × AreLines (DeskAnswers sha256 keyed_value keyed_signature salts kept failed) (record { service = desk; sessions = [] }) acts after lines
-    × AlwaysAnswered (DeskAnswers sha256 keyed_value keyed_signature salts kept failed) (record { service = desk; sessions = [] }) acts lines
+    × AreLines (DeskAnswers sha256 keyed_value keyed_signature chacha_salts kept failed) (record { service = desk; sessions = [] }) acts after lines
+    × AlwaysAnswered (DeskAnswers sha256 keyed_value keyed_signature chacha_salts kept failed) (record { service = desk; sessions = [] }) acts lines
     × ShownBy kept failed desk lines after.service × TellsLosses acts errors new
 
 -- connections are answered from the desk of a journal's directory, whose line comes first

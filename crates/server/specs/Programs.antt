@@ -23,19 +23,20 @@ use Rattle.server.specs.declared.streams.TheConstants.{SESSION}
 use Rattle.server.specs.Faults.{outcome_of}
 use Rattle.server.specs.Reopening.{journal_line, IsUnopened, Reopens}
 use Rattle.server.specs.DirectoryOptions.{DirectoryOptions}
-use Rattle.server.specs.Directories.{keys_of, salts, DirectoryKeys, HasBegun}
+use Rattle.book.specs.Salts.{chacha_salts}
+use Rattle.server.specs.Directories.{keys_of, DirectoryKeys, HasBegun}
 use Rattle.server.specs.Serving.{RepliedHonestly, Serves}
 
 -- the checks of the stand-ins
 module _ {K : Type 0} (kept failed : K → Record → K → Type 0) where
   -- what the desk of a served directory replies to the messages of its one session
   abbrev pub ServedReplied : DeskState ChaCha K → List Exchange → DeskState ChaCha K → Type 0
-  ServedReplied = RepliedHonestly sha256 keyed_value keyed_signature salts kept failed KeyedAccepts KeyedVerifies SESSION
+  ServedReplied = RepliedHonestly sha256 keyed_value keyed_signature chacha_salts kept failed KeyedAccepts KeyedVerifies SESSION
 
   -- its desk answers these messages, of whichever sessions, one after another, and they show one run of its directory
   abbrev pub ShownBy : DeskState ChaCha K → List Line → DeskState ChaCha K → Type 0
-  ShownBy before lines after = AllAnswered (DeskAnswers sha256 keyed_value keyed_signature salts kept failed) before lines after
-      × ShowHonestRun sha256 keyed_value keyed_signature salts kept failed KeyedAccepts KeyedVerifies before lines after
+  ShownBy before lines after = AllAnswered (DeskAnswers sha256 keyed_value keyed_signature chacha_salts kept failed) before lines after
+      × ShowHonestRun sha256 keyed_value keyed_signature chacha_salts kept failed KeyedAccepts KeyedVerifies before lines after
 
 -- the directory of these keys is begun, and one session is served
 abbrev pub ServesFrom : DirectoryOptions → Option (List ℕ) → Option (List ℕ) → Result (Unit {0}) ServeFault → Option (List ℕ) → Option (List ℕ) → Type 0

@@ -19,7 +19,8 @@ use Rattle.journal.specs.Records.{start_bytes, IsStart}
 use Rattle.textio.specs.declared.program_fault.ProgramFault.{ProgramFault}
 use Rattle.textio.specs.declared.program_fault.ProgramFault.TheVariants.{BadHex, BadItem, IndexRepeated, NotACommand, NotEvidence, BadRecord, OtherKeys, CannotRead, CannotWrite, CannotListen, OutOfMemory}
 use Rattle.textio.specs.Output.{WritesBeginning}
-use Rattle.server.specs.Directories.{salts, DirectoryKeys, HasBegun}
+use Rattle.book.specs.Salts.{chacha_salts}
+use Rattle.server.specs.Directories.{DirectoryKeys, HasBegun}
 
 -- known bytes are cut to their first ones
 abbrev pub Cuts : Option (List ℕ) → ℕ → Option (List ℕ) → Type 0
@@ -56,7 +57,7 @@ module _ (keys : DirectoryKeys) (bytes : List ℕ) where
   -- records; the file holds the bytes of these, and the rest is cut off
   abbrev pub Resumes : DirectoryState ChaCha → List ℕ → ℕ → ℕ → Type 0
   Resumes directory held records cut = (taken : ℕ) × Counts bytes records
-      × OpensTo (index_by keys) keys.signing_key keys.vuf_key (salts (at_stream keys.salt_key records)) bytes (book salts directory) taken
+      × OpensTo (index_by keys) keys.signing_key keys.vuf_key (chacha_salts (at_stream keys.salt_key records)) bytes (book chacha_salts directory) taken
       × (directory.signing_key ≡ keys.signing_key) × (directory.vuf_key ≡ keys.vuf_key) × (held ≡ take taken bytes) × (length bytes ≡ taken + cut)
 
   abbrev pub Reopens : DirectoryState ChaCha → List ℕ → ℕ → ℕ → Type 0
@@ -64,12 +65,12 @@ module _ (keys : DirectoryKeys) (bytes : List ℕ) where
 
   -- the bytes are refused, where the next salts come from the stream that has the number of their records
   abbrev pub IsBadFile : Type 0
-  IsBadFile = (records : ℕ) × Counts bytes records × IsBad (index_by keys) keys.signing_key keys.vuf_key (salts (at_stream keys.salt_key records)) bytes
+  IsBadFile = (records : ℕ) × Counts bytes records × IsBad (index_by keys) keys.signing_key keys.vuf_key (chacha_salts (at_stream keys.salt_key records)) bytes
 
 -- what the bytes of a file open to, with the salts to come from the stream that has the number of their records
 abbrev pub HasRead : {H V S : Type 0} → DirectoryKeys → Option (List ℕ) → Opened H V S ChaCha → ℕ → ℕ → Type 0
 HasRead keys known opened records size = (bytes : List ℕ) × FileHolds known bytes × (length bytes ≡ size) × Counts bytes records
-    × Opens (index_by keys) keys.signing_key keys.vuf_key (salts (at_stream keys.salt_key records)) salts bytes opened
+    × Opens (index_by keys) keys.signing_key keys.vuf_key (chacha_salts (at_stream keys.salt_key records)) chacha_salts bytes opened
 
 -- the bytes that a file holds, where they are known, are cut to none, and the start of a new directory is written
 abbrev pub HasStarted : DirectoryKeys → Option (List ℕ) → DirectoryState ChaCha → Option (List ℕ) → Type 0

@@ -1,6 +1,6 @@
 ghost use Rattle.std.specs.Prelude.{◌≡◌, ◌⊎◌, ℕ, List};
 ghost use Rattle.rand_chacha.specs.ChaCha.{ChaCha};
-ghost use Rattle.book.specs.Salts.{GivesSalts};
+ghost use Rattle.book.specs.Salts.{chacha_salts, GivesSalts};
 ghost use Rattle.hub.specs.DeskRuns.{IsSoundDesk, ShowHonestRun};
 ghost use Rattle.hub.specs.Desks.{DeskState, DeskAnswers};
 ghost use Rattle.hub.specs.Exchanges.{Exchange};
@@ -9,7 +9,6 @@ ghost use Rattle.hub.specs.Runs.{Line};
 ghost use Rattle.connections.specs.Histories.{History};
 ghost use Rattle.connections.specs.Laws.{AlwaysWaitWithin};
 ghost use Rattle.connections.specs.Soundness.{IsSoundHistory};
-ghost use Rattle.server.specs.Directories.{salts};
 ghost use Rattle.server.specs.Serving.{all_lines, AllServed};
 ghost use Rattle.server.specs.declared.listening.TheConstants.{MILLISECONDS_PER_SECOND};
 ghost use Rattle.server.specs.declared.serving.TheConstants.{PIECE_SIZE};
@@ -72,5 +71,5 @@ pub fn crowd_outputs_are_bounded<H: NodeHash, V: Vuf, S: Signer, G: Rng, K: Keep
 /// Each salt of a directory that a server begins has 32 bytes, which is what the laws here, in `hub` and in
 /// `book` ask of the salts to come.
 pub fn salts_have_their_size()
-    ensures { (generator : ChaCha) → GivesSalts (salts generator) }
+    ensures { (generator : ChaCha) → GivesSalts (chacha_salts generator) }
 {}

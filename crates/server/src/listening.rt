@@ -17,7 +17,8 @@ ghost use Rattle.textio.specs.declared.program_fault.ProgramFault.TheVariants.{B
 ghost use Rattle.wire.specs.declared.answer.TheConstants.{MAX_ANSWER_LEN};
 ghost use Rattle.server.specs.ConnectionOptions.{connections_of, idle_limit, most_open};
 ghost use Rattle.server.specs.DirectoryOptions.{directory_values};
-ghost use Rattle.server.specs.Directories.{keys_of, salts};
+ghost use Rattle.book.specs.Salts.{chacha_salts};
+ghost use Rattle.server.specs.Directories.{keys_of};
 ghost use Rattle.server.specs.Listening.{AnswersConnections, KeepsLimits, ListenTells, TellsAddress, TellsAddressLine, TellsKept, TellsUnkept};
 ghost use Rattle.server.specs.Programs.{ShownBy};
 ghost use Rattle.server.specs.Sessions.{AreLines};
@@ -77,7 +78,7 @@ where
     ensures tells { TellsMemory (E.contents errors.old) (E.contents errors.new) }
     ensures shown { C.has connections.old [] → (acts : History) × C.has connections.new (of_connections acts)
         × KeepsLimits limits.idle limits.count (size_of places) acts × AlwaysWaitWithin MAX_ANSWER_LEN acts
-        × ((lines : List Line) × AreLines (DeskAnswers sha256 keyed_value keyed_signature salts K.kept K.failed) sessions.old.hub acts sessions.new.hub lines × ShownBy K.kept K.failed sessions.old.hub.service lines sessions.new.hub.service)
+        × ((lines : List Line) × AreLines (DeskAnswers sha256 keyed_value keyed_signature chacha_salts K.kept K.failed) sessions.old.hub acts sessions.new.hub lines × ShownBy K.kept K.failed sessions.old.hub.service lines sessions.new.hub.service)
         × TellsLosses acts (E.contents errors.old) (E.contents errors.new) }
 {
     // What the two calls of `head` ensure: the book is sound before and after, and the provider's

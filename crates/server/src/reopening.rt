@@ -4,7 +4,7 @@ ghost use Rattle.std.specs.Prelude.{◌≡◌, IfErr, IfSome, MatchResult, OnOk,
 ghost use Rattle.std.specs.Io.KnownBytes.{Keeps};
 ghost use Rattle.journal.specs.Opened.{IsOpenRefusal, Opens};
 ghost use Rattle.journal.specs.Records.{start_bytes};
-ghost use Rattle.server.specs.Directories.{salts};
+ghost use Rattle.book.specs.Salts.{chacha_salts};
 ghost use Rattle.server.specs.Reopening.{at_stream, beginning_with, index_by, of_refusal, HasRead, HasReopened, HasStarted, IsSystemFault, IsUnopened, StartsLess, StaysAt};
 
 use crate::JournalFile;
@@ -56,8 +56,8 @@ fn open_bytes(
     stream: u64,
 ) -> Result<Opened<Sha256Hash, KeyedVuf, KeyedSign, ChaCha20Rng>, Refusal>
     ensures { MatchResult result
-        (Opens (index_by keys.now) (keys.now).signing_key (keys.now).vuf_key (salts (at_stream (keys.now).salt_key stream)) salts bytes.now)
-        (IsOpenRefusal (index_by keys.now) (keys.now).signing_key (keys.now).vuf_key (salts (at_stream (keys.now).salt_key stream)) bytes.now) }
+        (Opens (index_by keys.now) (keys.now).signing_key (keys.now).vuf_key (chacha_salts (at_stream (keys.now).salt_key stream)) chacha_salts bytes.now)
+        (IsOpenRefusal (index_by keys.now) (keys.now).signing_key (keys.now).vuf_key (chacha_salts (at_stream (keys.now).salt_key stream)) bytes.now) }
 {
     open(
         alloc,

@@ -8,7 +8,8 @@ use Rattle.wire.specs.Streams.{Rest}
 use Rattle.book.specs.Books.{Book}
 use Rattle.book.specs.Shows.{index_of}
 use Rattle.epochs.specs.DirectoryStates.{book, provider, DirectoryState}
-use Rattle.play.specs.Beginnings.{chacha_salts, script_index, script_salts}
+use Rattle.book.specs.Salts.{chacha_salts}
+use Rattle.play.specs.Beginnings.{script_index, script_salts}
 use Rattle.play.specs.Parties.{AreAt, Parties}
 use Rattle.play.specs.Played.{opening}
 use Rattle.play.proofs.beginning.begin.Goals as goal

@@ -3,7 +3,7 @@ use Rattle.vrfiface.specs.StandIns.{keyed_value, KeyedAccepts}
 use Rattle.sigiface.specs.StandIn.{keyed_signature, KeyedVerifies}
 use Rattle.hub.specs.Desks.{DeskAnswers}
 use Rattle.hub.proofs.DeskHonest.{lines_show_honest_run}
-use Rattle.server.specs.Directories.{salts}
+use Rattle.book.specs.Salts.{chacha_salts}
 use Rattle.server.proofs.Crowds.{crowd_answered}
 use Rattle.server.proofs.ReplySizes.{lines_short}
 use Rattle.server.proofs.Waiting.{crowd_waits_within}
@@ -12,9 +12,9 @@ use Rattle.server.proofs.listening.answer_crowd.Goals as goal
 pub returns-clause-shown : goal.returns-clause-shown
 returns-clause-shown g c = λ has.
     let happened = c.answer_all.ensures.happens has in
-    let answers = DeskAnswers sha256 keyed_value keyed_signature salts g.K.Keeper.kept g.K.Keeper.failed in
+    let answers = DeskAnswers sha256 keyed_value keyed_signature chacha_salts g.K.Keeper.kept g.K.Keeper.failed in
     let told = crowd_answered answers (λ sessions. sessions.hub) c.args.sessions.now happened.0 c.answer_all.new.sessions happened.1.1 in
-    let shown = lines_show_honest_run sha256 keyed_value keyed_signature salts g.K.Keeper.kept g.K.Keeper.failed KeyedAccepts KeyedVerifies
+    let shown = lines_show_honest_run sha256 keyed_value keyed_signature chacha_salts g.K.Keeper.kept g.K.Keeper.failed KeyedAccepts KeyedVerifies
     c.args.sessions.now.hub.service told.0 c.answer_all.new.sessions.hub.service c.head.ensures.well c.head-2.ensures.well told.2
     in (
       happened.0,
