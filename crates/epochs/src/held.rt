@@ -25,7 +25,7 @@ pub(crate) struct KeyChange<'a> {
     pub(crate) page: usize,
 }
 
-/// Adds a version of this page to a history, and its commitment to what waits, once the record is kept. Gives
+/// Adds a version of the change's page to a history, and its commitment to what waits, once the record is kept. Gives
 /// the index of the name. Takes at most one digest.
 ///
 /// # Errors

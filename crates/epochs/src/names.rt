@@ -115,7 +115,7 @@ impl Names {
         )
     }
 
-    /// Adds a version of this page to a name that has others, and its commitment to these, once the record is
+    /// Adds a version of the change's page to a name that has others, and its commitment to these, once the record is
     /// kept. Gives the index of the name, which is searched for once. Takes at most one digest.
     ///
     /// # Errors

@@ -3,9 +3,9 @@
 ghost use Rattle.std.specs.Prelude.{◌≡◌, ◌+◌, ◌<◌, ◌≤◌, [], None, IfOk, MatchResult, is_some};
 ghost use Rattle.commit.specs.Commitments.{commitment_bytes};
 ghost use Rattle.prefixtree.specs.Placement.{HasDistinctIndices, commitment_of, put};
+ghost use Rattle.book.specs.Turns.{IsUnkept};
 ghost use Rattle.epochs.specs.Addresses.{with_name};
 ghost use Rattle.epochs.specs.KeyChanges.{AreChangedNames, FitsNames, IsRefusedSo, refused_before};
-ghost use Rattle.book.specs.Turns.{IsUnkept};
 ghost use Rattle.epochs.specs.Versions.{AllBefore, in_order, versions_of};
 
 use crate::address::Address;
@@ -108,7 +108,7 @@ pub(crate) fn let_wait<K: Keeper>(
     )
 }
 
-/// Adds a version of this page to a name that has others, and its commitment to what waits, once the record
+/// Adds a version of the change's page to a name that has others, and its commitment to what waits, once the record
 /// is kept. Gives the index of the name. Takes at most one digest.
 pub(crate) fn let_change_wait<H: NodeHash, K: Keeper>(
     names: &mut Names,

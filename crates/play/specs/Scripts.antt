@@ -59,7 +59,7 @@ epoch_word = number_word (2 ^ 64 - 1)
 abbrev pub count_word : List ℕ → Option ℕ
 count_word = number_word (2 ^ 16 - 1)
 
--- the number of a session, which is not the script's own
+-- the number of a session other than the script's own, 0
 abbrev pub session_word : List ℕ → Option ℕ
 session_word word = option_and_then (λ session. if session == OWN_SESSION then None else Some session) (number_word (2 ^ 32 - 1) word)
 
@@ -86,7 +86,7 @@ asking requested = if nat_le (frame_size (request_frame requested)) MAX_FRAME_LE
 
 abbrev pub key_or_none : List ℕ → Option (List ℕ)
 key_or_none [] = None
-key_or_none (byte ∷ bytes) = Some (byte ∷ bytes)
+key_or_none (first ∷ more) = Some (first ∷ more)
 
 -- a name and a key of lengths that are allowed, or no key
 abbrev pub watching : List ℕ → List ℕ → Option ScriptLine

@@ -165,7 +165,7 @@ pub fn same_or_collision<H: NodeHash, V: VufCheck>(
 }
 
 /// Reads, checks and compares two replies for one name under one body of a signed root, whoever made
-/// them. Takes at most 1032 digests.
+/// them. Takes at most 1,032 digests.
 ///
 /// # Errors
 ///

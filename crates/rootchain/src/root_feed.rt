@@ -1,7 +1,8 @@
-//! A list of roots in pieces. The bytes of the next root are held: first up to the length of its
-//! signature, and then up to its end. A root that is whole is returned, and its bytes fall. Bytes that no
-//! list has there, and bytes after the last root, end the feed. A piece that is too short for any of this
-//! is only held: that is quick, since it makes no room for a root.
+//! A list of roots in pieces. Where nothing is held, a root that is whole in a piece is read where it lies.
+//! Else the bytes of the next root are held: first up to the length of its signature, and then up to its
+//! end. A root that is whole is returned, and bytes that were held fall. Bytes that no list has there, and
+//! bytes after the last root, end the feed. A piece that is too short for any of this is only held: that is
+//! quick, since it makes no room for a root.
 ghost use Rattle.std.specs.Prelude.{◌≡◌, ◌⊎◌, ◌↔◌, ◌+◌, ◌≤◌, ◌++◌, [], length, IsTrue};
 ghost use Rattle.encoding.specs.Reading.{Gives};
 ghost use Rattle.rootchain.specs.FeedViews.{held_of, HasSpelledRoot, IsFront, TakesPart, TellsNext};
@@ -235,7 +236,7 @@ fn first_of<'a>(held: &mut SignedRootText, piece: &'a [u8]) -> Next<'a>
     ensures front { IsFront (held.old ++ piece.entry.now) result held.new }
     ensures form { HasSpelledRoot result }
 {
-    // A root that is whole in the piece is read where it lies.
+    // A piece of `FIXED_LEN` bytes has no whole root, since a signature has at least one.
     if held.bytes().is_empty() && FIXED_LEN < piece.len() {
         if let Ok(root) = SignedRoot::read_from(&mut Cursor::new(piece)) {
             let rest = piece.split_at(root.written_len()).1;

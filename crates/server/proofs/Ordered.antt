@@ -5,6 +5,7 @@ use Rattle.vrfiface.specs.StandIns.{keyed_value}
 use Rattle.sigiface.specs.StandIn.{keyed_signature}
 use Rattle.rand_chacha.specs.ChaCha.{ChaCha}
 use Rattle.book.specs.declared.record.Record.{Record}
+use Rattle.book.specs.Salts.{chacha_salts}
 use Rattle.wire.specs.declared.answer.TheConstants.{MAX_ANSWER_LEN}
 use Rattle.connections.specs.Histories.{History}
 use Rattle.connections.specs.Laws.{AlwaysWaitWithin}
@@ -13,7 +14,6 @@ use Rattle.hub.specs.Desks.{DeskAnswers, DeskState}
 use Rattle.hub.specs.Events.{HubState}
 use Rattle.hub.specs.Runs.{Line}
 use Rattle.server.specs.ConnectionOptions.{ConnectionOptions, idle_limit, most_open}
-use Rattle.book.specs.Salts.{chacha_salts}
 use Rattle.server.specs.Listening.{AnswersConnections, KeepsLimits, KeepsOrder}
 use Rattle.server.specs.Programs.{ShownBy}
 use Rattle.server.specs.Sessions.{AreLines}

@@ -3,6 +3,7 @@ use Rattle.std.proofs.Common.{◌≡◌, ℕ, ◌+◌, ◌-◌, List, Option, No
 use Rattle.std.specs.Prelude.{IfSome}
 use Rattle.std.specs.Io.KnownBytes.{Keeps}
 use Rattle.rand_chacha.specs.ChaCha.{ChaCha}
+use Rattle.book.specs.Salts.{chacha_salts}
 use Rattle.epochs.specs.DirectoryStates.{book, DirectoryState}
 use Rattle.journal.specs.declared.opening.Opened.{Opened}
 use Rattle.journal.specs.declared.opening.Opened.TheVariants.{Nothing, Directory}
@@ -14,7 +15,6 @@ use Rattle.journal.specs.Openings.{HasOtherKeys, IsCut, OpensTo}
 use Rattle.journal.specs.Records.{start_bytes, IsStart}
 use Rattle.textio.specs.declared.program_fault.ProgramFault.{ProgramFault}
 use Rattle.textio.specs.declared.program_fault.ProgramFault.TheVariants.{BadHex, BadItem, IndexRepeated, NotACommand, NotEvidence, BadRecord, OtherKeys, CannotRead, CannotWrite, CannotListen, OutOfMemory}
-use Rattle.book.specs.Salts.{chacha_salts}
 use Rattle.server.specs.Directories.{DirectoryKeys}
 use Rattle.server.specs.Reopening.{at_stream, beginning_with, index_by, of_refusal, Cuts, FileBecomes, FileHolds, HasRead, HasReopened, HasStarted, IsUnopened, StartsLess, StaysAt}
 

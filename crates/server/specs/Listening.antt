@@ -10,6 +10,7 @@ use Rattle.sigiface.specs.StandIn.{keyed_signature}
 use Rattle.book.specs.declared.keeper.NoKeeper.{NoKeeper}
 use Rattle.book.specs.declared.record.Record.{Record}
 use Rattle.book.specs.Keeps.{KeepsNothing, NeverFails}
+use Rattle.book.specs.Salts.{chacha_salts}
 use Rattle.rand_chacha.specs.ChaCha.{ChaCha}
 use Rattle.wire.specs.declared.answer.TheConstants.{MAX_ANSWER_LEN}
 use Rattle.connections.specs.Endings.{AreInside, AreWithin, HasEnded}
@@ -23,7 +24,6 @@ use Rattle.hub.specs.Events.{HubState}
 use Rattle.hub.specs.Runs.{Line}
 use Rattle.server.specs.ConnectionOptions.{ConnectionOptions, idle_limit, most_open}
 use Rattle.server.specs.DirectoryOptions.{DirectoryOptions}
-use Rattle.book.specs.Salts.{chacha_salts}
 use Rattle.server.specs.Directories.{keys_of, DirectoryKeys, HasBegun}
 use Rattle.server.specs.Programs.{AfterJournal, KeepsInFile, LosesInFile, ShownBy}
 use Rattle.server.specs.Sessions.{AlwaysAnswered, AlwaysInOrder, AreLines}

@@ -8,6 +8,7 @@ use Rattle.sigiface.specs.StandIn.{keyed_signature, KeyedVerifies}
 use Rattle.book.specs.declared.keeper.NoKeeper.{NoKeeper}
 use Rattle.book.specs.declared.record.Record.{Record}
 use Rattle.book.specs.Keeps.{KeepsNothing, NeverFails}
+use Rattle.book.specs.Salts.{chacha_salts}
 use Rattle.hub.specs.DeskRuns.{ShowHonestRun}
 use Rattle.hub.specs.Desks.{DeskState, DeskAnswers}
 use Rattle.hub.specs.Exchanges.{Exchange}
@@ -23,7 +24,6 @@ use Rattle.server.specs.declared.streams.TheConstants.{SESSION}
 use Rattle.server.specs.Faults.{outcome_of}
 use Rattle.server.specs.Reopening.{journal_line, IsUnopened, Reopens}
 use Rattle.server.specs.DirectoryOptions.{DirectoryOptions}
-use Rattle.book.specs.Salts.{chacha_salts}
 use Rattle.server.specs.Directories.{keys_of, DirectoryKeys, HasBegun}
 use Rattle.server.specs.Serving.{RepliedHonestly, Serves}
 

@@ -7,6 +7,7 @@ use Rattle.vrfiface.specs.StandIns.{keyed_value}
 use Rattle.sigiface.specs.StandIn.{keyed_signature}
 use Rattle.book.specs.Fresh.{keyed_provider}
 use Rattle.book.specs.Shows.{index_of}
+use Rattle.book.specs.Salts.{chacha_salts}
 use Rattle.epochs.specs.DirectoryStates.{book, DirectoryState}
 use Rattle.journal.specs.declared.beginning.Beginning.{Beginning}
 use Rattle.journal.specs.declared.open_refusal.Refusal.{Refusal}
@@ -19,7 +20,6 @@ use Rattle.journal.specs.Records.{start_bytes, IsStart}
 use Rattle.textio.specs.declared.program_fault.ProgramFault.{ProgramFault}
 use Rattle.textio.specs.declared.program_fault.ProgramFault.TheVariants.{BadHex, BadItem, IndexRepeated, NotACommand, NotEvidence, BadRecord, OtherKeys, CannotRead, CannotWrite, CannotListen, OutOfMemory}
 use Rattle.textio.specs.Output.{WritesBeginning}
-use Rattle.book.specs.Salts.{chacha_salts}
 use Rattle.server.specs.Directories.{DirectoryKeys, HasBegun}
 
 -- known bytes are cut to their first ones

@@ -4,6 +4,7 @@
 // (`answer_all` of `connections`) says of connections of which contracts know what they carry.
 // `scripts/listen.sh` covers the rest.
 ghost use Rattle.std.specs.Prelude.{◌≡◌, ◌≢◌, ◌↔◌, ◌⊎◌, List, [], Err, IfErr, IsErr, None, false};
+ghost use Rattle.book.specs.Salts.{chacha_salts};
 ghost use Rattle.connections.specs.Fitting.{size_of, AreFree};
 ghost use Rattle.connections.specs.Histories.{History, of_connections};
 ghost use Rattle.connections.specs.Laws.{AlwaysWaitWithin};
@@ -17,7 +18,6 @@ ghost use Rattle.textio.specs.declared.program_fault.ProgramFault.TheVariants.{B
 ghost use Rattle.wire.specs.declared.answer.TheConstants.{MAX_ANSWER_LEN};
 ghost use Rattle.server.specs.ConnectionOptions.{connections_of, idle_limit, most_open};
 ghost use Rattle.server.specs.DirectoryOptions.{directory_values};
-ghost use Rattle.book.specs.Salts.{chacha_salts};
 ghost use Rattle.server.specs.Directories.{keys_of};
 ghost use Rattle.server.specs.Listening.{AnswersConnections, KeepsLimits, ListenTells, TellsAddress, TellsAddressLine, TellsKept, TellsUnkept};
 ghost use Rattle.server.specs.Programs.{ShownBy};

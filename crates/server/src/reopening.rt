@@ -2,9 +2,9 @@
 // that is refused stays as it was.
 ghost use Rattle.std.specs.Prelude.{◌≡◌, IfErr, IfSome, MatchResult, OnOk, Some};
 ghost use Rattle.std.specs.Io.KnownBytes.{Keeps};
+ghost use Rattle.book.specs.Salts.{chacha_salts};
 ghost use Rattle.journal.specs.Opened.{IsOpenRefusal, Opens};
 ghost use Rattle.journal.specs.Records.{start_bytes};
-ghost use Rattle.book.specs.Salts.{chacha_salts};
 ghost use Rattle.server.specs.Reopening.{at_stream, beginning_with, index_by, of_refusal, HasRead, HasReopened, HasStarted, IsSystemFault, IsUnopened, StartsLess, StaysAt};
 
 use crate::JournalFile;

@@ -38,7 +38,7 @@
 //! | | `judge_file`; `audit` | `judge`, `altered`; `audit` |
 //! | `text` | refusals of memory, of a keeper and of streams | `refusal` |
 //! | `script` | `play`, in which all of them come together | |
-//! | | with `read_line`, `next_line`, `push_hex`, `push_number` of its crate | |
+//! | | with `read_line`, `next_line`, `push_hex`, `push_number`, `Ask::request` of its crate | |
 //! | | and `tell_response`, `tell_statement`, `tell_step` | |
 //!
 //! Of the public calls of the upper crates that no verb asks, `scripts/statuses.sh` asks `judge_at` and

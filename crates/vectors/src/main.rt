@@ -16,7 +16,7 @@
 //! | | `keyed_digest`, `sha256_four` | `keyed`, `four` |
 //! | | `empty_text`, `leaf_text`, `interior_text` | `empty`, `leaf`, `interior` |
 //! | | `commit`, `commit_text` | `commit` |
-//! | `stand-ins` | `Vuf::public`, `value`; `VufCheck::accepts` | `value`, `accepts`, `plain-value`, `plain-accepts` |
+//! | `stand-ins` | `Vuf::public`, `value`, by `small_keyed_digest`; `VufCheck::accepts` | `value`, `accepts`, `plain-value`, `plain-accepts` |
 //! | | `index_of` | `index` |
 //! | | `Signer::public`, `sign`; `Verifier::verify` | `sign`, `verify` |
 //! | `roots` | `read`, `write`, `copied`, `verifies` of each form | `body`, `root`, `promise`, `signed-promise` |

@@ -1,6 +1,6 @@
 //! A request in place in the body of its frame. The kind byte says which parts the body has. `read` takes
-//! them from the front, and keeps names and keys where they lie; a body that ends before the last part, or
-//! goes on behind it, is refused. `write` appends the same parts in the same order, in one frame.
+//! them from the front, and keeps names and keys where they lie; a body that is too short for them, or
+//! goes on behind them, is refused. `write` appends the same parts in the same order, in one frame.
 ghost use Rattle.std.specs.Prelude.{◌≡◌, ◌↔◌, ◌+◌, ◌<◌, ◌≤◌, ◌++◌, length, OnOk, OnErr, IsOk, IsTrue, vec_len, vec_capacity};
 ghost use Rattle.commands.specs.Operations.{question};
 ghost use Rattle.wire.specs.Frames.{frame_bytes, frame_size, IsFrame};

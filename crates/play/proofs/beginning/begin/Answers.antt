@@ -7,8 +7,8 @@ use Rattle.sigiface.specs.StandIn.{keyed_signature, KeyedVerifies}
 use Rattle.wire.specs.Streams.{Rest}
 use Rattle.book.specs.Books.{Book}
 use Rattle.book.specs.Shows.{index_of}
-use Rattle.epochs.specs.DirectoryStates.{book, provider, DirectoryState}
 use Rattle.book.specs.Salts.{chacha_salts}
+use Rattle.epochs.specs.DirectoryStates.{book, provider, DirectoryState}
 use Rattle.play.specs.Beginnings.{script_index, script_salts}
 use Rattle.play.specs.Parties.{AreAt, Parties}
 use Rattle.play.specs.Played.{opening}

@@ -1,9 +1,9 @@
 use Rattle.nodehash.specs.Sha256.{sha256}
 use Rattle.vrfiface.specs.StandIns.{keyed_value, KeyedAccepts}
 use Rattle.sigiface.specs.StandIn.{keyed_signature, KeyedVerifies}
+use Rattle.book.specs.Salts.{chacha_salts}
 use Rattle.hub.specs.Desks.{DeskAnswers}
 use Rattle.hub.proofs.DeskHonest.{lines_show_honest_run}
-use Rattle.book.specs.Salts.{chacha_salts}
 use Rattle.server.proofs.Crowds.{crowd_answered}
 use Rattle.server.proofs.ReplySizes.{lines_short}
 use Rattle.server.proofs.Waiting.{crowd_waits_within}
