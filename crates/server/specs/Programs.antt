@@ -27,7 +27,7 @@ use Rattle.server.specs.DirectoryOptions.{DirectoryOptions}
 use Rattle.server.specs.Directories.{keys_of, DirectoryKeys, HasBegun}
 use Rattle.server.specs.Serving.{RepliedHonestly, Serves}
 
--- the checks of the stand-ins
+-- the desk of a served directory, under the stand-ins
 module _ {K : Type 0} (kept failed : K → Record → K → Type 0) where
   -- what the desk of a served directory replies to the messages of its one session
   abbrev pub ServedReplied : DeskState ChaCha K → List Exchange → DeskState ChaCha K → Type 0
