@@ -19,6 +19,9 @@ told.
 `directory MESSAGE..` and `hub PIECE FRAMES` ask a directory whose keeper fails at its first call, its second, and so
 on. The answer is what is replied without a failure, and in each of these runs.
 
+`piece FRAMES` tells how many bytes of replies a piece brings to a session; where memory ran out once it was taken,
+then `14`, and how many an empty piece brings behind it.
+
 `crowd ..` answers many connections at once: see crowd_questions.py.
 
 `journal PIECE COUNT MESSAGE..` runs a directory over the first COUNT messages, with a journal whose writer takes at
@@ -259,7 +262,7 @@ class Sweeps(Lines):
     """Answers questions. The method of a verb takes the words, and gives the program of devices, piece and input."""
 
     def verb(self, subject, words):
-        if subject in ("crowd", "directory", "hub", "journal"):
+        if subject in ("crowd", "directory", "hub", "journal", "piece"):
             return getattr(self, subject)
         of = getattr(self, f"of_{subject}", None)
         if of is None:
@@ -353,6 +356,9 @@ class Sweeps(Lines):
             return b"".join(hub.bytes(1, part) for part in cut_up(frames, piece))
 
         return self.losses(output)
+
+    def piece(self, words):
+        return [str(len(new_hub(None).bytes(1, words.bytes())))]
 
     def journal(self, words):
         piece, count = words.number(4096), words.number(1000)
@@ -602,6 +608,10 @@ def of_keepers(q):
     q.ask("hub 15", HEAD * 3)
 
 
+def of_a_piece(q):
+    q.ask("piece", HEAD * 3)
+
+
 # Two registrations, a change, two closings and a rotation; and what shows roots, promises that wait, and their salts.
 RECORDED = [
     ("register", b"a", b"k"), ("register", b"bb", b"kk"), ("close", TOKEN, 2), ("change", b"a", b"l"),
@@ -641,6 +651,7 @@ SUBJECTS = {
     "sessions": of_sessions,
     "in a few lines: a script": of_short_script,
     "scripts": of_scripts,
+    "in a few lines: three Heads in one piece": of_a_piece,
     "keepers of records": of_keepers,
     "journals": of_journals,
     "many connections at once": crowd_questions.ask_all,

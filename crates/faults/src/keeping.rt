@@ -150,3 +150,38 @@ pub(crate) fn hub(case: &mut Case<'_>) {
     let frames = case.bytes();
     answer(case, &Asked::Stream { piece, frames });
 }
+
+/// Tells how many bytes of replies a piece brings. If memory ran out once it was taken, tells the refusal, and how
+/// many an empty piece then brings.
+fn tell_piece(case: &mut Case<'_>, piece: &[u8]) -> Result<(), AllocError> {
+    let mut output = Vec::new(case.alloc());
+    let mut hub = provider::hub(case.alloc(), LossyKeeper::new(None))?;
+    if hub.event(&Event::Open(SESSION), &mut output).is_err() {
+        return Err(AllocError);
+    }
+    let heard = hub.event(&Event::Bytes(SESSION, piece), &mut output);
+    case.say_shown(output.len());
+    match heard {
+        Ok(()) => Ok(()),
+        Err(HubRefusal::Memory { taken: true }) => {
+            case.say("14");
+            output.clear();
+            match hub.event(&Event::Bytes(SESSION, &[]), &mut output) {
+                Ok(()) => {
+                    case.say_shown(output.len());
+                    Ok(())
+                }
+                Err(_) => Err(AllocError),
+            }
+        }
+        Err(_) => Err(AllocError),
+    }
+}
+
+/// `piece FRAMES`
+pub(crate) fn piece(case: &mut Case<'_>) {
+    let frames = case.bytes();
+    if tell_piece(case, frames).is_err() {
+        case.lack_memory();
+    }
+}

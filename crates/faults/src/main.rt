@@ -8,7 +8,8 @@
 //! What a failing writer leaves of a journal is opened: the answer tells after how many commands of the
 //! run the directory stands, or `other` where it is no beginning of the run.
 //!
-//! `crowd` answers many connections at once, which do what a script says.
+//! `crowd` answers many connections at once, which do what a script says. `piece` tells what a session's one
+//! piece brings, and what an empty piece brings behind it where memory ran out.
 //!
 //! The stored answers come from `scripts/fault_questions.py`, which computes them from the definitions.
 #![tactic(auto)]
@@ -39,6 +40,7 @@ impl Subjects for Sweeps {
             b"crowd" => crowd::crowd(case),
             b"directory" => keeping::directory(case),
             b"hub" => keeping::hub(case),
+            b"piece" => keeping::piece(case),
             b"journal" => stopping::journal(case),
             verb => match Job::read(verb, case) {
                 Some(job) => sweep::sweep(case, &job),
