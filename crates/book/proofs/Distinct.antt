@@ -43,7 +43,7 @@ entry-named (e ∷ es) entry is = elim (first-or-later e es entry is) [
     by true more = (e.1, refl)
     by false more = more
 
-put-named : (map : Map Binding) (name other : List ℕ) (binding : Binding) → HasName (put_name map name binding) other → HasName map other ⊎ (other ≡ name)
+pub put-named : (map : Map Binding) (name other : List ℕ) (binding : Binding) → HasName (put_name map name binding) other → HasName map other ⊎ (other ≡ name)
 put-named map name other binding has = by (is_at (bytes_cmp name) other) refl
   where
     by : (t : Bool) → is_at (bytes_cmp name) other ≡ t → HasName map other ⊎ (other ≡ name)

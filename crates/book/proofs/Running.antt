@@ -35,7 +35,7 @@ root-epoch provider epoch before (page ∷ pages) each is = elim (first-or-later
 ]
 
 -- a closing that is refused makes no page
-refused-latest : (latest : ℕ) (asked : Operation) (why : Refusal) → latest_after latest asked (reply.Refused why) ≡ latest
+pub refused-latest : (latest : ℕ) (asked : Operation) (why : Refusal) → latest_after latest asked (reply.Refused why) ≡ latest
 refused-latest latest (Query question) why = refl
 refused-latest latest (Edit (Put verb name key)) why = refl
 refused-latest latest (Edit (ask.Turn epoch _)) why = refl
@@ -229,7 +229,7 @@ module _ (provider : Provider) where
   seen-later latest book after asked (reply.Refused why) goes s = tt
 
   -- the last page after a command that was answered so
-  last-now : (book after : Book) (asked : Operation) (answer : Answer) (said : Reply) → Does book asked answer after → Shows provider after answer said → after.last.epoch ≡ latest_after book.last.epoch asked said
+  pub last-now : (book after : Book) (asked : Operation) (answer : Answer) (said : Reply) → Does book asked answer after → Shows provider after answer said → after.last.epoch ≡ latest_after book.last.epoch asked said
   last-now book after (Query question) answer said does shows = ap (λ (b : Book). b.last.epoch) does.1
   last-now book after (Edit (Put verb name key)) answer said does shows = ap (λ (b : Book). b.last.epoch) does.1
   last-now book after (Edit (ask.Turn epoch _)) answer (reply.Promised promised) does shows = let e = sym does.0 ∙ shows.3 in absurd cc

@@ -26,11 +26,12 @@ pub climb-push : (epoch : ℕ) (pages : List Page) (last page : Page) → Climb 
 climb-push epoch [] last page climb above = (climb.0, (above, tt))
 climb-push epoch (first ∷ pages) last page climb above = (climb.0, climb-push first.epoch pages last page climb.1 above)
 
-module _ (provider : Provider) where
-  abbrev Root : SignedPage → SignedRoot
-  Root each = each.root
+abbrev pub Root : SignedPage → SignedRoot
+Root each = each.root
 
-  abbrev next_hash : ℕ → List ℕ → Page → List ℕ
+module _ (provider : Provider) where
+  -- the hash of the root of a page
+  abbrev pub next_hash : ℕ → List ℕ → Page → List ℕ
   next_hash epoch before page = provider.hash (body_bytes (body_behind provider epoch before page))
 
   -- a page more is sealed behind the last one

@@ -5,12 +5,12 @@ use Rattle.std.proofs.lemmas.List.Elements.{recursion_from_All}
 use Rattle.rand_core.specs.Stream.{Stream}
 use Rattle.encoding.specs.Bytes.{Is32Bytes}
 use Rattle.encoding.proofs.ByteLists.{IsBytes-zeros}
-use Rattle.rootchain.specs.Bodies.{body_bytes, IsBody, IsWellFormed}
+use Rattle.rootchain.specs.Bodies.{IsBody, IsWellFormed}
 use Rattle.rootchain.specs.declared.signed_root.SignedRoot.{SignedRoot}
 use Rattle.book.specs.Books.{Book, Page, pages}
-use Rattle.book.specs.Shows.{Provider, SignedPage, body_behind, index_of, placement, roots, sealed_behind}
+use Rattle.book.specs.Shows.{Provider, body_behind, index_of, placement, roots, sealed_behind}
 use Rattle.book.specs.Sound.{IsPage, IsSound}
-use Rattle.book.proofs.Sealing.{Climb}
+use Rattle.book.proofs.Sealing.{Climb, Root, next_hash}
 use Rattle.book.proofs.Sizes.{node-size}
 use Rattle.epochs.specs.Parts.{Keeps, Parts, last_root}
 use Rattle.epochs.proofs.Finding.{EpochsAscend}
@@ -39,18 +39,12 @@ all-get P (y ∷ ys) zero x all is = let same : y ≡ x = cc in subst P same all
 all-get P (y ∷ ys) (suc k) x all is = all-get P ys k x all.1 is
 
 module _ (provider : Provider) where
-  abbrev Root : SignedPage → SignedRoot
-  Root each = each.root
-
-  abbrev next_hash : ℕ → List ℕ → Page → List ℕ
-  next_hash epoch before page = provider.hash (body_bytes (body_behind provider epoch before page))
-
   formed : (epoch : ℕ) (before : List ℕ) (pages : List Page) → (epoch ≡ 0 → before ≡ replicate 32 0) → Climb epoch pages
       → AllByRecursion (λ (root : SignedRoot). IsWellFormed root.body) (map Root (sealed_behind provider epoch before pages))
   formed epoch before [] zeros climb = tt
-  formed epoch before (page ∷ pages) zeros climb = ((climb.0, zeros), formed page.epoch (next_hash epoch before page) pages (never climb.0) climb.1)
+  formed epoch before (page ∷ pages) zeros climb = ((climb.0, zeros), formed page.epoch (next_hash provider epoch before page) pages (never climb.0) climb.1)
     where
-      never : epoch < page.epoch → page.epoch ≡ 0 → next_hash epoch before page ≡ replicate 32 0
+      never : epoch < page.epoch → page.epoch ≡ 0 → next_hash provider epoch before page ≡ replicate 32 0
       never above none = absurd (omega (arith, above, none))
 
   module _ (size : (text : List ℕ) → Is32Bytes (provider.hash text)) (key_size : Is32Bytes provider.vuf_key) where
@@ -58,7 +52,7 @@ module _ (provider : Provider) where
         → AllByRecursion (λ (root : SignedRoot). IsWellFormed root.body) (map Root (sealed_behind provider epoch before pages))
         → AllByRecursion (λ (root : SignedRoot). IsBody root.body) (map Root (sealed_behind provider epoch before pages))
     sized epoch before [] fits sized_before are formed = tt
-    sized epoch before (page ∷ pages) fits sized_before are formed = (here, sized page.epoch (next_hash epoch before page) pages are.0.in_eight_bytes (size _) are.1 formed.1)
+    sized epoch before (page ∷ pages) fits sized_before are formed = (here, sized page.epoch (next_hash provider epoch before page) pages are.0.in_eight_bytes (size _) are.1 formed.1)
       where
         here : IsBody (body_behind provider epoch before page)
         here =

@@ -80,7 +80,7 @@ module _ (provider : Provider) (parts : Parts) (salt : List ℕ) (left : Stream)
         all-hash : hash ≡ provider.hash (body_bytes (body_after provider parts salt left keeps epoch nonce))
         all-hash = hash-is ∙ ap (λ (b : Body). provider.hash (body_bytes b)) body-with
 
-    pub keeps_closed : Keeps provider parts_closed (book_of parts_closed salt left)
+    keeps_closed : Keeps provider parts_closed (book_of parts_closed salt left)
     keeps_closed = subst (λ (p : Parts). Keeps provider p (book_of p salt left)) (sym parts-with) (keeps_page provider parts salt left keeps epoch nonce above fits sized)
 
     pub book_closed : book_of parts_closed salt left ≡ with_page (book_of parts salt left) (next_page (book_of parts salt left) epoch nonce)
@@ -102,12 +102,15 @@ module _ (provider : Provider) (parts : Parts) (salt : List ℕ) (left : Stream)
             subst (λ (page : Page). IsRootOf provider (book_of parts_closed salt left) page root) last-page
             (subst (IsRootOf provider (book_of parts_closed salt left) (last_of parts_closed)) (sym root-with) kept-root)
 
-    -- the same of the provider and the book that a call was handed
-    pub closed_made : (by : Provider) (before : Book) → provider ≡ by → book_of parts salt left ≡ before
-        → (book_of parts_closed salt left ≡ with_page before (next_page before epoch nonce)) × Shows by (book_of parts_closed salt left) (Last (next_page before epoch nonce)) (reply.Last root)
-    closed_made by before same_by same =
-        subst (λ (b : Book). (book_of parts_closed salt left ≡ with_page b (next_page b epoch nonce)) × Shows by (book_of parts_closed salt left) (Last (next_page b epoch nonce)) (reply.Last root)) same
-        (book_closed, subst (λ (p : Provider). Shows p (book_of parts_closed salt left) (Last (next_page (book_of parts salt left) epoch nonce)) (reply.Last root)) same_by root_closed)
+    -- the book has the page more, in words of the provider and the book that a call was handed, and it is kept
+    pub closed : (by : Provider) (before : Book) → provider ≡ by → book_of parts salt left ≡ before
+        → ((book_of parts_closed salt left ≡ with_page before (next_page before epoch nonce)) × Shows by (book_of parts_closed salt left) (Last (next_page before epoch nonce)) (reply.Last root))
+        × Keeps provider parts_closed (book_of parts_closed salt left)
+    closed by before same_by same = (
+      subst (λ (b : Book). (book_of parts_closed salt left ≡ with_page b (next_page b epoch nonce)) × Shows by (book_of parts_closed salt left) (Last (next_page b epoch nonce)) (reply.Last root)) same
+          (book_closed, subst (λ (p : Provider). Shows p (book_of parts_closed salt left) (Last (next_page (book_of parts salt left) epoch nonce)) (reply.Last root)) same_by root_closed),
+      keeps_closed,
+    )
 
   -- ---- a page that is not added
 

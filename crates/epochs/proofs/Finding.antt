@@ -21,6 +21,7 @@ use Rattle.book.specs.Shows.{Provider, SignedPage, body_behind, roots, sealed_be
 use Rattle.epochs.proofs.Ends.{front_final, slice_get-final}
 use Rattle.book.proofs.Members.{first-or-later, first-there, later-there, none-there}
 use Rattle.book.proofs.Rooted.{rooted-at}
+use Rattle.book.proofs.Sealing.{Root, next_hash}
 
 -- epochs ascend
 abbrev pub EpochsAscend : List Page → Type 0
@@ -158,16 +159,10 @@ module _ {Y : Type 0} (key : Y → ℕ) (ys : List Y) (book : Book) (same : map 
 -- ---- the roots beside the pages
 
 module _ (provider : Provider) where
-  abbrev Root : SignedPage → SignedRoot
-  Root each = each.root
-
-  abbrev next_hash : ℕ → List ℕ → Page → List ℕ
-  next_hash epoch before page = provider.hash (body_bytes (body_behind provider epoch before page))
-
   sealed-epochs : (epoch : ℕ) (before : List ℕ) (pages : List Page)
       → map (λ (root : SignedRoot). root.body.epoch) (map Root (sealed_behind provider epoch before pages)) ≡ map (λ (page : Page). page.epoch) pages
   sealed-epochs epoch before [] = refl
-  sealed-epochs epoch before (page ∷ pages) = ap (λ (more : List ℕ). page.epoch ∷ more) (sealed-epochs page.epoch (next_hash epoch before page) pages)
+  sealed-epochs epoch before (page ∷ pages) = ap (λ (more : List ℕ). page.epoch ∷ more) (sealed-epochs page.epoch (next_hash provider epoch before page) pages)
 
   -- the roots have the epochs of the pages
   pub epochs_of : (book : Book) → map (λ (root : SignedRoot). root.body.epoch) (roots provider book) ≡ map (λ (page : Page). page.epoch) (pages book)
@@ -192,7 +187,7 @@ module _ (provider : Provider) where
   sealed-signed epoch before [] each is = absurd (none-there each is)
   sealed-signed epoch before (page ∷ pages) each is = elim (first-or-later _ _ each is) [
     | inl same ↦ subst (λ (x : SignedPage). IsSignedPage x.page x.root) same (record { previous_epoch = epoch; previous_hash = before; is = refl })
-    | inr later ↦ sealed-signed page.epoch (next_hash epoch before page) pages each later
+    | inr later ↦ sealed-signed page.epoch (next_hash provider epoch before page) pages each later
   ]
 
   pub root_signed : (book : Book) (page : Page) (root : SignedRoot) → IsRootOf provider book page root → IsSignedPage page root
@@ -210,7 +205,7 @@ module _ (provider : Provider) where
       → IsSealedBehind last page (map Root (sealed_behind provider epoch before (pages ++ last ∷ []))) (map Root (sealed_behind provider epoch before ((pages ++ last ∷ []) ++ page ∷ [])))
   sealed-behind epoch before [] last page = record { front = []; root = signed provider (body_behind provider epoch before last); all_is = refl; is = refl }
   sealed-behind epoch before (first ∷ pages) last page =
-      let next = sealed-behind first.epoch (next_hash epoch before first) pages last page in
+      let next = sealed-behind first.epoch (next_hash provider epoch before first) pages last page in
       let root : SignedRoot = signed provider (body_behind provider epoch before first) in
       record {
         front = root ∷ next.front;

@@ -15,8 +15,8 @@ use Rattle.book.specs.Steps.{has_its_index}
 use Rattle.book.specs.Books.{Binding}
 use Rattle.book.specs.Maps.{Map, at, overwritten, put_name}
 use Rattle.book.specs.Shows.{Provider, index_of, placement}
-use Rattle.book.proofs.Distinct.{AreApart, HasName, entry-named}
-use Rattle.book.proofs.Entries.{Ascends, ascends_none, ascends_put, at_put_other, at_put_same, first_alone, is_name, is_no_name, misses, rest_ascends}
+use Rattle.book.proofs.Distinct.{AreApart, HasName, entry-named, put-named}
+use Rattle.book.proofs.Entries.{Ascends, ascends_none, ascends_put, at_put_other, at_put_same, first_alone, misses, rest_ascends}
 use Rattle.book.proofs.Members.{first-there, later-there}
 use Rattle.book.proofs.Placed.{Alone, commitment, item}
 use Rattle.encoding.specs.Bytes.{bytes_cmp}
@@ -150,13 +150,6 @@ named-later e es name has = by (is_at (bytes_cmp name) e.0)
     by true = (e.1, refl)
     by false = has
 
-named-put : (map : Map Binding) (name other : List ℕ) (binding : Binding) → HasName (put_name map name binding) other → HasName map other ⊎ (other ≡ name)
-named-put map name other binding has = by (is_at (bytes_cmp name) other) refl
-  where
-    by : (t : Bool) → is_at (bytes_cmp name) other ≡ t → HasName map other ⊎ (other ≡ name)
-    by true is = inr (is_name name other is)
-    by false is = inl (has.0, sym (at_put_other name binding map other (is_no_name name other is)) ∙ has.1)
-
 -- ---- placements
 
 module _ (provider : Provider) where
@@ -187,7 +180,7 @@ module _ (provider : Provider) where
   apart-put bindings e es apart one other a b same = apart one other (held one a) (held other b) same
     where
       held : (name : List ℕ) → HasName (put_name bindings e.0 e.1) name ⊎ HasName es name → HasName bindings name ⊎ HasName (e ∷ es) name
-      held name (inl now) = elim (named-put bindings e.0 name e.1 now) [
+      held name (inl now) = elim (put-named bindings e.0 name e.1 now) [
         | inl before ↦ inl before
         | inr same ↦ inr (subst (HasName (e ∷ es)) (sym same) (named-first e es))
       ]

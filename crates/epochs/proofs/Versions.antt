@@ -18,6 +18,7 @@ use Rattle.epochs.specs.Histories.{Version, chosen, or_else, binding_at, waiting
 use Rattle.book.specs.Maps.{Map, at, overwritten, put_name}
 use Rattle.epochs.specs.Versions.{AllBefore, AllWithin, AreHistories, Ascends, NamesWithin, versions_of, with_version}
 use Rattle.book.proofs.Entries.{Ascends as NamesAscend, ascends_put, at_put_other, at_put_same, first_alone, is_name, rest_ascends}
+use Rattle.book.proofs.Turning.{all-push}
 use Rattle.epochs.proofs.Histories.{Above, chosen-above, chosen-overwritten, put-front, shown-next}
 use Rattle.encoding.specs.Bytes.{bytes_cmp}
 
@@ -41,13 +42,9 @@ module _ {V : Type 0} (Q : V → Type 0) where
       by true more = all.0
       by false more = more
 
-all-append : {X : Type 0} (P : X → Type 0) (xs : List X) (x : X) → AllByRecursion P xs → P x → AllByRecursion P (xs ++ x ∷ [])
-all-append P [] x all p = (p, tt)
-all-append P (y ∷ ys) x all p = (all.0, all-append P ys x all.1 p)
-
 pub ascends-append : (version : Version) (earlier : List Version) → Ascends earlier → AllBefore version.number earlier → Ascends (earlier ++ version ∷ [])
 ascends-append version [] up before = (tt, tt)
-ascends-append version (v ∷ vs) up before = (all-append _ vs version up.0 before.0, ascends-append version vs up.1 before.1)
+ascends-append version (v ∷ vs) up before = (all-push _ vs version up.0 before.0, ascends-append version vs up.1 before.1)
 
 -- ---- of one name
 none_or : {X : Type 0} (V : Type 0) (f : List V → Option X) (o : Option (List V)) → f [] ≡ None → f (unwrap_or o []) ≡ option_and_then f o
@@ -67,7 +64,7 @@ waiting-past n [] within = refl
 waiting-past n (v ∷ vs) within = rw (waiting-past n vs within.1, ne_eqb v.number (suc n) (omega (arith, within.0))) refl
 
 within-append : (n : ℕ) (version : Version) (earlier : List Version) → version.number ≤ n → AllWithin n earlier → AllWithin n (earlier ++ version ∷ [])
-within-append n version earlier le within = all-append _ earlier version within le
+within-append n version earlier le within = all-push _ earlier version within le
 
 shown_later : (p : ℕ) (versions : List Version) → IsSome (binding_at p versions) → IsSome (binding_at (suc p) versions)
 shown_later p [] some = some

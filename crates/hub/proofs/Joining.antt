@@ -2,9 +2,8 @@
 use Rattle.std.proofs.Common.{◌≡◌, ℕ, List, [], ◌∷◌, ◌++◌, refl, sym, ap, subst, ◌∙◌, append_assoc}
 use Rattle.wire.specs.Frames.{Frame}
 use Rattle.wire.specs.Streams.{Remainder, with_more}
-use Rattle.wire.proofs.Streams.{with_more-append}
+use Rattle.wire.proofs.Streams.{takes-more, with_more-append}
 use Rattle.hub.specs.Exchanges.{Exchange, Exchanges, replies}
-use Rattle.hub.proofs.Streaming.{takes_more}
 
 pub replies_append : (xs ys : List Exchange) → replies (xs ++ ys) ≡ replies xs ++ replies ys
 replies_append [] ys = refl
@@ -16,7 +15,7 @@ module _ {S : Type 0} (answers : S → Frame → List ℕ → S → Type 0) wher
       → Exchanges answers s (with_more h more) xs t (with_more left more)
   exchanges_more s h [] t left more (same, held) = (same, ap (λ (x : Remainder). with_more x more) held)
   exchanges_more s h (x ∷ xs) t left more (middle, between, takes, replied, rest) =
-      (middle, with_more between more, takes_more h x.message between more takes, replied, exchanges_more middle between xs t left more rest)
+      (middle, with_more between more, takes-more h x.message between more takes, replied, exchanges_more middle between xs t left more rest)
 
   exchanges_append : (s : S) (h : Remainder) (xs : List Exchange) (t : S) (between : Remainder) (ys : List Exchange) (u : S) (left : Remainder)
       → Exchanges answers s h xs t between → Exchanges answers t between ys u left → Exchanges answers s h (xs ++ ys) u left

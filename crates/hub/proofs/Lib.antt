@@ -4,7 +4,6 @@ pub mod DeskRunning
 pub mod Desking
 pub mod Entries
 pub mod Exchanging
-pub mod Fronts
 pub mod Hearing
 pub mod Joining
 pub mod Once

@@ -14,6 +14,7 @@ use Rattle.std.specs.List.Sorted.{IsStrictlySortedBy}
 use Rattle.std.specs.Map.{keys_of, lookup}
 use Rattle.wire.specs.Frames.{Frame}
 use Rattle.wire.specs.Streams.{Remainder, Rest}
+use Rattle.epochs.specs.Histories.{or_else}
 use Rattle.hub.specs.declared.hub_refusal.HubRefusal.{HubRefusal}
 use Rattle.hub.specs.declared.hub_refusal.HubRefusal.TheVariants.{NoSession}
 use Rattle.hub.specs.Events.{BySession, Happening, Open, Bytes, End, HubState, at_session, due, number}
@@ -213,11 +214,6 @@ if_ok (Ok x) P Q p next = next x p
 if_ok (Err e) P Q p next = tt
 
 -- ---- empty outputs of sessions
-
--- the first where there is one, else the second
-abbrev pub or_else : {X : Type 0} → Option X → Option X → Option X
-or_else (Some x) other = Some x
-or_else None other = other
 
 or_none : {X : Type 0} (x : Option X) → or_else x None ≡ x
 or_none None = refl

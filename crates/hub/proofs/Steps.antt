@@ -7,13 +7,14 @@ use Rattle.std.specs.BTreeMap.{is_at, insert_entry}
 use Rattle.std.specs.Map.{remove_entry, set_value}
 use Rattle.wire.specs.Frames.{Frame}
 use Rattle.wire.specs.Streams.{Remainder, Message, Rest, messages, messages_within, with_more, IsSpent, TellsMessages}
+use Rattle.wire.proofs.Streams.{tells-append, tells-more}
 use Rattle.hub.specs.Events.{BySession, Happening, Open, Bytes, End, HubState, at_session, due, number}
 use Rattle.hub.specs.Exchanges.{Exchange, Exchanges, exchange_messages}
 use Rattle.hub.specs.Happenings.{Answered, Does}
 pub use Rattle.hub.specs.Runs.{lines}
 use Rattle.hub.specs.Runs.{Stream, Streams, changed, completed, completed_by, each, rest_of, unanswered, with_piece, AllAnswered}
 use Rattle.hub.proofs.Entries.{due_each, insert_each, lookup_each, remove_each, set_each, all_found, all_inserted, all_removed, all_set, AllAt}
-use Rattle.hub.proofs.Streaming.{left_within, tells_append, tells_more, told_all, told_of}
+use Rattle.hub.proofs.Streaming.{left_within, told_all, told_of}
 
 -- as many messages of the stream are answered as it says
 abbrev pub IsTold : Stream → Type 0
@@ -35,7 +36,7 @@ piece_told : (stream : Stream) (piece : List ℕ) (now : List Message) (left : R
     → (completed stream piece ≡ now) × (rest_of (with_piece stream piece) ≡ left) × IsTold (with_piece stream piece)
 piece_told stream piece now left (told, tells, count) more spent =
     let came : Remainder = with_more stream.came piece in
-    let all : TellsMessages came (told ++ now) left = tells_append came told (with_more (rest_of stream) piece) now left (tells_more stream.came told (rest_of stream) piece tells) more in
+    let all : TellsMessages came (told ++ now) left = tells-append came told (with_more (rest_of stream) piece) now left (tells-more stream.came told (rest_of stream) piece tells) more in
     let is : messages came ≡ (told ++ now, left) = told_all came (told ++ now) left all spent in
     let whole : (messages came).0 ≡ told ++ now = ap (λ (t : List Message × Remainder). t.0) is in
     let rest : rest_of (with_piece stream piece) ≡ left = ap (λ (t : List Message). (messages_within (length t) came).1) whole ∙ left_within came (told ++ now) left all in (
@@ -49,7 +50,7 @@ piece_begun : (stream : Stream) (piece : List ℕ) (now : List Message) (left : 
     → (later : List Message) × (completed stream piece ≡ now ++ later)
 piece_begun stream piece now left (told, tells, count) more =
     let came : Remainder = with_more stream.came piece in
-    let all : TellsMessages came (told ++ now) left = tells_append came told (with_more (rest_of stream) piece) now left (tells_more stream.came told (rest_of stream) piece tells) more in
+    let all : TellsMessages came (told ++ now) left = tells-append came told (with_more (rest_of stream) piece) now left (tells-more stream.came told (rest_of stream) piece tells) more in
     let is = told_of came (told ++ now) left all in
     let later : List Message = (messages_within is.0 left).0 in
     let whole : (messages came).0 ≡ told ++ (now ++ later) = ap (λ (t : List Message × Remainder). t.0) is.1 ∙ append_assoc told now later in

@@ -1,26 +1,12 @@
 -- The messages of a stream, and of what it is with more.
-use Rattle.std.proofs.Common.{◌≡◌, ℕ, zero, suc, ◌+◌, ◌-◌, ◌<◌, ◌≤◌, List, [], ◌∷◌, ◌++◌, length, Option, Some, None, Ok, Err, refl, sym, ap, subst, ◌∙◌, arith}
+use Rattle.std.proofs.Common.{◌≡◌, ℕ, zero, suc, ◌+◌, ◌-◌, ◌<◌, ◌≤◌, List, [], ◌∷◌, ◌++◌, length, Option, Some, None, Ok, Err, refl, sym, ap, ◌∙◌, arith}
 use Rattle.std.proofs.lemmas.List.{append-nil}
 use Rattle.encoding.specs.declared.fault.Fault.TheVariants.{Short, Trailing, OutOfRange}
 use Rattle.encoding.specs.Reading.{Reading}
 use Rattle.wire.specs.Frames.{Frame, read_frame}
 use Rattle.wire.specs.Streams.{Remainder, Message, Rest, Failed, Whole, BadFrame, after_first, first_by, first_message, held_size, messages, messages_within, with_more, IsSpent, TakesMessage, TellsMessages}
-use Rattle.hub.proofs.Fronts.{bad_more, frame_less, frame_more}
-
--- what is taken is taken also where more follows
-pub takes_more : (held : Remainder) (message : Message) (after : Remainder) (more : List ℕ) → TakesMessage held message after → TakesMessage (with_more held more) message (with_more after more)
-takes_more (Rest bytes) (Whole frame) after more (left, e, same) = (left ++ more, frame_more bytes more frame left e, ap (λ (x : Remainder). with_more x more) same)
-takes_more (Rest bytes) BadFrame after more (e, same) = (bad_more bytes more e, ap (λ (x : Remainder). with_more x more) same)
-takes_more Failed message after more taken = absurd taken
-
-pub tells_more : (held : Remainder) (told : List Message) (after : Remainder) (more : List ℕ) → TellsMessages held told after → TellsMessages (with_more held more) told (with_more after more)
-tells_more held [] after more e = ap (λ (x : Remainder). with_more x more) e
-tells_more held (message ∷ rest) after more (between, one, later) =
-    (with_more between more, takes_more held message between more one, tells_more between rest after more later)
-
-pub tells_append : (held : Remainder) (told : List Message) (between : Remainder) (more : List Message) (after : Remainder) → TellsMessages held told between → TellsMessages between more after → TellsMessages held (told ++ more) after
-tells_append held [] between more after e later = subst (λ (x : Remainder). TellsMessages x more after) e later
-tells_append held (message ∷ rest) between more after (next, one, two) later = (next, one, tells_append next rest between more after two later)
+use Rattle.wire.proofs.Fronts.{frame_less}
+use Rattle.wire.proofs.Streams.{tells-more}
 
 -- a message takes of what is held
 takes_less : (held : Remainder) (message : Message) (after : Remainder) → TakesMessage held message after → held_size after < held_size held
@@ -92,5 +78,5 @@ pub messages_more : (held : Remainder) (more : List ℕ) → (later : List Messa
 messages_more held more =
     let told : List Message = (messages held).0 in
     let left : Remainder = (messages held).1 in
-    let t = told_of (with_more held more) told (with_more left more) (tells_more held told left more (within_tells (held_size held) held)) in
+    let t = told_of (with_more held more) told (with_more left more) (tells-more held told left more (within_tells (held_size held) held)) in
     ((messages_within t.0 (with_more left more)).0, ap (λ (all : List Message × Remainder). all.0) t.1)

@@ -16,13 +16,13 @@ use Rattle.book.specs.Books.{Book}
 use Rattle.std.specs.List.{AllByRecursion}
 use Rattle.book.specs.Replays.{after_answer, replayed, replayed_all, with_salt_of, with_salts_of}
 use Rattle.book.specs.Shows.{Provider, index_of}
-use Rattle.book.specs.Turns.{Declines, KeepsOne, Run, Turn as Turns}
+use Rattle.book.specs.Turns.{Declines, KeepsOne, Turn as Turns}
 use Rattle.book.proofs.Stepping.{stepped}
 use Rattle.journal.specs.declared.beginning.Beginning.{Beginning}
 use Rattle.journal.specs.Journals.{KeepsRecord, LosesRecord, JournalState}
 use Rattle.journal.specs.Openings.{IsCut, OpensTo, RecordsLead}
 use Rattle.journal.specs.Records.{record_bytes, records_bytes, start_bytes, IsLater, IsRecord, IsStart}
-use Rattle.journal.specs.Reopened.{begun, with_stream, OpensInto}
+use Rattle.journal.specs.Reopened.{begun, with_stream, KeepsRun, OpensInto}
 use Rattle.journal.proofs.Cuts.{longer, parted}
 use Rattle.journal.proofs.Replaying.{leads_nowhere, leads_on, nothing_cut}
 use Rattle.journal.proofs.Settled.{led}
@@ -93,9 +93,6 @@ leads_join by (kept ∷ records) before middle after bytes more rest is all lead
     all.0 one.1 later
 
 module _ (provider : Provider) {W : Type 0} (contents : W → Option (List ℕ)) where
-  abbrev Ran : Book → JournalState W → List Operation → List Reply → Book → JournalState W → Type 0
-  Ran = Run provider (KeepsRecord contents) (LosesRecord contents)
-
   -- ---- what one command does to the book and the journal
 
   abbrev Stays : Book → JournalState W → Book → JournalState W → Type 0
@@ -141,7 +138,7 @@ module _ (provider : Provider) {W : Type 0} (contents : W → Option (List ℕ))
   broken_turn book middle keeper between asked broken (inr (inr (lost, e, (now, inr h), same))) = (same, h.1)
 
   broken_run : (commands : List Operation) (replies : List Reply) (book after : Book) (keeper keeper_after : JournalState W) → keeper.is_broken ≡ true
-      → Ran book keeper commands replies after keeper_after → Stays book keeper after keeper_after
+      → KeepsRun provider contents book keeper commands replies after keeper_after → Stays book keeper after keeper_after
   broken_run [] [] book after keeper keeper_after broken run = run
   broken_run [] (said ∷ replies) book after keeper keeper_after broken run = absurd run
   broken_run (asked ∷ commands) [] book after keeper keeper_after broken run = absurd run
@@ -156,7 +153,7 @@ module _ (provider : Provider) {W : Type 0} (contents : W → Option (List ℕ))
     -- the bytes are the records of the first so many commands, and one more that was cut short
     abbrev Found : Book → JournalState W → List Operation → List Reply → Book → List ℕ → List ℕ → Type 0
     Found book keeper commands replies after front more = (n : ℕ) × (middle : Book) × (between : JournalState W) × (rest : List ℕ)
-        × Ran book keeper (take n commands) (take n replies) middle between
+        × KeepsRun provider contents book keeper (take n commands) (take n replies) middle between
         × RecordsLead (index_of provider) (with_salts_of other book) front (with_salts_of other middle) rest
         × IsCut record_bytes IsLater rest × (more ≡ [] → middle ≡ after)
 
@@ -229,7 +226,7 @@ module _ (provider : Provider) {W : Type 0} (contents : W → Option (List ℕ))
     by_turn : (book middle after : Book) (keeper between keeper_after : JournalState W) (asked : Operation) (said : Reply) (commands : List Operation) (replies : List Reply) (old : List ℕ)
         → keeper.is_broken ≡ false → contents keeper.writer ≡ Some old
         → Turns provider (KeepsRecord contents) (LosesRecord contents) book keeper asked said middle between
-        → Ran middle between commands replies after keeper_after
+        → KeepsRun provider contents middle between commands replies after keeper_after
         → ((now : List ℕ) → between.is_broken ≡ false → contents between.writer ≡ Some now → Tail middle between commands replies after keeper_after now)
         → Stays book keeper middle between ⊎ (Writes book keeper asked middle between ⊎ Loses book keeper asked middle between)
         → Tail book keeper (asked ∷ commands) (said ∷ replies) after keeper_after old
@@ -256,7 +253,7 @@ module _ (provider : Provider) {W : Type 0} (contents : W → Option (List ℕ))
         absurd (true≢false (sym before ∙ fine))
 
     written : (commands : List Operation) (replies : List Reply) (book after : Book) (keeper keeper_after : JournalState W) (old : List ℕ)
-        → keeper.is_broken ≡ false → contents keeper.writer ≡ Some old → Ran book keeper commands replies after keeper_after → Tail book keeper commands replies after keeper_after old
+        → keeper.is_broken ≡ false → contents keeper.writer ≡ Some old → KeepsRun provider contents book keeper commands replies after keeper_after → Tail book keeper commands replies after keeper_after old
     written [] [] book after keeper keeper_after old fine held run =
         ([], ap (λ (k : JournalState W). contents k.writer) run.1 ∙ held ∙ ap (λ (bytes : List ℕ). Some bytes) (sym (append-nil old)), λ front more e. found_none book keeper [] [] after front more run.0 e)
     written [] (said ∷ replies) book after keeper keeper_after old fine held run = absurd run
@@ -268,7 +265,7 @@ module _ (provider : Provider) {W : Type 0} (contents : W → Option (List ℕ))
 
     -- also where the keeper was broken before
     pub held_tail : (b : Bool) (commands : List Operation) (replies : List Reply) (book after : Book) (keeper keeper_after : JournalState W) (old : List ℕ)
-        → keeper.is_broken ≡ b → contents keeper.writer ≡ Some old → Ran book keeper commands replies after keeper_after → Tail book keeper commands replies after keeper_after old
+        → keeper.is_broken ≡ b → contents keeper.writer ≡ Some old → KeepsRun provider contents book keeper commands replies after keeper_after → Tail book keeper commands replies after keeper_after old
     held_tail false commands replies book after keeper keeper_after old fine held run = written commands replies book after keeper keeper_after old fine held run
     held_tail true commands replies book after keeper keeper_after old broken held run =
         let ends = broken_run commands replies book after keeper keeper_after broken run in (
@@ -284,7 +281,7 @@ module _ (provider : Provider) {W : Type 0} (contents : W → Option (List ℕ))
 
   pub reopened : (beginning : Beginning) (salts later : Stream) (keeper keeper_after : JournalState W) (after : Book) (commands : List Operation) (replies : List Reply) (bytes front more : List ℕ)
       → IsStart beginning → 0 < beginning.epoch → contents keeper.writer ≡ Some (start_bytes beginning)
-      → Ran (begun beginning salts) keeper commands replies after keeper_after
+      → KeepsRun provider contents (begun beginning salts) keeper commands replies after keeper_after
       → contents keeper_after.writer ≡ Some bytes → bytes ≡ front ++ more
       → IsCut start_bytes IsStart front
       ⊎ ((middle : Book) × OpensInto provider contents beginning.signing_key beginning.vuf_key later (begun beginning salts) keeper commands replies front middle × (more ≡ [] → middle ≡ after))
@@ -323,7 +320,7 @@ module _ (provider : Provider) {W : Type 0} (contents : W → Option (List ℕ))
   -- a run that goes on with what a journal held
   pub goes_on : (signing_key vuf_key : List ℕ) (later : Stream) (keeper keeper_after : JournalState W) (book after : Book) (commands : List Operation) (replies : List Reply) (held bytes front more : List ℕ)
       → contents keeper.writer ≡ Some held → OpensTo (index_of provider) signing_key vuf_key later held (with_stream later book) (length held)
-      → Ran book keeper commands replies after keeper_after
+      → KeepsRun provider contents book keeper commands replies after keeper_after
       → contents keeper_after.writer ≡ Some bytes → bytes ≡ front ++ more → length held ≤ length front
       → (middle : Book) × OpensInto provider contents signing_key vuf_key later book keeper commands replies front middle × (more ≡ [] → middle ≡ after)
   goes_on signing_key vuf_key later keeper keeper_after book after commands replies held bytes front more has opens run holds is long =

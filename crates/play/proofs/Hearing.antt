@@ -32,6 +32,7 @@ use Rattle.book.specs.Turns.{Declines, Run, Shows, Turn}
 use Rattle.book.proofs.Growing.{run-grows}
 use Rattle.book.proofs.Members.{first-there, later-there}
 use Rattle.book.proofs.OneRoot.{one-root}
+use Rattle.book.proofs.Running.{last-now, refused-latest}
 use Rattle.book.proofs.Soundness.{IsBefore}
 use Rattle.book.proofs.Stepping.{Does, due_steps, finds, refused_due, stepped}
 use Rattle.book.proofs.Turning.{asked-page}
@@ -184,21 +185,6 @@ module _ (provider : Provider) where
   found-of book after (Edit (Put verb own key)) answer page name held does is = let e = sym does.0 ∙ is in absurd cc
   found-of book after (Edit (ask.Turn epoch _)) answer page name held does is = let e = sym does.0 ∙ is in absurd cc
 
-  -- the last page after a command that was answered so
-  latest-now : (book after : Book) (asked : Operation) (answer : Answer) (said : Reply) → Does book asked answer after → Shows provider after answer said → latest_after book.last.epoch asked said ≡ after.last.epoch
-  latest-now book after (Query question) answer said does shows = ap (λ (b : Book). b.last.epoch) (sym does.1)
-  latest-now book after (Edit (Put verb name key)) answer said does shows = ap (λ (b : Book). b.last.epoch) (sym does.1)
-  latest-now book after (Edit (ask.Turn epoch _)) answer (reply_of.Promised promised) does shows = let e = sym does.0 ∙ shows.3 in absurd cc
-  latest-now book after (Edit (ask.Turn epoch _)) answer (reply_of.Found text) does shows = let e = sym does.0 ∙ shows.4 in absurd cc
-  latest-now book after (Edit (ask.Turn epoch _)) answer (reply_of.Told told_roots) does shows = let e = sym does.0 ∙ shows.1 in absurd cc
-  latest-now book after (Edit (ask.Turn epoch _)) answer (reply_of.Last root) does shows = ap (λ (b : Book). b.last.epoch) (sym does.1)
-  latest-now book after (Edit (ask.Turn epoch _)) answer (reply_of.Refused why) does shows = absurd shows
-
-  refused-latest : (latest : ℕ) (asked : Operation) (why : Refusal) → latest_after latest asked (reply_of.Refused why) ≡ latest
-  refused-latest latest (Query question) why = refl
-  refused-latest latest (Edit (Put verb name key)) why = refl
-  refused-latest latest (Edit (ask.Turn epoch _)) why = refl
-
   -- the line of a reply that shows an answer
   shows-text : (book after : Book) (asked : Operation) (answer : Answer) (said : Reply) (responded : ResponseContent) → AllPairs IsBefore (pages after) → Does book asked answer after → Shows provider after answer said
       → IsResponseOf said responded → AreOfPages book.last.epoch (asked ∷ []) (said ∷ []) → response_text responded ≡ answer_text after answer
@@ -232,7 +218,7 @@ module _ (provider : Provider) where
         record {
           book_after = ap (λ (now : Upshot × Book). now.1) comes;
           line = shows-text book after asked answer said responded up done shows responds of_pages ∙ ap (λ (now : Upshot × Book). upshot_text (answer_text after) now.0) (sym comes);
-          latest = latest-now book after asked answer said done shows;
+          latest = sym (last-now provider book after asked answer said done shows);
         }
 
     -- where a command was granted, it is refused as its step is

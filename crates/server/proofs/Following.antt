@@ -8,7 +8,7 @@ use Rattle.std.specs.Ordering.{nat_cmp}
 use Rattle.std.specs.BTreeMap.{is_at, insert_entry}
 use Rattle.wire.specs.Frames.{Frame}
 use Rattle.wire.specs.Streams.{Remainder, Message, Rest, with_more, IsSpent, TellsMessages}
-use Rattle.wire.proofs.Streams.{nothing_yet}
+use Rattle.wire.proofs.Streams.{nothing_yet, tells-append, tells-more}
 use Rattle.hub.specs.Events.{BySession, Bytes, End, HubState, at_session}
 use Rattle.hub.specs.Exchanges.{Exchange, exchange_messages, replies}
 use Rattle.hub.specs.Happenings.{Answered, DoesUnlessRefused}
@@ -19,7 +19,7 @@ use Rattle.hub.proofs.Outputting.{apart, insert_found, not_here}
 use Rattle.hub.proofs.Owning.{same_is}
 use Rattle.hub.proofs.Running.{told_more}
 use Rattle.hub.proofs.Steps.{exchanges_tell}
-use Rattle.hub.proofs.Streaming.{tells_append, tells_more, told_all}
+use Rattle.hub.proofs.Streaming.{told_all}
 use Rattle.connections.specs.declared.ending.SessionFault.TheVariants as fault
 use Rattle.connections.specs.Histories.{At, Ordered, GoesOn, Syncs, NoneWaits, On, Deed, Comes, Opens, Refuses, Reads, IsOver, IsSilent, Hears, Misses, Lacks, Takes, TakesNone, Fails, Ends, Closes, History, Course, clock, course, done_at}
 use Rattle.connections.specs.Soundness.{Here, IsNew, IsSoundHistory, MayHear}
@@ -231,7 +231,7 @@ module _ {S : Type 0} (answers : S → Frame → List ℕ → S → Type 0) wher
           let same : now ≡ held = (let e : Some now ≡ Some held = sym there ∙ held_there in cc) in
           let more : TellsMessages (with_more held part) (exchange_messages xs) left = subst (λ (h : Remainder). TellsMessages (with_more h part) (exchange_messages xs) left) same (exchanges_tell answers before.service (with_more now part) xs after.service left exchanged) in
           let all_told : TellsMessages (Rest (of.heard ++ part)) (spelled of.heard ++ exchange_messages xs) left =
-          tells_append (Rest (of.heard ++ part)) (spelled of.heard) (with_more held part) (exchange_messages xs) left (tells_more (Rest of.heard) (spelled of.heard) held part tells) more in
+          tells-append (Rest (of.heard ++ part)) (spelled of.heard) (with_more held part) (exchange_messages xs) left (tells-more (Rest of.heard) (spelled of.heard) held part tells) more in
           let spells : spelled (of.heard ++ part) ≡ spelled of.heard ++ exchange_messages xs =
           ap (λ (m : List Message × Remainder). m.0) (told_all (Rest (of.heard ++ part)) (spelled of.heard ++ exchange_messages xs) left all_told spent_left) in
           let (past, own, ys, split, lines_are, before_spells, told_are) = own_lines all other xs of answered well.1.1 in (

@@ -2,8 +2,9 @@
 use Rattle.std.proofs.Common.{◌≡◌, ℕ, ◌≤◌, List, [], ◌∷◌, ◌++◌, length, Option, Some, None, sym, ap, subst, ◌∙◌, arith}
 use Rattle.std.proofs.lemmas.List.{length-append}
 use Rattle.wire.specs.Frames.{Frame}
-use Rattle.wire.specs.Streams.{Remainder, Message, Rest, Failed, Whole, BadFrame, with_more, IsSpent, TakesMessage}
+use Rattle.wire.specs.Streams.{Remainder, Message, with_more, IsSpent, TakesMessage}
 use Rattle.wire.specs.declared.answer.TheConstants.{MAX_ANSWER_LEN}
+use Rattle.wire.proofs.Streams.{spent-takes}
 use Rattle.hub.specs.Events.{Bytes, HubState}
 use Rattle.hub.specs.Exchanges.{Exchange, Exchanges, replies}
 use Rattle.hub.specs.Runs.{lines, Line}
@@ -22,11 +23,6 @@ short_append : (xs ys : List Line) → AreShort (xs ++ ys) → AreShort xs × Ar
 short_append [] ys short = (tt, short)
 short_append (x ∷ xs) ys (one, short) = let more = short_append xs ys short in ((one, more.0), more.1)
 
-spent_takes : (held : Remainder) (message : Message) (after : Remainder) → IsSpent held → TakesMessage held message after → ⊥
-spent_takes (Rest bytes) (Whole frame) after spent (left, read, same) = cc
-spent_takes (Rest bytes) BadFrame after spent (read, same) = cc
-spent_takes Failed message after spent takes = takes
-
 module _ {S : Type 0} (answers : S → Frame → List ℕ → S → Type 0) where
   -- where a message leaves none behind it, there is at most one reply
   one_reply : (before after : S) (held left : Remainder) (place : ℕ) (xs : List Exchange) → Exchanges answers before held xs after left
@@ -34,7 +30,7 @@ module _ {S : Type 0} (answers : S → Frame → List ℕ → S → Type 0) wher
   one_reply before after held left place [] exchanged ends short = omega arith
   one_reply before after held left place (x ∷ []) exchanged ends (one, none) = omega (arith, length-append x.reply [], one)
   one_reply before after held left place (x ∷ y ∷ xs) (middle, between, takes, replied, (next, behind, again, said, more)) ends short =
-      absurd (spent_takes between y.message behind (ends x.message between takes) again)
+      absurd (spent-takes between y.message behind (ends x.message between takes) again)
 
   -- what a session is answered that holds no whole message
   answered_short : (before after : HubState S) (earlier : List Line) (place : ℕ) (part reply : List ℕ) (xs : List Exchange) (there : Option Course) (Time : Type 0) → Here there (λ of. MayHear of part × Time) → Follows answers before earlier place there

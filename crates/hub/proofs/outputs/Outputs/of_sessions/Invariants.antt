@@ -1,7 +1,7 @@
 use Rattle.std.proofs.Common.{◌≡◌, ℕ, []}
 use Rattle.std.specs.Option.{option_map}
+use Rattle.epochs.specs.Histories.{or_else}
 use Rattle.hub.specs.Events.{at_session}
-use Rattle.hub.proofs.Outputting.{or_else}
 use Rattle.hub.proofs.outputs.Outputs.of_sessions.Given as goal
 
 -- an output for each session, now or to come

@@ -102,6 +102,7 @@ frame_less bytes frame left e =
     let t = frame_front bytes (frame, left) e in
     omega (arith, ap length t.1, length-append t.0 left, some_front t.0 frame t.2)
 
+-- bytes that begin with a number of bytes that no frame has do so whatever follows
 pub bad_more : (bytes more : List ℕ) → read_frame bytes ≡ Err OutOfRange → read_frame (bytes ++ more) ≡ Err OutOfRange
 unfolding IsBadSize
 bad_more bytes more e =
