@@ -6,7 +6,7 @@ use thiserror::Error;
 
 /// A record was not kept.
 #[derive(Debug, Drop, Error)]
-#[error("the record was not kept")]
+#[error("{}", Refusal::KeepFailed)]
 pub struct KeepFailed;
 
 impl From<KeepFailed> for Refusal {

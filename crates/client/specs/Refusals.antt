@@ -2,18 +2,22 @@
 use Rattle.std.specs.Prelude.{ℕ}
 use Rattle.rootchain.specs.declared.root_refusal.Refusal as chains
 use Rattle.rootchain.specs.declared.root_refusal.Refusal.TheVariants as chain
+use Rattle.rootchain.specs.Refusals.{chain_refusal_number}
 use Rattle.proofs.specs.Refusals.{reply_refusal_number}
 use Rattle.client.specs.declared.client_refusal.Refusal.{Refusal}
 use Rattle.client.specs.declared.client_refusal.Refusal.TheVariants.{Root, Proof, UnknownRoot, RootDiffers, Memory, NoPromise}
 use Rattle.client.specs.declared.client_refusal.RootRefusal.{RootRefusal}
 use Rattle.client.specs.declared.client_refusal.RootRefusal.TheVariants.{Malformed, BadSignature, NotLater, BadLink}
 
--- the numbers of the like refusals of a chain
+-- the like refusal of a chain, and its number
+abbrev pub chain_refusal : RootRefusal → chains.Refusal
+chain_refusal Malformed = chain.Malformed
+chain_refusal BadSignature = chain.BadSignature
+chain_refusal NotLater = chain.NotLater
+chain_refusal BadLink = chain.BadLink
+
 abbrev pub root_number : RootRefusal → ℕ
-root_number Malformed = 1
-root_number BadSignature = 2
-root_number NotLater = 3
-root_number BadLink = 4
+root_number why = chain_refusal_number (chain_refusal why)
 
 -- a refusal of a root or of a reply keeps its own number
 abbrev pub client_refusal_number : Refusal → ℕ

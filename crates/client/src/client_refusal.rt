@@ -26,14 +26,11 @@ pub enum Refusal {
 /// Why a root, a list of roots or a promise is refused: what `rootchain::Refusal` says, but for want of
 /// memory.
 #[derive(Clone, Copy, Debug, PartialEq, Eq, Error)]
+#[error("{}", rootchain::Refusal::from(*self))]
 pub enum RootRefusal {
-    #[error("the bytes are not of the form")]
     Malformed,
-    #[error("the signature does not verify")]
     BadSignature,
-    #[error("the epoch is not above that of the head of the chain")]
     NotLater,
-    #[error("the root does not name the head of the chain as the root before it")]
     BadLink,
 }
 
@@ -44,11 +41,22 @@ impl RootRefusal {
     pub fn number(self) -> u8
         ensures { result ≡ root_number self }
     {
-        match self {
-            RootRefusal::Malformed => 1,
-            RootRefusal::BadSignature => 2,
-            RootRefusal::NotLater => 3,
-            RootRefusal::BadLink => 4,
+        rootchain::Refusal::from(self).number()
+    }
+}
+
+impl From<RootRefusal> for rootchain::Refusal {
+    ghost use Rattle.client.specs.Refusals.{chain_refusal};
+
+    ghost from_gives = { λ given refusal. refusal ≡ chain_refusal given };
+
+    /// The refusal of the same name.
+    fn from(given: RootRefusal) -> Self {
+        match given {
+            RootRefusal::Malformed => rootchain::Refusal::Malformed,
+            RootRefusal::BadSignature => rootchain::Refusal::BadSignature,
+            RootRefusal::NotLater => rootchain::Refusal::NotLater,
+            RootRefusal::BadLink => rootchain::Refusal::BadLink,
         }
     }
 }

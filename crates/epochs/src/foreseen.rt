@@ -28,7 +28,7 @@ impl<H: NodeHash> Model for Foreseen<H> {
 
     ghost view = { λ foreseen. foreseen.used };
 
-    ghost invariant = { λ foreseen. foreseen.used < 4 → foreseen.digests ≡ map H.digest_of foreseen.texts };
+    ghost invariant = { λ foreseen. foreseen.used < AT_ONCE → foreseen.digests ≡ map H.digest_of foreseen.texts };
 }
 
 impl<H: NodeHash> Foreseen<H> {

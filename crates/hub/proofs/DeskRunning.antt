@@ -9,7 +9,7 @@ use Rattle.book.specs.Shows.{Provider}
 use Rattle.book.specs.Turns.{Run}
 use Rattle.epochs.specs.DirectoryStates.{DirectoryState, book, provider, HasKeysOf}
 use Rattle.wire.specs.Streams.{Message, Whole, BadFrame}
-use Rattle.hub.specs.Desks.{command, Commanded, DeskState, DeskAnswers}
+use Rattle.hub.specs.Desks.{command, TakesTurn, DeskState, DeskAnswers}
 use Rattle.hub.specs.DeskRuns.{IsTurnedAway, Reaches, ShowReplies}
 use Rattle.hub.specs.Exchanges.{refused_frame, Replies}
 use Rattle.hub.specs.Runs.{Line, AllAnswered}
@@ -37,7 +37,7 @@ module _ {R K : Type 0} (digest_of : List ℕ → List ℕ) (value_of signature_
 
   -- a message that does
   reached : (before middle after : DeskState R K) (line : Line) (more : List Line) (asked : Operation) → Reaches before.token line.message asked
-      → Commanded digest_of value_of signature_of stream kept failed before (Some asked) line.reply middle → Shown middle more after → Shown before (line ∷ more) after
+      → TakesTurn digest_of value_of signature_of stream kept failed before (Some asked) line.reply middle → Shown middle more after → Shown before (line ∷ more) after
   reached before middle after line more asked asks (told, turn, says, keys, token) (commands, replies, shows, run, keys_after, token_after) = (
     asked ∷ commands,
     told ∷ replies,
@@ -64,7 +64,7 @@ module _ {R K : Type 0} (digest_of : List ℕ → List ℕ) (value_of signature_
       line : Line
       line = record { session = session; message = Whole frame; reply = reply }
 
-      by_command : (asked : Option Operation) → command before.token requested ≡ asked → Commanded digest_of value_of signature_of stream kept failed before asked reply middle → Shown before (line ∷ more) after
+      by_command : (asked : Option Operation) → command before.token requested ≡ asked → TakesTurn digest_of value_of signature_of stream kept failed before asked reply middle → Shown before (line ∷ more) after
       by_command None is (says, same) = away before middle after line more _ (inr (requested, read, is, refl)) says same shown
       by_command (Some asked) is commanded = reached before middle after line more asked (requested, read, is) commanded shown
 

@@ -23,7 +23,7 @@ use Rattle.epochs.specs.DirectoryStates.{DirectoryState, HasKeysOf, book as book
 use Rattle.epochs.specs.Replied.{TellsRoots}
 use Rattle.epochs.proofs.Running.{head_reads, reads_turn, tells_reads}
 use Rattle.wire.specs.Frames.{frame_bytes}
-use Rattle.hub.specs.Desks.{reply_frame, Commanded}
+use Rattle.hub.specs.Desks.{reply_frame, TakesTurn}
 
 -- ---- the roots of a history
 
@@ -64,7 +64,7 @@ module _ {R K : Type 0} (digest_of : List ℕ → List ℕ) (value_of signature_
   -- a command is answered, and the frame of the reply is appended
   abbrev Serving : DirectoryState R → K → List ℕ → Option Operation → List ℕ → DirectoryState R → K → List ℕ → Type 0
   Serving directory keeper token asked output directory_after keeper_after grown = (text : List ℕ)
-      × Commanded digest_of value_of signature_of stream kept failed (record { directory = directory; keeper = keeper; token = token }) asked text (record { directory = directory_after; keeper = keeper_after; token = token })
+      × TakesTurn digest_of value_of signature_of stream kept failed (record { directory = directory; keeper = keeper; token = token }) asked text (record { directory = directory_after; keeper = keeper_after; token = token })
       × (grown ≡ output ++ text)
 
   -- a turn

@@ -56,20 +56,20 @@ IsResponseOf (reply.Refused why) responded = responded ≡ response.Refused (boo
 module _ {R K : Type 0} (digest_of : List ℕ → List ℕ) (value_of signature_of : List ℕ → List ℕ → List ℕ) (stream : R → Stream) (kept failed : K → Record → K → Type 0) where
   -- the directory takes the turn of a command, and the frame of its reply is told; whoever closes an epoch
   -- without the token is not the operator
-  abbrev pub Commanded : DeskState R K → Option Operation → List ℕ → DeskState R K → Type 0
-  Commanded before None text after = (text ≡ refused_frame NOT_OPERATOR) × (after ≡ before)
-  Commanded before (Some asked) text after = (told : Reply)
+  abbrev pub TakesTurn : DeskState R K → Option Operation → List ℕ → DeskState R K → Type 0
+  TakesTurn before None text after = (text ≡ refused_frame NOT_OPERATOR) × (after ≡ before)
+  TakesTurn before (Some asked) text after = (told : Reply)
       × Turn (provider digest_of value_of signature_of before.directory) kept failed (book stream before.directory) before.keeper asked told (book stream after.directory) after.keeper
       × (text ≡ frame_bytes (reply_frame told)) × HasKeysOf before.directory after.directory × (after.token ≡ before.token)
 
   -- a request is served
   abbrev pub ServesRequest : DeskState R K → request.RequestContent → List ℕ → DeskState R K → Type 0
-  ServesRequest before requested text after = Commanded before (command before.token requested) text after
+  ServesRequest before requested text after = TakesTurn before (command before.token requested) text after
 
   -- what was read is served, or refused
-  abbrev pub Told : DeskState R K → Result request.RequestContent ReadRefusal → List ℕ → DeskState R K → Type 0
-  Told before (Ok requested) text after = ServesRequest before requested text after
-  Told before (Err refusal) text after = (text ≡ refused_frame (read_refusal_number refusal)) × (after ≡ before)
+  abbrev pub TellsRead : DeskState R K → Result request.RequestContent ReadRefusal → List ℕ → DeskState R K → Type 0
+  TellsRead before (Ok requested) text after = ServesRequest before requested text after
+  TellsRead before (Err refusal) text after = (text ≡ refused_frame (read_refusal_number refusal)) × (after ≡ before)
 
   abbrev pub DeskAnswers : DeskState R K → Frame → List ℕ → DeskState R K → Type 0
-  DeskAnswers before frame text after = (read : Result request.RequestContent ReadRefusal) × ReadsContent frame.kind frame.body read × Told before read text after
+  DeskAnswers before frame text after = (read : Result request.RequestContent ReadRefusal) × ReadsContent frame.kind frame.body read × TellsRead before read text after

@@ -1,5 +1,5 @@
 -- What a line of a script says (the form is this directory's own), and what is seen of one that was read.
-use Rattle.std.specs.Prelude.{ℕ, ◌≤◌, ◌^◌, ◌-◌, ◌==◌, ◌&&◌, nat_le, if◌then◌else◌, List, [], ◌∷◌, drop, Option, Some, None, codes, decimal, option_and_then, replicate, ⊤}
+use Rattle.std.specs.Prelude.{ℕ, ◌≤◌, ◌^◌, ◌-◌, ◌==◌, ◌&&◌, nat_le, if◌then◌else◌, List, [], ◌∷◌, Option, Some, None, codes, decimal, option_and_then, replicate, ⊤}
 use Rattle.std.specs.Int.NonZero.{non_zero_u32_get}
 use Rattle.std.specs.List.{slice_split}
 use Rattle.std.specs.Str.{byte, bytes_eq}
@@ -94,7 +94,15 @@ watching name key = if has_length_within MIN_LEN MAX_NAME_LEN name && has_length
 
 -- ---- lines
 
--- the first word of each command, and what the words behind it say
+-- the first word of each command that asks nothing, and what the words behind it say
+abbrev pub other_verbs : List (List ℕ × (List (List ℕ) → Option ScriptLine))
+other_verbs =
+    (codes "watch", with_two_words hex_word hex_word watching)
+    ∷ (codes "bytes", with_two_words session_word hex_word (λ session piece. Some (Piece session piece)))
+    ∷ (codes "end", with_one_word session_word (λ session. Some (End session)))
+    ∷ []
+
+-- the same of each command
 abbrev pub verbs : List (List ℕ × (List (List ℕ) → Option ScriptLine))
 verbs =
     (codes "register", with_two_words hex_word hex_word (λ name key. asking (Put Register name key)))
@@ -105,10 +113,7 @@ verbs =
     ∷ (codes "head", with_no_word (asking (Query Head)))
     ∷ (codes "lookup", with_two_words hex_word epoch_word (λ name epoch. asking (Query (Lookup name epoch))))
     ∷ (codes "history", with_two_words epoch_word count_word (λ from count. asking (Query (History from count))))
-    ∷ (codes "watch", with_two_words hex_word hex_word watching)
-    ∷ (codes "bytes", with_two_words session_word hex_word (λ session piece. Some (Piece session piece)))
-    ∷ (codes "end", with_one_word session_word (λ session. Some (End session)))
-    ∷ []
+    ∷ other_verbs
 
 -- the command of these that the verb names, with the words behind it
 abbrev pub said_among : List (List ℕ × (List (List ℕ) → Option ScriptLine)) → List ℕ → List (List ℕ) → Option ScriptLine
@@ -178,7 +183,3 @@ two_of (_ ∷ _ ∷ _ ∷ _) = None
 -- the line that asks it
 abbrev pub asked_line : AskMade → ScriptLine
 asked_line asked = Ask (ask_seen asked)
-
--- the commands that ask nothing, behind those that do
-abbrev pub other_verbs : List (List ℕ × (List (List ℕ) → Option ScriptLine))
-other_verbs = drop 8 verbs

@@ -7,6 +7,7 @@ use Rattle.encoding.proofs.Fields.{bytes_field, numbers_field, one_spelling}
 use Rattle.encoding.proofs.FieldsOf.{allowed, behind, both, renamed}
 use Rattle.rootchain.specs.declared.body.Body.{Body}
 use Rattle.rootchain.specs.Bodies.{body_bytes, body_head, body_of, IsSized}
+use Rattle.rootchain.specs.Readable.{body_parts}
 
 -- the reader of all bodies
 abbrev read_sized : List ℕ → Reading Body
@@ -22,10 +23,7 @@ sized_field =
     (allowed
     (λ b h. let p = h.0 in (p.0, p.1.0, p.1.1.0, p.1.1.1.0, p.1.1.1.1.0, p.1.1.1.1.1))
     (λ b h. ((h.0, (h.1, (h.2, (h.3, (h.4, h.5))))), refl))
-    (renamed body_of parts_of (λ _. refl) (both epoch (both epoch (both hash (both hash (both hash hash)))))))
-  where
-    parts_of : Body → ℕ × (ℕ × (List ℕ × (List ℕ × (List ℕ × List ℕ))))
-    parts_of body = (body.epoch, (body.previous_epoch, (body.root, (body.previous_hash, (body.nonce, body.vuf_key)))))
+    (renamed body_of body_parts (λ _. refl) (both epoch (both epoch (both hash (both hash (both hash hash)))))))
 
 pub same_text : (one other : Body) → IsSized one → IsSized other → body_bytes one ≡ body_bytes other → one ≡ other
 same_text one other p q e = (one_spelling read_sized body_bytes IsSized sized_field one other [] [] p q (ap (λ text. text ++ []) e)).0

@@ -41,6 +41,9 @@ well_tested body well = both_true (lt-ltb body.previous_epoch body.epoch well.0)
     by true none = rw (well.1 (eqb-true body.previous_epoch 0 none)) (nat_list_eq_equiv.refl (replicate 32 0))
     by false some = refl
 
+abbrev pub body_parts : Body → ℕ × (ℕ × (List ℕ × (List ℕ × (List ℕ × List ℕ))))
+body_parts body = (body.epoch, (body.previous_epoch, (body.root, (body.previous_hash, (body.nonce, body.vuf_key)))))
+
 pub body_field : IsField read_body body_bytes IsBody
 unfolding read_body
 body_field =
@@ -50,10 +53,7 @@ body_field =
     (allowed
     (λ b h. let p = h.0.0 in (tested_well b h.1, p.0, p.1.0, p.1.1.0, p.1.1.1.0, p.1.1.1.1.0, p.1.1.1.1.1))
     (λ b h. (((h.1, (h.2, (h.3, (h.4, (h.5, h.6))))), refl), well_tested b h.0))
-    (tested is_well_formed (renamed body_of parts_of (λ _. refl) (both epoch (both epoch (both hash (both hash (both hash hash))))))))
-  where
-    parts_of : Body → ℕ × (ℕ × (List ℕ × (List ℕ × (List ℕ × List ℕ))))
-    parts_of body = (body.epoch, (body.previous_epoch, (body.root, (body.previous_hash, (body.nonce, body.vuf_key)))))
+    (tested is_well_formed (renamed body_of body_parts (λ _. refl) (both epoch (both epoch (both hash (both hash (both hash hash))))))))
 
 signature_field : IsField (read_counted MIN_LEN MAX_SMALL_LEN) counted_bytes IsSmall
 signature_field = counted_field MIN_LEN MAX_SMALL_LEN (lit≤ tt)

@@ -44,7 +44,7 @@ where
         b"feed" => feeds::begin(case, &mut clients.feed),
         b"done" => feeds::done(case, &clients.feed),
         b"from" => match &mut clients.client {
-            Some(client) => feeds::update_client(case, by, &mut clients.feed, client),
+            Some(client) => feeds::update(case, by, &mut clients.feed, client),
             None => case.spoil(),
         },
         b"reconcile" => {

@@ -24,81 +24,59 @@ pub(crate) fn done(case: &mut Case<'_>, feed: &RootFeed) {
     case.say_truth(feed.done());
 }
 
-/// `from SIZE BYTES` of a client: the bytes in pieces of that size, or in one if it is 0, up to the
-/// first that is refused.
-pub(crate) fn update_client<H, V>(
-    case: &mut Case<'_>,
-    by: &mut Functions<H, V>,
-    feed: &mut RootFeed,
-    client: &mut Client<H, V, KeyedSign>,
-)
+/// Who follows a provider.
+pub(crate) trait Follow<H, V> {
+    /// Takes a piece of a list of roots.
+    fn follow(&mut self, by: &mut Functions<H, V>, feed: &mut RootFeed, piece: &[u8]) -> Result<(), Refusal>;
+}
+
+impl<H, V> Follow<H, V> for Client<H, V, KeyedSign>
 where
     H: NodeHash + Drop,
     V: VufCheck + Drop,
 {
+    fn follow(&mut self, by: &mut Functions<H, V>, feed: &mut RootFeed, piece: &[u8]) -> Result<(), Refusal> {
+        self.update_from(&mut by.hash, &by.verifier, feed, piece)
+    }
+}
+
+impl<H, V> Follow<H, V> for Monitor<H, V, KeyedSign>
+where
+    H: NodeHash + Drop,
+    V: VufCheck + Drop,
+{
+    fn follow(&mut self, by: &mut Functions<H, V>, feed: &mut RootFeed, piece: &[u8]) -> Result<(), Refusal> {
+        self.update_from(&mut by.hash, &by.verifier, feed, piece)
+    }
+}
+
+/// `from SIZE BYTES`: the bytes in pieces of that size, or in one if it is 0, up to the first that is refused.
+pub(crate) fn update<H, V, F: Follow<H, V>>(
+    case: &mut Case<'_>,
+    by: &mut Functions<H, V>,
+    feed: &mut RootFeed,
+    follower: &mut F,
+) {
     let size = case.number_to(MAX_PIECE);
     let bytes = case.bytes();
     if case.is_spoiled() {
         return;
     }
-    tell_done(case, client_in_pieces(by, feed, client, size, bytes));
+    tell_done(case, in_pieces(by, feed, follower, size, bytes));
 }
 
-fn client_in_pieces<H, V>(
+fn in_pieces<H, V, F: Follow<H, V>>(
     by: &mut Functions<H, V>,
     feed: &mut RootFeed,
-    client: &mut Client<H, V, KeyedSign>,
+    follower: &mut F,
     size: usize,
     bytes: &[u8],
-) -> Result<(), Refusal>
-where
-    H: NodeHash + Drop,
-    V: VufCheck + Drop,
-{
+) -> Result<(), Refusal> {
     if size == 0 {
-        return client.update_from(&mut by.hash, &by.verifier, feed, bytes);
+        return follower.follow(by, feed, bytes);
     }
     for piece in bytes.chunks(size) {
-        client.update_from(&mut by.hash, &by.verifier, feed, piece)?;
-    }
-    Ok(())
-}
-
-/// `from SIZE BYTES` of a monitor, as of a client.
-pub(crate) fn update_monitor<H, V>(
-    case: &mut Case<'_>,
-    by: &mut Functions<H, V>,
-    feed: &mut RootFeed,
-    monitor: &mut Monitor<H, V, KeyedSign>,
-)
-where
-    H: NodeHash + Drop,
-    V: VufCheck + Drop,
-{
-    let size = case.number_to(MAX_PIECE);
-    let bytes = case.bytes();
-    if case.is_spoiled() {
-        return;
-    }
-    tell_done(case, monitor_in_pieces(by, feed, monitor, size, bytes));
-}
-
-fn monitor_in_pieces<H, V>(
-    by: &mut Functions<H, V>,
-    feed: &mut RootFeed,
-    monitor: &mut Monitor<H, V, KeyedSign>,
-    size: usize,
-    bytes: &[u8],
-) -> Result<(), Refusal>
-where
-    H: NodeHash + Drop,
-    V: VufCheck + Drop,
-{
-    if size == 0 {
-        return monitor.update_from(&mut by.hash, &by.verifier, feed, bytes);
-    }
-    for piece in bytes.chunks(size) {
-        monitor.update_from(&mut by.hash, &by.verifier, feed, piece)?;
+        follower.follow(by, feed, piece)?;
     }
     Ok(())
 }

@@ -31,7 +31,7 @@ pub(crate) fn answer(
         }
         b"from" => match kept {
             Some(monitor) => {
-                feeds::update_monitor(case, &mut keyed(), &mut clients.feed, monitor)
+                feeds::update(case, &mut keyed(), &mut clients.feed, monitor)
             }
             None => case.spoil(),
         },
