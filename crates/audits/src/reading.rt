@@ -1,3 +1,5 @@
+// Evidence is read in steps: bytes to a value of JSON, its three members to bytes, and these, as their kind
+// says, to roots, a promise and a proof. Each step finds what its definition says, or the file is no evidence.
 ghost use Rattle.std.specs.Prelude.{◌≡◌, ◌↔◌, option_map, IsTrue};
 ghost use Rattle.serde_json.specs.View.{view};
 ghost use Rattle.audits.specs.Files.{text_at, Finds, HasHex, HasThree, IsEvidenceOf, IsFileOf, IsJson, ReadsAgain};

@@ -23,6 +23,7 @@ pub(crate) struct Foreseen<H: NodeHash> {
 
 impl<H: NodeHash> Model for Foreseen<H> {
     ghost use Rattle.std.specs.Prelude.{◌≡◌, ℕ, ◌<◌, map};
+    ghost use Rattle.epochs.specs.declared.foreseen.TheConstants.{AT_ONCE};
 
     ghost Value = { ℕ };
 

@@ -12,7 +12,7 @@ ghost use Rattle.epochs.specs.Versions.{AllBefore, AreHistories, in_order, versi
 
 use crate::address::Address;
 use crate::foreseen::Foreseen;
-use crate::held::{KeyChange, change_at};
+use crate::key_change::{KeyChange, change_at};
 use crate::history::{History, Version};
 use crate::seeded::Seeded;
 use book::{Keeper, Record, Refusal};

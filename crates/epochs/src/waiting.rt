@@ -10,7 +10,7 @@ ghost use Rattle.epochs.specs.Versions.{AllBefore, in_order, versions_of};
 
 use crate::address::Address;
 use crate::foreseen::Foreseen;
-use crate::held::KeyChange;
+use crate::key_change::KeyChange;
 use crate::history::Version;
 use crate::names::Names;
 use crate::seeded::Seeded;

@@ -1,6 +1,6 @@
 -- The records: how they are written (the forms are this directory's own), and how they are read from the front of
 -- bytes. A number has its highest byte first.
-use Rattle.std.specs.Prelude.{ℕ, ◌<◌, ◌^◌, ◌==◌, nat_le, if◌then◌else◌, List, [], ◌∷◌, ◌++◌, Some, None, Err, flat_map}
+use Rattle.std.specs.Prelude.{ℕ, ◌<◌, ◌^◌, ◌/◌, ◌==◌, nat_le, if◌then◌else◌, List, [], ◌∷◌, ◌++◌, Some, None, Err, flat_map}
 use Rattle.byteorder.specs.Endian.{big_bytes}
 use Rattle.encoding.specs.Bytes.{Is32Bytes}
 use Rattle.encoding.specs.Forms.{counted_bytes}
@@ -90,7 +90,7 @@ read_start = read_mark 0x4e (read_mark 1
     (read_as beginning_of (read_both (read_number 8) (read_both (read_bytes 32) (read_both (read_bytes 32) (read_bytes 32))))))
 
 unfoldable pub read_bound : List ℕ → Reading Record
-read_bound = read_as bound_of (read_both read_verb (read_both (read_bytes 32) (read_both (read_up_to 0 (read_counted MIN_LEN MAX_NAME_LEN)) (read_up_to 8 (read_counted MIN_LEN MAX_KEY_DATA_LEN)))))
+read_bound = read_as bound_of (read_both read_verb (read_both (read_bytes 32) (read_both (read_up_to (MAX_NAME_LEN / 256) (read_counted MIN_LEN MAX_NAME_LEN)) (read_up_to (MAX_KEY_DATA_LEN / 256) (read_counted MIN_LEN MAX_KEY_DATA_LEN)))))
 
 abbrev pub turned_of : ℕ → Record
 turned_of epoch = Turned epoch None

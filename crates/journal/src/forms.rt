@@ -5,6 +5,7 @@
 // could mend it.
 ghost use Rattle.std.specs.Prelude.{◌≡◌, ◌/◌, length};
 ghost use Rattle.encoding.specs.Reading.{Gives, read_counted};
+ghost use Rattle.encoding.specs.declared.bounded.TheConstants.{MIN_LEN};
 ghost use Rattle.journal.specs.Records.{later_seen, read_bound, read_later, read_start, read_up_to, read_verb, record_bytes, verb_byte, IsLater, IsRecord};
 
 use crate::beginning::Beginning;
@@ -180,7 +181,7 @@ fn read_verb(cursor: &mut Cursor<'_>) -> Result<Verb, Fault>
 
 /// At least one byte behind their length, whose first byte is at most that of the greatest length.
 fn read_up_to<'a>(cursor: &mut Cursor<'a>, most: usize) -> Result<&'a [u8], Fault>
-    ensures { Gives (λ bytes. bytes.now) result cursor.new (read_up_to (most / 256) (read_counted 1 most) cursor.old) }
+    ensures { Gives (λ bytes. bytes.now) result cursor.new (read_up_to (most / 256) (read_counted MIN_LEN most) cursor.old) }
 {
     match cursor.copied().u8() {
         Ok(first) if usize::from(first) > most / 256 => Err(Fault::OutOfRange),

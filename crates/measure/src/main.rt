@@ -11,7 +11,7 @@ mod changes;
 mod digests;
 mod directory;
 mod feeding;
-mod held;
+mod key_change;
 mod keeping;
 mod looking;
 mod pages;

@@ -1,6 +1,6 @@
 ghost use Rattle.std.specs.Prelude.{◌≡◌};
 
-use crate::RootEvidence;
+use crate::{Refusal, RootEvidence};
 use std::alloc::AllocError;
 use thiserror::Error;
 
@@ -24,7 +24,7 @@ pub enum ListRefusal {
     Evidence(RootEvidence),
 
     /// There is no memory for all roots of the list.
-    #[error("out of memory")]
+    #[error("{}", Refusal::Memory)]
     Memory,
 }
 

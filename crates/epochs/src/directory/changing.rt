@@ -26,7 +26,7 @@ ghost use Rattle.epochs.specs.Replied.{last, promised};
 
 use super::Directory;
 use crate::address::Address;
-use crate::held::KeyChange;
+use crate::key_change::KeyChange;
 use crate::history::Version;
 use crate::signing::{hash_of, next_salt, signed_promise, signed_root};
 use crate::waiting::{let_change_wait, let_wait};

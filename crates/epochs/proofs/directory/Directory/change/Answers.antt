@@ -5,7 +5,7 @@ use Rattle.book.specs.Shows.{index_of}
 use Rattle.commands.specs.declared.edit.Verb.TheVariants.{Change}
 use Rattle.commands.specs.Operations.{Edit, Put}
 use Rattle.epochs.specs.DirectoryStates.{book, provider, DirectoryState}
-use Rattle.epochs.proofs.HeldTurns.{held_turn}
+use Rattle.epochs.proofs.KeyChangeTurns.{held_turn}
 use Rattle.epochs.proofs.directory.Directory.change.Goals as goal
 
 pub returns-clause-turn : goal.returns-clause-turn

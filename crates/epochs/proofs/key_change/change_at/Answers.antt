@@ -5,7 +5,7 @@ use Rattle.epochs.specs.Versions.{AllBefore, in_order}
 use Rattle.epochs.specs.KeyChanges.{IsRefusedSo, refused_before}
 use Rattle.epochs.specs.Histories.{Version}
 use Rattle.epochs.proofs.KeyChanges.{changed_history}
-use Rattle.epochs.proofs.held.change_at.Goals as goal
+use Rattle.epochs.proofs.key_change.change_at.Goals as goal
 
 pub add_at-requires-clause-later : goal.add_at-requires-clause-later
 add_at-requires-clause-later g c =

@@ -3,7 +3,7 @@ use Rattle.std.specs.HashMap.Entry.{map_with_value}
 use Rattle.std.specs.Prelude.{is_some}
 use Rattle.std.specs.declared.collections.hash_map.Entry.TheVariants.{Vacant}
 use Rattle.epochs.proofs.Hashed.{put_in_order, some_in_order}
-use Rattle.epochs.proofs.held.add_at.Goals as goal
+use Rattle.epochs.proofs.key_change.add_at.Goals as goal
 
 pub unreachable-requires : goal.unreachable-requires
 unreachable-requires g c =

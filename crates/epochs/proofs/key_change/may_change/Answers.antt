@@ -1,7 +1,7 @@
 use Rattle.std.proofs.Common.{◌-◌}
 use Rattle.epochs.specs.Histories.{binding_at, waiting}
 use Rattle.epochs.proofs.KeyChanges.{has_pending, lacks_name, may_open}
-use Rattle.epochs.proofs.held.may_change.Goals as goal
+use Rattle.epochs.proofs.key_change.may_change.Goals as goal
 
 pub returns-then-is_none : goal.returns-then-is_none
 returns-then-is_none c =
