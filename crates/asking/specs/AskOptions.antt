@@ -4,7 +4,7 @@ use Rattle.textio.specs.Digits.{hex32, hex32_or_zeros}
 use Rattle.asking.specs.declared.order.AskOrder.{AskOrder}
 
 pub record AskOptions : Type 0 where
-  pub provider : List ℕ
+  pub signing_key : List ℕ
   pub token : Option (List ℕ)
   pub state : Option (List ℕ)
   pub address : List ℕ
@@ -12,7 +12,7 @@ pub record AskOptions : Type 0 where
 
 abbrev pub ask_values : AskOrder → AskOptions
 ask_values order = record {
-  provider = order.provider.now;
+  signing_key = order.signing_key.now;
   token = option_map (λ text. text.now) order.token;
   state = option_map (λ text. text.now) order.state;
   address = order.address.now;
@@ -21,4 +21,4 @@ ask_values order = record {
 
 -- the key and the token, zeros if none is given; none if a text is not 64 hexadecimal digits
 abbrev pub ask_keys_of : AskOptions → Option (List ℕ × List ℕ)
-ask_keys_of asked = option_and_then (λ key. option_map (λ token. (key, token)) (hex32_or_zeros asked.token)) (hex32 asked.provider)
+ask_keys_of asked = option_and_then (λ key. option_map (λ token. (key, token)) (hex32_or_zeros asked.token)) (hex32 asked.signing_key)

@@ -15,35 +15,13 @@ use crate::{AskFault, Said};
 use client::{Client, Refusal};
 use encoding::{Hash32, Name};
 use monitor::Monitor;
-use nodehash::{NodeHash, Sha256Hash};
-use play::Ask;
+use nodehash::NodeHash;
+use play::{Ask, Checks};
 use rootchain::SignedPromise;
-use sigiface::{KeyedSign, Verifier};
+use sigiface::Verifier;
 use std::alloc::Global;
 use std::io::{Read, Write};
-use vrfiface::{KeyedVuf, VufCheck};
-
-/// The functions of those who check: their hash function, and what accepts values and signatures.
-#[derive(Drop)]
-pub struct Checks<H, V, S> {
-    pub hash: H,
-    pub vuf: V,
-    pub verifier: S,
-}
-
-impl Checks<Sha256Hash, KeyedVuf, KeyedSign> {
-    /// SHA-256, and the stand-ins under the provider's key.
-    pub fn keyed(provider: Hash32) -> Self
-        ensures hash { result.hash ≡ 0 }
-        ensures keys { (result.vuf ≡ provider) × (result.verifier ≡ provider) }
-    {
-        Checks {
-            hash: Sha256Hash::new(),
-            vuf: KeyedVuf::new(provider),
-            verifier: KeyedSign::new(provider),
-        }
-    }
-}
+use vrfiface::VufCheck;
 
 /// How far a name was watched in earlier runs.
 #[derive(Drop)]

@@ -32,10 +32,11 @@ mod state;
 mod watching;
 
 pub use ask_fault::AskFault;
-pub use asker::{Asker, Checks};
+pub use asker::Asker;
 pub use checking::hear;
 pub use laws::refusals_have_their_numbers;
 pub use order::{AskKeys, AskOrder};
+pub use play::Checks;
 pub use run::RunEnd;
 pub use running::{ask, ask_over};
 pub use said::Said;

@@ -4,7 +4,7 @@ use encoding::Hash32;
 #[derive(Clone, Copy, Debug)]
 pub struct AskOrder<'a> {
     /// The text of the provider's public key, 64 hexadecimal digits.
-    pub provider: &'a str,
+    pub signing_key: &'a str,
     /// The text of the operator's token, 64 hexadecimal digits; zeros if none is given.
     pub token: Option<&'a str>,
     /// The path of the file in which the chain is kept.
@@ -22,7 +22,7 @@ pub struct AskOrder<'a> {
 #[derive(Clone, Copy, Debug, PartialEq, Eq)]
 pub struct AskKeys {
     /// The provider's public key.
-    pub provider: Hash32,
+    pub signing_key: Hash32,
     /// The operator's token, or zeros.
     pub token: Hash32,
 }

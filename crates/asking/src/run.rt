@@ -185,11 +185,11 @@ where
         H: NodeHash + Drop,
         V: VufCheck + Drop,
         S: Verifier + Drop,
-        ensures runs { OnOk result (report_of (self.old).said ≡ emptied 0 → RunsWhole H.digest_of V.accepted S.verified (ExchangesFrames T.contents T.remaining) keys.now.provider keys.now.token (ask_values order.entry)
+        ensures runs { OnOk result (report_of (self.old).said ≡ emptied 0 → RunsWhole H.digest_of V.accepted S.verified (ExchangesFrames T.contents T.remaining) keys.now.signing_key keys.now.token (ask_values order.entry)
             ((self.old).state ≡ None) stream.old stream.new (R.remaining reader.old) (self.new).said.status (W.contents writer.old) (W.contents writer.new)) }
         ensures faults { IfErr result (StopsOr (IsFaultWith (¬ ((self.old).state ≡ None)) (AsksInput (ask_values order.entry).words)
             (λ number. IfSome (lines_asked (ask_values order.entry).words (R.remaining reader.old)) (λ lines. IsFirstUnasked 1 lines number)))) }
-        ensures part { OnErr result (report_of (self.old).said ≡ emptied 0 → EndsEarly H.digest_of V.accepted S.verified (ExchangesFrames T.contents T.remaining) keys.now.provider keys.now.token (ask_values order.entry)
+        ensures part { OnErr result (report_of (self.old).said ≡ emptied 0 → EndsEarly H.digest_of V.accepted S.verified (ExchangesFrames T.contents T.remaining) keys.now.signing_key keys.now.token (ask_values order.entry)
             ((self.old).state ≡ None) stream.old (R.remaining reader.old) (W.contents writer.old) (HoldsBack (W.contents writer.new) (self.new).said)) }
         ensures unread { ¬ AsksInput (ask_values order.entry).words → reader.new ≡ reader.old }
         ensures grows { Grows (W.contents writer.old) (W.contents writer.new) }
@@ -218,11 +218,11 @@ where
         H: NodeHash + Drop,
         V: VufCheck + Drop,
         S: Verifier + Drop,
-        ensures begins { IfOk result (λ asker. BeginsAsking H.digest_of V.accepted S.verified (ExchangesFrames T.contents T.remaining) keys.now.provider keys.now.token ((self.old).state ≡ None)
+        ensures begins { IfOk result (λ asker. BeginsAsking H.digest_of V.accepted S.verified (ExchangesFrames T.contents T.remaining) keys.now.signing_key keys.now.token ((self.old).state ≡ None)
             stream.old (background_of asker) asker.client stream.new) }
-        ensures knows { IfOk result (λ asker. (asker.key ≡ keys.now.provider) × (asker.token ≡ keys.now.token) × (asker.monitors.items ≡ [])) }
+        ensures knows { IfOk result (λ asker. (asker.key ≡ keys.now.signing_key) × (asker.token ≡ keys.now.token) × (asker.monitors.items ≡ [])) }
         ensures said { IfOk result (λ asker. report_of (self.new).said ≡ report_of (self.old).said) }
-        ensures none { OnErr result (BeginsNone S.verified (ExchangesFrames T.contents T.remaining) keys.now.provider stream.old (report_of (self.old).said) (report_of (self.new).said)) }
+        ensures none { OnErr result (BeginsNone S.verified (ExchangesFrames T.contents T.remaining) keys.now.signing_key stream.old (report_of (self.old).said) (report_of (self.new).said)) }
         ensures faults { IfErr result (StopsOr (λ fault. ((¬ ((self.old).state ≡ None)) × IsFaultOfState fault) ⊎ (fault ≡ OutOfMemory))) }
         ensures rises { (self.old).said.status ≤ (self.new).said.status }
     {
@@ -243,14 +243,14 @@ where
         V: VufCheck + Drop,
         S: Verifier + Drop,
         ensures none { (self.old).state ≡ None → result ≡ Ok (Err checks) }
-        ensures knows { IfOk result (λ loaded. IfOk loaded (λ asker. (asker.key ≡ keys.now.provider) × (asker.token ≡ keys.now.token) × (asker.monitors.items ≡ []))) }
-        ensures sound { IfOk result (λ loaded. IfOk loaded (λ asker. IsSoundFor H.digest_of V.accepted S.verified keys.now.provider asker.client)) }
+        ensures knows { IfOk result (λ loaded. IfOk loaded (λ asker. (asker.key ≡ keys.now.signing_key) × (asker.token ≡ keys.now.token) × (asker.monitors.items ≡ []))) }
+        ensures sound { IfOk result (λ loaded. IfOk loaded (λ asker. IsSoundFor H.digest_of V.accepted S.verified keys.now.signing_key asker.client)) }
         ensures kept { IfOk result (λ loaded. IfOk loaded (λ asker. KeepsAll asker.client asker.earlier.items)) }
         ensures err { IfErr result IsFaultOfState }
         ensures said { (self.new).said ≡ (self.old).said }
     {
         match self.state.as_mut() {
-            Some(state) => state.load(self.alloc, self.files, checks, keys.provider, keys.token),
+            Some(state) => state.load(self.alloc, self.files, checks, keys.signing_key, keys.token),
             None => Ok(Err(checks)),
         }
     }
@@ -267,10 +267,10 @@ where
         H: NodeHash + Drop,
         V: VufCheck + Drop,
         S: Verifier + Drop,
-        ensures begins { IfOk result (λ asker. StartsAtHead S.verified (ExchangesFrames T.contents T.remaining) keys.now.provider stream.old asker.client stream.new) }
-        ensures knows { IfOk result (λ asker. (background_of asker ≡ new_background keys.now.provider keys.now.token) × (asker.monitors.items ≡ [])) }
+        ensures begins { IfOk result (λ asker. StartsAtHead S.verified (ExchangesFrames T.contents T.remaining) keys.now.signing_key stream.old asker.client stream.new) }
+        ensures knows { IfOk result (λ asker. (background_of asker ≡ new_background keys.now.signing_key keys.now.token) × (asker.monitors.items ≡ [])) }
         ensures said { IfOk result (λ asker. report_of (self.new).said ≡ report_of (self.old).said) }
-        ensures none { OnErr result (BeginsNone S.verified (ExchangesFrames T.contents T.remaining) keys.now.provider stream.old (report_of (self.old).said) (report_of (self.new).said)) }
+        ensures none { OnErr result (BeginsNone S.verified (ExchangesFrames T.contents T.remaining) keys.now.signing_key stream.old (report_of (self.old).said) (report_of (self.new).said)) }
         ensures faults { IfErr result (StopsOr (λ fault. fault ≡ OutOfMemory)) }
         ensures rises { (self.old).said.status ≤ (self.new).said.status }
     {
@@ -279,7 +279,7 @@ where
             self.alloc,
             stream,
             checks,
-            keys.provider,
+            keys.signing_key,
             keys.token,
             said,
         )?;

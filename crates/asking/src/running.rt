@@ -63,13 +63,13 @@ where
 
 /// The provider's public key and the operator's token.
 fn keys_of(order: &AskOrder<'_>) -> Result<AskKeys, ProgramFault>
-    ensures { MatchResult result (λ keys. ask_keys_of (ask_values order.now) ≡ Some (keys.provider, keys.token))
+    ensures { MatchResult result (λ keys. ask_keys_of (ask_values order.now) ≡ Some (keys.signing_key, keys.token))
         (λ fault. (fault ≡ BadHex) × (ask_keys_of (ask_values order.now) ≡ None)) }
 {
-    let provider = option_hex32(order.provider)?;
+    let signing_key = option_hex32(order.signing_key)?;
     let token = hex32_or_zeros(order.token)?;
     Ok(AskKeys {
-        provider: Hash32::new(provider),
+        signing_key: Hash32::new(signing_key),
         token: Hash32::new(token),
     })
 }
@@ -92,9 +92,9 @@ where
     ensures faults { IfErr result (IsRunFault (ask_values order.entry) (R.remaining reader.old)) }
     ensures unread { ¬ AsksInput (ask_values order.entry).words → reader.new ≡ reader.old }
     ensures grows { Grows (W.contents writer.old) (W.contents writer.new) }
-    ensures runs { ask_keys_of (ask_values order.entry) ≡ Some (keys.provider, keys.token)
+    ensures runs { ask_keys_of (ask_values order.entry) ≡ Some (keys.signing_key, keys.token)
         → IfOk result (λ status. AsksOverSocket (ask_values order.entry) (R.remaining reader.old) status (W.contents writer.old) (W.contents writer.new)) }
-    ensures fails { ask_keys_of (ask_values order.entry) ≡ Some (keys.provider, keys.token)
+    ensures fails { ask_keys_of (ask_values order.entry) ≡ Some (keys.signing_key, keys.token)
         → OnErr result (FailsOverSocket (ask_values order.entry) (R.remaining reader.old) (W.contents writer.old) (W.contents writer.new)) }
 {
     let Ok(mut stream) = TcpStream::connect(system, order.address) else {
@@ -109,7 +109,7 @@ where
         alloc,
         system,
         &mut stream,
-        Checks::keyed(keys.provider),
+        Checks::keyed(keys.signing_key),
         keys,
         order,
         reader,
@@ -145,9 +145,9 @@ where
     H: NodeHash + Drop,
     V: VufCheck + Drop,
     S: Verifier + Drop,
-    ensures runs { IfOk result (λ ended. RunsAs H.digest_of V.accepted S.verified (ExchangesFrames T.contents T.remaining) keys.provider keys.token (ask_values order.entry)
+    ensures runs { IfOk result (λ ended. RunsAs H.digest_of V.accepted S.verified (ExchangesFrames T.contents T.remaining) keys.signing_key keys.token (ask_values order.entry)
         (order.entry.state ≡ None) stream.old stream.new (R.remaining reader.old) ended (W.contents writer.old) (W.contents writer.new)) }
-    ensures fails { OnErr result (FailsAs H.digest_of V.accepted S.verified (ExchangesFrames T.contents T.remaining) keys.provider keys.token (ask_values order.entry)
+    ensures fails { OnErr result (FailsAs H.digest_of V.accepted S.verified (ExchangesFrames T.contents T.remaining) keys.signing_key keys.token (ask_values order.entry)
         (order.entry.state ≡ None) stream.old (R.remaining reader.old) (W.contents writer.old) (W.contents writer.new)) }
     ensures faults { IfErr result (IsRunFault (ask_values order.entry) (R.remaining reader.old)) }
     ensures unread { ¬ AsksInput (ask_values order.entry).words → reader.new ≡ reader.old }

@@ -117,10 +117,10 @@ pub fn audit<R: BufRead, W: Write>(
     reader: &mut R,
     writer: &mut W,
 ) -> Result<(), ProgramFault>
-    ensures audits { AuditsText order.entry.key.now (R.remaining reader.old) (R.remaining reader.new) (W.contents writer.old) result (W.contents writer.new) }
+    ensures audits { AuditsText order.entry.signing_key.now (R.remaining reader.old) (R.remaining reader.new) (W.contents writer.old) result (W.contents writer.new) }
     ensures unread { result ≡ Err BadHex → (reader.new ≡ reader.old) × (writer.new ≡ writer.old) }
 {
-    let key = Hash32::new(option_hex32(order.key)?);
+    let key = Hash32::new(option_hex32(order.signing_key)?);
     let verifier = KeyedSign::new(key);
     audit_under(
         alloc,

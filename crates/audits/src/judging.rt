@@ -124,9 +124,9 @@ pub fn judge_at<F: Files, W: Write>(
     order: JudgeOrder<'_>,
     writer: &mut W,
 ) -> Result<Verdict, ProgramFault>
-    ensures judges { JudgesAt order.entry.key.now (W.contents writer.old) result (W.contents writer.new) }
+    ensures judges { JudgesAt order.entry.signing_key.now (W.contents writer.old) result (W.contents writer.new) }
 {
-    let key = Hash32::new(option_hex32(order.key)?);
+    let key = Hash32::new(option_hex32(order.signing_key)?);
     let file = file_bytes(alloc, files, order.file)?;
     judge_keyed(alloc, key, &file, writer)
 }

@@ -2,7 +2,7 @@
 #[derive(Clone, Copy, Debug)]
 pub struct JudgeOrder<'a> {
     /// The text of the provider's public key, 64 hexadecimal digits.
-    pub key: &'a str,
+    pub signing_key: &'a str,
     /// The file's name, as the system takes it.
     pub file: &'a str,
 }
@@ -11,5 +11,5 @@ pub struct JudgeOrder<'a> {
 #[derive(Clone, Copy, Debug)]
 pub struct AuditOrder<'a> {
     /// The text of the provider's public key, 64 hexadecimal digits.
-    pub key: &'a str,
+    pub signing_key: &'a str,
 }

@@ -26,7 +26,7 @@ directory_stays asked = λ i. record asked {
 }
 
 ask_stays : (asked : AskOptions) → ask_with [] asked ≡ asked
-ask_stays asked = λ i. record asked { provider = text_stays asked.provider i; token = option_stays asked.token i }
+ask_stays asked = λ i. record asked { signing_key = text_stays asked.signing_key i; token = option_stays asked.token i }
 
 -- so the options with the text are those that are used
 pub directory_used : (keys : Option Text) (file : Text) (asked : DirectoryOptions) → IsKeysText keys file → Uses directory_with keys asked (directory_with file asked)

@@ -79,7 +79,7 @@ directory_with file asked = record {
 -- the same of what is asked of a directory
 abbrev pub ask_with : Text → AskOptions → AskOptions
 ask_with file asked = record {
-  provider = text_or asked.provider (key_in file (codes "provider"));
+  signing_key = text_or asked.signing_key (key_in file (codes "provider"));
   token = option_or asked.token (key_in file (codes "token"));
   state = asked.state;
   address = asked.address;

@@ -32,8 +32,8 @@ pub data Task : Type 0 where
 abbrev pub values_in : Order → Task
 values_in (Root order) = the_root (tree_values order)
 values_in (Prove order) = the_path order.index.now (tree_values order.root)
-values_in (Audit order) = the_audit order.key.now
-values_in (Judge order) = the_verdict order.key.now order.file.now
+values_in (Audit order) = the_audit order.signing_key.now
+values_in (Judge order) = the_verdict order.signing_key.now order.file.now
 values_in Play = the_script
 values_in (Serve order keys) = the_session (directory_values order) (option_map (λ path. path.now) keys)
 values_in (Listen order keys) = the_connections (directory_values order.directory) (connections_of order) (option_map (λ path. path.now) keys)
@@ -84,7 +84,7 @@ connections_in rows = record {
 -- the values of what is asked of a directory
 abbrev pub asking_in : List Row → AskOptions
 asking_in rows = record {
-  provider = text_in (codes "provider") rows;
+  signing_key = text_in (codes "provider") rows;
   token = first_of (codes "token") rows;
   state = first_of (codes "state") rows;
   address = text_in (codes "address") rows;

@@ -37,7 +37,7 @@ fn judge<F: Files, W: Write>(
     writer: &mut W,
 ) -> Result<u8, ProgramFault>
     ensures { (verdict : Result Verdict ProgramFault) × (result ≡ verdict_outcome verdict)
-        × JudgesAt order.entry.key.now (W.contents writer.old) verdict (W.contents writer.new) }
+        × JudgesAt order.entry.signing_key.now (W.contents writer.old) verdict (W.contents writer.new) }
 {
     match judge_at(alloc, files, order, writer) {
         Ok(verdict) => Ok(verdict.status()),

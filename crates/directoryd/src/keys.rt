@@ -157,7 +157,7 @@ pub(crate) fn ask_with<'a>(order: AskOrder<'a>, file: &'a str) -> AskOrder<'a>
     ensures { ask_values result ≡ ask_with file.now (ask_values order.entry) }
 {
     AskOrder {
-        provider: text_or(order.provider, file, "provider"),
+        signing_key: text_or(order.signing_key, file, "provider"),
         token: option_or(order.token, file, "token"),
         state: order.state,
         address: order.address,

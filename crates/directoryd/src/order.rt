@@ -211,7 +211,7 @@ fn ask_order<'a>(found: &ArgMatches<'a>) -> AskOrder<'a>
     ensures { ask_values result ≡ asking_in (rows_of (found_of found.now)) }
 {
     AskOrder {
-        provider: text(found, "provider"),
+        signing_key: text(found, "provider"),
         token: found.get_str("token"),
         state: found.get_str("state"),
         address: text(found, "address"),
@@ -231,10 +231,10 @@ fn named_order<'a>(name: &str, found: &ArgMatches<'a>) -> Order<'a>
             root: root_order(found),
         }),
         "audit" => Order::Audit(AuditOrder {
-            key: text(found, "key"),
+            signing_key: text(found, "key"),
         }),
         "judge" => Order::Judge(JudgeOrder {
-            key: text(found, "key"),
+            signing_key: text(found, "key"),
             file: text(found, "file"),
         }),
         "play" => Order::Play,

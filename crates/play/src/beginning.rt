@@ -13,7 +13,8 @@ ghost use Rattle.play.specs.Beginnings.{script_index, script_salts, IsScriptStar
 ghost use Rattle.play.specs.Parties.{AreAt};
 ghost use Rattle.play.specs.Played.{opening};
 
-use crate::engine::{Checks, Engine};
+use crate::Checks;
+use crate::engine::Engine;
 use book::Refusal;
 use encoding::Hash32;
 use epochs::Directory;

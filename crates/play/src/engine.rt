@@ -20,6 +20,7 @@ ghost use Rattle.play.specs.Played.{line_played, Stand};
 ghost use Rattle.play.specs.Scripts.{line_seen, LineFits};
 
 use self::wanting::{happen, observe, start};
+use crate::Checks;
 use crate::ask::token;
 use crate::line::Line;
 use auditor::Auditor;
@@ -46,14 +47,6 @@ mod watching;
 
 /// A script's own session: its lines ask through it.
 const OWN_SESSION: u32 = 0;
-
-/// The functions of those who check: their hash function, and what accepts values and signatures.
-#[derive(Drop)]
-pub(crate) struct Checks<H, V, S> {
-    pub(crate) hash: H,
-    pub(crate) vuf: V,
-    pub(crate) verifier: S,
-}
 
 /// The parties of a script.
 #[derive(Drop)]

@@ -12,6 +12,7 @@
 
 mod ask;
 mod beginning;
+mod checks;
 mod engine;
 mod laws;
 mod line;
@@ -22,6 +23,7 @@ mod word;
 mod worked;
 
 pub use ask::Ask;
+pub use checks::Checks;
 pub use laws::{
     answers_are_told, checks_are_told, honest, lines_are_plain, pages_go_on, promises_are_in_time,
     runs_are_heard, sessions_are_heard,

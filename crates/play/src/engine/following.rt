@@ -16,7 +16,8 @@ ghost use Rattle.play.specs.Watchers.{all_through};
 
 use super::asking::body_of;
 use super::wanting::{client_memory, observe};
-use super::{Checks, Engine};
+use super::Engine;
+use crate::Checks;
 use crate::ask::Ask;
 use auditor::Auditor;
 use encoding::Hash32;

@@ -9,7 +9,7 @@ ghost use Rattle.monitor.specs.Expecting.{IsNewPromise};
 ghost use Rattle.monitor.specs.Monitors.{with_change};
 ghost use Rattle.play.specs.Handed.{IsHanded, MayBeHanded};
 
-use super::Checks;
+use crate::Checks;
 use super::wanting::monitor_memory;
 use encoding::KeyData;
 use monitor::Monitor;

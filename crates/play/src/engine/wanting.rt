@@ -15,7 +15,7 @@ ghost use Rattle.client.specs.declared.client_refusal.Refusal.TheVariants as cli
 ghost use Rattle.monitor.specs.declared.monitor_refusal.Refusal.TheVariants as monitors;
 ghost use Rattle.play.specs.Wanting.{IsMemory};
 
-use super::Checks;
+use crate::Checks;
 use auditor::Auditor;
 use client::Client;
 use encoding::Hash32;

@@ -19,7 +19,8 @@ ghost use Rattle.play.specs.Watchers.{ahead, through, Watcher};
 
 use super::asking::body_of;
 use super::wanting::start;
-use super::{Checks, Engine};
+use super::Engine;
+use crate::Checks;
 use crate::ask::Ask;
 use crate::telling::{tell_refusal, tell_step};
 use encoding::{KeyData, Name};

@@ -5,7 +5,7 @@ use Rattle.asking.proofs.running.ask.Goals as goal
 
 pub returns-in-Ok-clause-bad_hex : goal.returns-in-Ok-clause-bad_hex
 returns-in-Ok-clause-bad_hex g c =
-    hex_so c.ask_under.result (ask_values c.args.order) (g.R.Read.remaining c.args.reader.now) (c.in-Ok.keys.provider, c.in-Ok.keys.token) c.in-Ok.ensures c.ask_under.ensures.faults
+    hex_so c.ask_under.result (ask_values c.args.order) (g.R.Read.remaining c.args.reader.now) (c.in-Ok.keys.signing_key, c.in-Ok.keys.token) c.in-Ok.ensures c.ask_under.ensures.faults
 
 pub returns-in-Ok-clause-silent : goal.returns-in-Ok-clause-silent
 returns-in-Ok-clause-silent g c = λ bad. absurd (not_hex c.ask_under.result (ask_values c.args.order) (g.R.Read.remaining c.args.reader.now) c.ask_under.ensures.faults bad)

@@ -13,7 +13,7 @@ returns-in_default-clause-grows g c = grows_not (g.W.Write.contents c.args.write
 
 pub returns-clause-runs : goal.returns-clause-runs
 returns-clause-runs g c = λ are.
-    rw c.status.ensures (over_socket c.args.order c.args.keys.provider c.args.keys.token _ _ (g.R.Read.remaining c.args.reader.now) (g.W.Write.contents c.args.writer.now) (g.W.Write.contents c.ask_over.new.writer)
+    rw c.status.ensures (over_socket c.args.order c.args.keys.signing_key c.args.keys.token _ _ (g.R.Read.remaining c.args.reader.now) (g.W.Write.contents c.args.writer.now) (g.W.Write.contents c.ask_over.new.writer)
     c.in_ok-ended.ended are c.in_ok-ended.ensures.runs)
 
 pub returns-in_err-write_text-clause-fails : goal.returns-in_err-write_text-clause-fails
@@ -21,5 +21,5 @@ returns-in_err-write_text-clause-fails g c = λ are. err_so _ (unwritten (ask_va
 
 pub returns-in_err-ended-clause-fails : goal.returns-in_err-ended-clause-fails
 returns-in_err-ended-clause-fails g c = λ are.
-    err_so _ (fails_over_socket c.args.order c.args.keys.provider c.args.keys.token _ (g.R.Read.remaining c.args.reader.now) (g.W.Write.contents c.args.writer.now) (g.W.Write.contents c.ask_over.new.writer)
+    err_so _ (fails_over_socket c.args.order c.args.keys.signing_key c.args.keys.token _ (g.R.Read.remaining c.args.reader.now) (g.W.Write.contents c.args.writer.now) (g.W.Write.contents c.ask_over.new.writer)
     are c.in_err-ended.ensures.fails)

@@ -26,10 +26,10 @@ returns-in-Some-clause-runs g c =
     (g.W.Write.contents c.prepare.new.writer) (g.W.Write.contents c.ask_line.new.writer) last) c.ask_line.result (g.R.Read.remaining c.args.reader.now) c.args.order c.in-Some.field-0 c.in-Some.is
     (ok_then {Q = AsksLines g.H.NodeHash.digest_of g.V.VufCheck.accepted g.S.Verifier.verified (ExchangesFrames g.T.Write.contents g.T.Read.remaining) (background_of c.prepare.new.asker) (words_line (ask_values c.args.order).words ∷ []) ready
     (g.W.Write.contents c.prepare.new.writer) (g.W.Write.contents c.ask_line.new.writer) last} c.ask_line.result line once) in
-    whole g.H.NodeHash.digest_of g.V.VufCheck.accepted g.S.Verifier.verified (ExchangesFrames g.T.Write.contents g.T.Read.remaining) c.args.keys.now.provider c.args.keys.now.token (ask_values c.args.order) (c.args.self.now.state ≡ None)
+    whole g.H.NodeHash.digest_of g.V.VufCheck.accepted g.S.Verifier.verified (ExchangesFrames g.T.Write.contents g.T.Read.remaining) c.args.keys.now.signing_key c.args.keys.now.token (ask_values c.args.order) (c.args.self.now.state ≡ None)
     c.ask_line.result (background_of c.in_ok-asker.asker) (background_of c.prepare.new.asker) c.args.stream.now start ready last (g.R.Read.remaining c.args.reader.now) (g.W.Write.contents c.args.writer.now)
     (g.W.Write.contents c.prepare.new.writer) (g.W.Write.contents c.ask_line.new.writer) (report_of c.args.self.now.said)
-    (begins_run g.H.NodeHash.digest_of g.V.VufCheck.accepted g.S.Verifier.verified (ExchangesFrames g.T.Write.contents g.T.Read.remaining) c.args.keys.now.provider c.args.keys.now.token (c.args.self.now.state ≡ None) (background_of c.in_ok-asker.asker) c.args.stream.now start (report_of c.args.self.now.said)
+    (begins_run g.H.NodeHash.digest_of g.V.VufCheck.accepted g.S.Verifier.verified (ExchangesFrames g.T.Write.contents g.T.Read.remaining) c.args.keys.now.signing_key c.args.keys.now.token (c.args.self.now.state ≡ None) (background_of c.in_ok-asker.asker) c.args.stream.now start (report_of c.args.self.now.said)
     c.in_ok-asker.ensures.said c.in_ok-asker.ensures.begins c.in_ok-asker.ensures.knows)
     c.in_ok-prepare.ensures.prepares c.in_ok-prepare.ensures.stays asks
 
@@ -40,10 +40,10 @@ returns-clause-runs g c =
     let last = scene c.ask_lines.new.asker c.ask_lines.new.self.said c.ask_lines.new.stream in
     let asks = asks_input (λ lines. AsksLines g.H.NodeHash.digest_of g.V.VufCheck.accepted g.S.Verifier.verified (ExchangesFrames g.T.Write.contents g.T.Read.remaining) (background_of c.prepare.new.asker) lines ready
     (g.W.Write.contents c.prepare.new.writer) (g.W.Write.contents c.ask_lines.new.writer) last) c.ask_lines.result (g.R.Read.remaining c.args.reader.now) c.args.order c.in-None.is c.ask_lines.ensures.asks in
-    whole g.H.NodeHash.digest_of g.V.VufCheck.accepted g.S.Verifier.verified (ExchangesFrames g.T.Write.contents g.T.Read.remaining) c.args.keys.now.provider c.args.keys.now.token (ask_values c.args.order) (c.args.self.now.state ≡ None)
+    whole g.H.NodeHash.digest_of g.V.VufCheck.accepted g.S.Verifier.verified (ExchangesFrames g.T.Write.contents g.T.Read.remaining) c.args.keys.now.signing_key c.args.keys.now.token (ask_values c.args.order) (c.args.self.now.state ≡ None)
     c.ask_lines.result (background_of c.in_ok-asker.asker) (background_of c.prepare.new.asker) c.args.stream.now start ready last (g.R.Read.remaining c.args.reader.now) (g.W.Write.contents c.args.writer.now)
     (g.W.Write.contents c.prepare.new.writer) (g.W.Write.contents c.ask_lines.new.writer) (report_of c.args.self.now.said)
-    (begins_run g.H.NodeHash.digest_of g.V.VufCheck.accepted g.S.Verifier.verified (ExchangesFrames g.T.Write.contents g.T.Read.remaining) c.args.keys.now.provider c.args.keys.now.token (c.args.self.now.state ≡ None) (background_of c.in_ok-asker.asker) c.args.stream.now start (report_of c.args.self.now.said)
+    (begins_run g.H.NodeHash.digest_of g.V.VufCheck.accepted g.S.Verifier.verified (ExchangesFrames g.T.Write.contents g.T.Read.remaining) c.args.keys.now.signing_key c.args.keys.now.token (c.args.self.now.state ≡ None) (background_of c.in_ok-asker.asker) c.args.stream.now start (report_of c.args.self.now.said)
     c.in_ok-asker.ensures.said c.in_ok-asker.ensures.begins c.in_ok-asker.ensures.knows)
     c.in_ok-prepare.ensures.prepares c.in_ok-prepare.ensures.stays asks
 
@@ -82,21 +82,21 @@ pub returns-in_err-asker-clause-grows : goal.returns-in_err-asker-clause-grows
 returns-in_err-asker-clause-grows g c = grows_not (g.W.Write.contents c.args.writer.now)
 
 pub returns-in_err-asker-clause-part : goal.returns-in_err-asker-clause-part
-returns-in_err-asker-clause-part g c = err_so _ (early_none g.H.NodeHash.digest_of g.V.VufCheck.accepted g.S.Verifier.verified (ExchangesFrames g.T.Write.contents g.T.Read.remaining) c.args.keys.now.provider c.args.keys.now.token (ask_values c.args.order) (c.args.self.now.state ≡ None) c.args.stream.now (g.R.Read.remaining c.args.reader.now) (g.W.Write.contents c.args.writer.now) (report_of c.args.self.now.said) c.begin.new.self.said c.in_err-asker.ensures.none)
+returns-in_err-asker-clause-part g c = err_so _ (early_none g.H.NodeHash.digest_of g.V.VufCheck.accepted g.S.Verifier.verified (ExchangesFrames g.T.Write.contents g.T.Read.remaining) c.args.keys.now.signing_key c.args.keys.now.token (ask_values c.args.order) (c.args.self.now.state ≡ None) c.args.stream.now (g.R.Read.remaining c.args.reader.now) (g.W.Write.contents c.args.writer.now) (report_of c.args.self.now.said) c.begin.new.self.said c.in_err-asker.ensures.none)
 
 pub returns-in_err-prepare-clause-part : goal.returns-in_err-prepare-clause-part
 returns-in_err-prepare-clause-part g c =
     let start = scene c.in_ok-asker.asker c.begin.new.self.said c.begin.new.stream in
-    err_so _ (early_preparing g.H.NodeHash.digest_of g.V.VufCheck.accepted g.S.Verifier.verified (ExchangesFrames g.T.Write.contents g.T.Read.remaining) c.args.keys.now.provider c.args.keys.now.token (ask_values c.args.order) (c.args.self.now.state ≡ None) c.args.stream.now (g.R.Read.remaining c.args.reader.now) (g.W.Write.contents c.args.writer.now) (background_of c.in_ok-asker.asker) start (g.W.Write.contents c.prepare.new.writer) c.prepare.new.self.said
-    (report_of c.args.self.now.said) (begins_run g.H.NodeHash.digest_of g.V.VufCheck.accepted g.S.Verifier.verified (ExchangesFrames g.T.Write.contents g.T.Read.remaining) c.args.keys.now.provider c.args.keys.now.token (c.args.self.now.state ≡ None) (background_of c.in_ok-asker.asker) c.args.stream.now start (report_of c.args.self.now.said)
+    err_so _ (early_preparing g.H.NodeHash.digest_of g.V.VufCheck.accepted g.S.Verifier.verified (ExchangesFrames g.T.Write.contents g.T.Read.remaining) c.args.keys.now.signing_key c.args.keys.now.token (ask_values c.args.order) (c.args.self.now.state ≡ None) c.args.stream.now (g.R.Read.remaining c.args.reader.now) (g.W.Write.contents c.args.writer.now) (background_of c.in_ok-asker.asker) start (g.W.Write.contents c.prepare.new.writer) c.prepare.new.self.said
+    (report_of c.args.self.now.said) (begins_run g.H.NodeHash.digest_of g.V.VufCheck.accepted g.S.Verifier.verified (ExchangesFrames g.T.Write.contents g.T.Read.remaining) c.args.keys.now.signing_key c.args.keys.now.token (c.args.self.now.state ≡ None) (background_of c.in_ok-asker.asker) c.args.stream.now start (report_of c.args.self.now.said)
     c.in_ok-asker.ensures.said c.in_ok-asker.ensures.begins c.in_ok-asker.ensures.knows) c.in_err-prepare.ensures.part)
 
 pub returns-in_err-line-in-Some-clause-part : goal.returns-in_err-line-in-Some-clause-part
 returns-in_err-line-in-Some-clause-part g c =
     let start = scene c.in_ok-asker.asker c.begin.new.self.said c.begin.new.stream in
     let ready = scene c.prepare.new.asker c.prepare.new.self.said c.prepare.new.stream in
-    err_so _ (early_asking g.H.NodeHash.digest_of g.V.VufCheck.accepted g.S.Verifier.verified (ExchangesFrames g.T.Write.contents g.T.Read.remaining) c.args.keys.now.provider c.args.keys.now.token (ask_values c.args.order) (c.args.self.now.state ≡ None) c.args.stream.now (g.R.Read.remaining c.args.reader.now) (g.W.Write.contents c.args.writer.now) (background_of c.in_ok-asker.asker) start (g.W.Write.contents c.prepare.new.writer) c.prepare.new.self.said
-    (report_of c.args.self.now.said) (begins_run g.H.NodeHash.digest_of g.V.VufCheck.accepted g.S.Verifier.verified (ExchangesFrames g.T.Write.contents g.T.Read.remaining) c.args.keys.now.provider c.args.keys.now.token (c.args.self.now.state ≡ None) (background_of c.in_ok-asker.asker) c.args.stream.now start (report_of c.args.self.now.said)
+    err_so _ (early_asking g.H.NodeHash.digest_of g.V.VufCheck.accepted g.S.Verifier.verified (ExchangesFrames g.T.Write.contents g.T.Read.remaining) c.args.keys.now.signing_key c.args.keys.now.token (ask_values c.args.order) (c.args.self.now.state ≡ None) c.args.stream.now (g.R.Read.remaining c.args.reader.now) (g.W.Write.contents c.args.writer.now) (background_of c.in_ok-asker.asker) start (g.W.Write.contents c.prepare.new.writer) c.prepare.new.self.said
+    (report_of c.args.self.now.said) (begins_run g.H.NodeHash.digest_of g.V.VufCheck.accepted g.S.Verifier.verified (ExchangesFrames g.T.Write.contents g.T.Read.remaining) c.args.keys.now.signing_key c.args.keys.now.token (c.args.self.now.state ≡ None) (background_of c.in_ok-asker.asker) c.args.stream.now start (report_of c.args.self.now.said)
     c.in_ok-asker.ensures.said c.in_ok-asker.ensures.begins c.in_ok-asker.ensures.knows) (background_of c.prepare.new.asker) ready (g.W.Write.contents c.prepare.new.writer) c.in_ok-prepare.ensures.prepares c.in_ok-prepare.ensures.stays
     (asks_words {E = RunFault} (λ lines. (told : Report) × (next : Option (List ℕ)) × AsksPart g.H.NodeHash.digest_of g.V.VufCheck.accepted g.S.Verifier.verified (ExchangesFrames g.T.Write.contents g.T.Read.remaining) (background_of c.prepare.new.asker) lines ready told (g.W.Write.contents c.prepare.new.writer) next
     × HoldsBack (g.W.Write.contents c.prepare.new.writer) c.prepare.new.self.said told next) (Ok tt) (g.R.Read.remaining c.args.reader.now) c.args.order c.in-Some.field-0 c.in-Some.is
@@ -106,8 +106,8 @@ pub returns-in-Some-clause-part : goal.returns-in-Some-clause-part
 returns-in-Some-clause-part g c =
     let start = scene c.in_ok-asker.asker c.begin.new.self.said c.begin.new.stream in
     let ready = scene c.prepare.new.asker c.prepare.new.self.said c.prepare.new.stream in
-    err_then c.ask_line.result (rw (c.deref.ensures.value, c.in_ok-line-in-Some.ensures) at c.ask_line.ensures.part) (λ found. early_asking g.H.NodeHash.digest_of g.V.VufCheck.accepted g.S.Verifier.verified (ExchangesFrames g.T.Write.contents g.T.Read.remaining) c.args.keys.now.provider c.args.keys.now.token (ask_values c.args.order) (c.args.self.now.state ≡ None) c.args.stream.now (g.R.Read.remaining c.args.reader.now) (g.W.Write.contents c.args.writer.now) (background_of c.in_ok-asker.asker) start (g.W.Write.contents c.ask_line.new.writer) c.ask_line.new.self.said
-    (report_of c.args.self.now.said) (begins_run g.H.NodeHash.digest_of g.V.VufCheck.accepted g.S.Verifier.verified (ExchangesFrames g.T.Write.contents g.T.Read.remaining) c.args.keys.now.provider c.args.keys.now.token (c.args.self.now.state ≡ None) (background_of c.in_ok-asker.asker) c.args.stream.now start (report_of c.args.self.now.said)
+    err_then c.ask_line.result (rw (c.deref.ensures.value, c.in_ok-line-in-Some.ensures) at c.ask_line.ensures.part) (λ found. early_asking g.H.NodeHash.digest_of g.V.VufCheck.accepted g.S.Verifier.verified (ExchangesFrames g.T.Write.contents g.T.Read.remaining) c.args.keys.now.signing_key c.args.keys.now.token (ask_values c.args.order) (c.args.self.now.state ≡ None) c.args.stream.now (g.R.Read.remaining c.args.reader.now) (g.W.Write.contents c.args.writer.now) (background_of c.in_ok-asker.asker) start (g.W.Write.contents c.ask_line.new.writer) c.ask_line.new.self.said
+    (report_of c.args.self.now.said) (begins_run g.H.NodeHash.digest_of g.V.VufCheck.accepted g.S.Verifier.verified (ExchangesFrames g.T.Write.contents g.T.Read.remaining) c.args.keys.now.signing_key c.args.keys.now.token (c.args.self.now.state ≡ None) (background_of c.in_ok-asker.asker) c.args.stream.now start (report_of c.args.self.now.said)
     c.in_ok-asker.ensures.said c.in_ok-asker.ensures.begins c.in_ok-asker.ensures.knows) (background_of c.prepare.new.asker) ready (g.W.Write.contents c.prepare.new.writer) c.in_ok-prepare.ensures.prepares c.in_ok-prepare.ensures.stays
     (asks_words {E = RunFault} (λ lines. (told : Report) × (next : Option (List ℕ)) × AsksPart g.H.NodeHash.digest_of g.V.VufCheck.accepted g.S.Verifier.verified (ExchangesFrames g.T.Write.contents g.T.Read.remaining) (background_of c.prepare.new.asker) lines ready told (g.W.Write.contents c.prepare.new.writer) next
     × HoldsBack (g.W.Write.contents c.ask_line.new.writer) c.ask_line.new.self.said told next) (Ok tt) (g.R.Read.remaining c.args.reader.now) c.args.order c.in-Some.field-0 c.in-Some.is
@@ -117,8 +117,8 @@ pub returns-clause-part : goal.returns-clause-part
 returns-clause-part g c =
     let start = scene c.in_ok-asker.asker c.begin.new.self.said c.begin.new.stream in
     let ready = scene c.prepare.new.asker c.prepare.new.self.said c.prepare.new.stream in
-    err_then c.ask_lines.result c.ask_lines.ensures.part (λ found. early_asking g.H.NodeHash.digest_of g.V.VufCheck.accepted g.S.Verifier.verified (ExchangesFrames g.T.Write.contents g.T.Read.remaining) c.args.keys.now.provider c.args.keys.now.token (ask_values c.args.order) (c.args.self.now.state ≡ None) c.args.stream.now (g.R.Read.remaining c.args.reader.now) (g.W.Write.contents c.args.writer.now) (background_of c.in_ok-asker.asker) start (g.W.Write.contents c.ask_lines.new.writer) c.ask_lines.new.self.said
-    (report_of c.args.self.now.said) (begins_run g.H.NodeHash.digest_of g.V.VufCheck.accepted g.S.Verifier.verified (ExchangesFrames g.T.Write.contents g.T.Read.remaining) c.args.keys.now.provider c.args.keys.now.token (c.args.self.now.state ≡ None) (background_of c.in_ok-asker.asker) c.args.stream.now start (report_of c.args.self.now.said)
+    err_then c.ask_lines.result c.ask_lines.ensures.part (λ found. early_asking g.H.NodeHash.digest_of g.V.VufCheck.accepted g.S.Verifier.verified (ExchangesFrames g.T.Write.contents g.T.Read.remaining) c.args.keys.now.signing_key c.args.keys.now.token (ask_values c.args.order) (c.args.self.now.state ≡ None) c.args.stream.now (g.R.Read.remaining c.args.reader.now) (g.W.Write.contents c.args.writer.now) (background_of c.in_ok-asker.asker) start (g.W.Write.contents c.ask_lines.new.writer) c.ask_lines.new.self.said
+    (report_of c.args.self.now.said) (begins_run g.H.NodeHash.digest_of g.V.VufCheck.accepted g.S.Verifier.verified (ExchangesFrames g.T.Write.contents g.T.Read.remaining) c.args.keys.now.signing_key c.args.keys.now.token (c.args.self.now.state ≡ None) (background_of c.in_ok-asker.asker) c.args.stream.now start (report_of c.args.self.now.said)
     c.in_ok-asker.ensures.said c.in_ok-asker.ensures.begins c.in_ok-asker.ensures.knows) (background_of c.prepare.new.asker) ready (g.W.Write.contents c.prepare.new.writer) c.in_ok-prepare.ensures.prepares c.in_ok-prepare.ensures.stays
     (asks_input {E = RunFault} (λ lines. (told : Report) × (next : Option (List ℕ)) × AsksPart g.H.NodeHash.digest_of g.V.VufCheck.accepted g.S.Verifier.verified (ExchangesFrames g.T.Write.contents g.T.Read.remaining) (background_of c.prepare.new.asker) lines ready told (g.W.Write.contents c.prepare.new.writer) next
     × HoldsBack (g.W.Write.contents c.ask_lines.new.writer) c.ask_lines.new.self.said told next) (Ok tt) (g.R.Read.remaining c.args.reader.now) c.args.order c.in-None.is found))

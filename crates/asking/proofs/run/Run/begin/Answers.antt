@@ -14,7 +14,7 @@ returns-in-Ok-clause-begins g c =
 
 pub returns-in-Err-clause-begins : goal.returns-in-Err-clause-begins
 returns-in-Err-clause-begins g c =
-    begins_at_head g.H.NodeHash.digest_of g.V.VufCheck.accepted g.S.Verifier.verified (ExchangesFrames g.T.Write.contents g.T.Read.remaining) c.args.keys.now.provider c.args.keys.now.token
+    begins_at_head g.H.NodeHash.digest_of g.V.VufCheck.accepted g.S.Verifier.verified (ExchangesFrames g.T.Write.contents g.T.Read.remaining) c.args.keys.now.signing_key c.args.keys.now.token
     (c.args.self.now.state ≡ None) c.begin_at_head.result c.args.stream.now c.begin_at_head.new.stream c.begin_at_head.ensures.begins c.begin_at_head.ensures.knows
 
 pub returns-in-Err-clause-faults : goal.returns-in-Err-clause-faults
