@@ -6,18 +6,15 @@ ghost use Rattle.encoding.specs.Bytes.{IsBytes};
 ghost use Rattle.wire.specs.Frames.{frame_bytes, Frame};
 ghost use Rattle.wire.specs.FrameViews.{frame_seen};
 ghost use Rattle.wire.specs.Requests.{request_frame, request_seen};
+ghost use Rattle.wire.specs.declared.feed.TheConstants.{LENGTH_SIZE};
 ghost use Rattle.asking.specs.Exchanges.{ExchangesFrames, HoldsFrame, IsOneFrame};
 ghost use Rattle.asking.specs.declared.ask_fault.AskFault.TheVariants.{Stopped};
-ghost use Rattle.asking.specs.declared.exchange.TheConstants.{LENGTH};
 
 use crate::AskFault;
 use std::alloc::{AllocError, Global};
 use std::io::{Read, Write};
 use textio::write_text;
-use wire::{FrameView, Front, MAX_FRAME_LEN, Request, front_of};
-
-/// How many bytes tell the length of a frame.
-const LENGTH: usize = 4;
+use wire::{FrameView, Front, LENGTH_SIZE, MAX_FRAME_LEN, Request, front_of};
 
 /// The frame that begins the bytes that came.
 pub(crate) fn frame_in(bytes: &[u8]) -> Result<FrameView<'_>, AskFault>
@@ -31,11 +28,11 @@ pub(crate) fn frame_in(bytes: &[u8]) -> Result<FrameView<'_>, AskFault>
 }
 
 /// Reads the bytes that tell the length of the next frame.
-fn read_length<R: Read>(reader: &mut R) -> Result<[u8; LENGTH], AskFault>
+fn read_length<R: Read>(reader: &mut R) -> Result<[u8; LENGTH_SIZE], AskFault>
     ensures ok { IfOk result (λ length. Consumes (R.remaining reader.old) (R.remaining reader.new) length) }
     ensures err { IfErr result (λ fault. fault ≢ Stopped) }
 {
-    let mut length = [0; LENGTH];
+    let mut length = [0; LENGTH_SIZE];
     if reader.read_exact(&mut length).is_err() {
         return Err(AskFault::NoReply);
     }
@@ -76,9 +73,9 @@ pub(crate) fn read_reply<R: Read>(alloc: Global, reader: &mut R) -> Result<Vec<u
 }
 
 /// The bytes of a length, and those behind it.
-fn joined(alloc: Global, front: [u8; LENGTH], rest: &[u8]) -> Result<Vec<u8>, AllocError>
+fn joined(alloc: Global, front: [u8; LENGTH_SIZE], rest: &[u8]) -> Result<Vec<u8>, AllocError>
     ensures items { IfOk result (λ bytes. bytes.items ≡ front ++ rest.now) }
-    ensures size { length front ≡ LENGTH }
+    ensures size { length front ≡ LENGTH_SIZE }
     ensures front { IsBytes front }
     ensures behind { IsBytes rest.now }
 {

@@ -5,7 +5,8 @@ use Rattle.std.proofs.lemmas.List.{append-nil, length-append}
 use Rattle.std.specs.Prelude.{◌==◌}
 use Rattle.connections.specs.declared.ending.Ending.{Ending}
 use Rattle.connections.specs.declared.ending.SessionFault.TheVariants as fault
-use Rattle.connections.specs.declared.loop_limits.TheConstants.{PIECE_SIZE, FULL_OUTPUT}
+use Rattle.textio.specs.declared.some_bytes.TheConstants.{PIECE_SIZE}
+use Rattle.connections.specs.declared.loop_limits.TheConstants.{FULL_OUTPUT}
 use Rattle.connections.specs.declared.talk.Talk.{Talk}
 use Rattle.connections.specs.Endings.{comers, newcomers}
 use Rattle.connections.specs.Fairness.{IsAttended, IsFull, IsNotDue, IsServed, IsUsed}

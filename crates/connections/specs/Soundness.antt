@@ -2,7 +2,8 @@
 use Rattle.std.specs.Prelude.{◌≡◌, ◌≢◌, ◌⊎◌, ◌+◌, ◌≤◌, ℕ, List, [], ◌∷◌, ◌++◌, length, true, false, Option, Some, None, ⊤}
 use Rattle.connections.specs.declared.ending.Ending.{Ending}
 use Rattle.connections.specs.declared.ending.Ending.TheVariants.{Done, Fault, Idle, Stopped, Unsynced, Memory, Refused}
-use Rattle.connections.specs.declared.loop_limits.TheConstants.{PIECE_SIZE, FULL_OUTPUT, LAST_MILLISECONDS}
+use Rattle.textio.specs.declared.some_bytes.TheConstants.{PIECE_SIZE}
+use Rattle.connections.specs.declared.loop_limits.TheConstants.{FULL_OUTPUT, LAST_MILLISECONDS}
 use Rattle.connections.specs.Histories.{At, Ordered, GoesOn, Syncs, NoneWaits, On, Deed, Comes, Opens, Refuses, Reads, IsOver, IsSilent, Hears, Misses, Lacks, Takes, TakesNone, Fails, Ends, Closes, History, Course, Hearing, Telling, clock, course, stage, stopped, taken_at}
 use Rattle.connections.specs.Pauses.{IsPause}
 use Rattle.connections.specs.Rounds.{reads, IsUnread}

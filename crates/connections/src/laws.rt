@@ -3,7 +3,8 @@ ghost use Rattle.connections.specs.Histories.{History, On, Closes, course};
 ghost use Rattle.connections.specs.Soundness.{Here, IsHeard, IsSoundHistory, IsTaken};
 ghost use Rattle.connections.specs.Laws.{AlwaysWaitWithin, AreAnsweredWithin, AreInOrder};
 ghost use Rattle.connections.specs.declared.ending.Ending.TheVariants.{Done};
-ghost use Rattle.connections.specs.declared.loop_limits.TheConstants.{FULL_OUTPUT, LAST_MILLISECONDS, LONGEST_WAIT, PIECE_SIZE};
+ghost use Rattle.textio.specs.declared.some_bytes.TheConstants.{PIECE_SIZE};
+ghost use Rattle.connections.specs.declared.loop_limits.TheConstants.{FULL_OUTPUT, LAST_MILLISECONDS, LONGEST_WAIT};
 
 /// A read gives at most 4,096 bytes, nothing is read or heard while more than 65,536 bytes of answers wait,
 /// for 5,000 milliseconds after an order to stop answers may still be taken, and a round waits for at most

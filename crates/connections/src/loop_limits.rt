@@ -7,9 +7,6 @@ pub struct Limits {
     pub idle: u64,
 }
 
-/// The most bytes that are read at once.
-pub(crate) const PIECE_SIZE: usize = 4096;
-
 /// Where more bytes than these wait for a connection, nothing is read from it, and its session hears
 /// nothing.
 pub(crate) const FULL_OUTPUT: usize = 65536;

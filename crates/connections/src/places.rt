@@ -7,10 +7,10 @@ ghost use Rattle.connections.specs.Histories.{Hearing, Telling};
 
 use crate::Sessions;
 use crate::connections::Connections;
-use crate::loop_limits::PIECE_SIZE;
 use crate::slots::{Round, Work, hear_at, take_at, tell_at};
 use crate::talk::Talk;
 use std::alloc::{AllocError, Global};
+use textio::PIECE_SIZE;
 
 /// Places of connections.
 #[derive(Drop)]

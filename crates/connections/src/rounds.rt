@@ -11,14 +11,14 @@ ghost use Rattle.connections.specs.Pauses.{pause_of};
 ghost use Rattle.connections.specs.Telling.{TellsLosses, TellsMemory, TellsTimes};
 
 use crate::connections::Connections;
-use crate::loop_limits::{LONGEST_WAIT, PIECE_SIZE};
+use crate::loop_limits::LONGEST_WAIT;
 use crate::places::{Places, are_free, hear_all, take_all, tell_all};
 use crate::slots::{Round, Work};
 use crate::talk::Talk;
 use crate::{Limits, Sessions};
 use std::alloc::Global;
 use std::io::Write;
-use textio::write_text;
+use textio::{PIECE_SIZE, write_text};
 
 /// When a stop was ordered, if one was by now, where this was known before.
 fn stop_by<C: Connections>(connections: &mut C, now: u64, known: Option<u64>) -> Option<u64>

@@ -11,10 +11,10 @@ ghost use Rattle.connections.specs.Telling.{lost_by};
 
 use crate::connections::Connections;
 use crate::ending::ending_of;
-use crate::loop_limits::PIECE_SIZE;
 use crate::talk::Talk;
 use crate::{Ending, Sessions};
 use std::alloc::Global;
+use textio::PIECE_SIZE;
 
 /// What was done in a round.
 #[derive(Clone, Copy, Debug, PartialEq, Eq)]

@@ -12,11 +12,10 @@ ghost use Rattle.connections.specs.declared.loop_limits.TheConstants.{FULL_OUTPU
 
 use crate::connections::{Connections, Reading, Writing};
 use crate::ending::ending_of;
-use crate::loop_limits::{
-    FULL_OUTPUT, KEPT_MILLISECONDS, KEPT_ROOM, LAST_MILLISECONDS, PIECE_SIZE,
-};
+use crate::loop_limits::{FULL_OUTPUT, KEPT_MILLISECONDS, KEPT_ROOM, LAST_MILLISECONDS};
 use crate::{Ending, Sessions};
 use std::alloc::Global;
+use textio::PIECE_SIZE;
 
 /// An open connection, whose session is open.
 #[derive(Drop)]

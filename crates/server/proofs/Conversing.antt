@@ -16,7 +16,7 @@ use Rattle.hub.proofs.Steps.{exchanges_tell}
 use Rattle.hub.proofs.Streaming.{told_all, told_of}
 use Rattle.server.specs.declared.serve_fault.ServeFault.{ServeFault}
 use Rattle.server.specs.declared.serve_fault.ServeFault.TheVariants.{CannotRead, CannotWrite, OutOfMemory, OutOfMemoryAndCannotWrite}
-use Rattle.server.specs.declared.serving.TheConstants.{PIECE_SIZE}
+use Rattle.textio.specs.declared.some_bytes.TheConstants.{PIECE_SIZE}
 use Rattle.server.specs.Pieces.{AnswersPiece}
 use Rattle.server.specs.Serving.{AllReplied, AnswersEach, AnswersFirst, AnswersPart, Serves}
 use Rattle.server.proofs.Opened.{set_twice}

@@ -12,7 +12,7 @@ use Rattle.hub.specs.Exchanges.{Exchange, exchange_messages, replies}
 use Rattle.hub.specs.Runs.{lines, AllAnswered, Line}
 use Rattle.server.specs.declared.serve_fault.ServeFault.{ServeFault}
 use Rattle.server.specs.declared.serve_fault.ServeFault.TheVariants.{CannotRead, CannotWrite, OutOfMemory, OutOfMemoryAndCannotWrite}
-use Rattle.server.specs.declared.serving.TheConstants.{PIECE_SIZE}
+use Rattle.textio.specs.declared.some_bytes.TheConstants.{PIECE_SIZE}
 
 -- the messages that these bytes spell
 abbrev pub spelled : List ℕ → List Message

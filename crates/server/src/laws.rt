@@ -11,7 +11,7 @@ ghost use Rattle.connections.specs.Laws.{AlwaysWaitWithin};
 ghost use Rattle.connections.specs.Soundness.{IsSoundHistory};
 ghost use Rattle.server.specs.Serving.{all_lines, AllServed};
 ghost use Rattle.server.specs.declared.listening.TheConstants.{MILLISECONDS_PER_SECOND};
-ghost use Rattle.server.specs.declared.serving.TheConstants.{PIECE_SIZE};
+ghost use Rattle.textio.specs.declared.some_bytes.TheConstants.{PIECE_SIZE};
 ghost use Rattle.server.specs.declared.streams.TheConstants.{SESSION};
 ghost use Rattle.server.specs.Sessions.{AlwaysAnswered, AlwaysInOrder, AreLines, HubLeads};
 ghost use Rattle.wire.specs.declared.answer.TheConstants.{MAX_ANSWER_LEN};

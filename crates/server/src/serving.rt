@@ -18,11 +18,8 @@ use rand_core::Rng;
 use sigiface::Signer;
 use std::alloc::Global;
 use std::io::{Read, Write};
-use textio::read_some;
+use textio::{PIECE_SIZE, read_some};
 use vrfiface::Vuf;
-
-/// The most bytes that are read at once.
-const PIECE_SIZE: usize = 4096;
 
 /// Hands a piece to its session, and writes the replies. If memory ran out, those to the messages
 /// that were answered are written too.

@@ -27,6 +27,6 @@ pub use digits::{HASH_DIGITS, HASH_SIZE, hex_digits, hex32, hex32_or_zeros, opti
 pub use line::next_line;
 pub use output::write_text;
 pub use program_fault::ProgramFault;
-pub use some_bytes::read_some;
+pub use some_bytes::{PIECE_SIZE, read_some};
 pub use stream_fault::StreamFault;
 pub use whole::{file_bytes, file_fault, read_whole};

@@ -5,6 +5,9 @@ ghost use Rattle.std.specs.Io.KnownBytes.{Consumes, IsAtEnd, Keeps};
 use crate::stream_fault::{StreamFault, after_error};
 use std::io::Read;
 
+/// The most bytes that a program reads at once.
+pub const PIECE_SIZE: usize = 4096;
+
 /// Reads some bytes into the room, and answers how many. A read that a signal interrupted is tried
 /// again. Where there is room, none means the end of the input.
 ///

@@ -11,7 +11,7 @@ use std::alloc::Global;
 use std::marker::Model;
 
 /// The number of bytes of a frame's length.
-const LENGTH_SIZE: usize = 4;
+pub const LENGTH_SIZE: usize = 4;
 
 /// What a feed has next.
 #[derive(Debug, Drop)]

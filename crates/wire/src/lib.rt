@@ -26,7 +26,7 @@ mod response;
 mod writing;
 
 pub use answer::{Answer, MAX_ANSWER_LEN};
-pub use feed::{Feed, Next};
+pub use feed::{Feed, LENGTH_SIZE, Next};
 pub use frame::{FrameView, Front, MAX_FRAME_LEN, front_of};
 pub use laws::{
     answers_are_read, body_spells_one_request, body_spells_one_response, cutting_does_not_matter,

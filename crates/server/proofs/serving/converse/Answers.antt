@@ -1,7 +1,7 @@
 use Rattle.std.proofs.Common.{rules, ◌≡◌, ◌≤◌, [], ℕ, List, length, take, Err, subst}
 use Rattle.std.specs.Io.KnownBytes.{Consumes}
 use Rattle.server.specs.declared.serve_fault.ServeFault.TheVariants.{CannotRead}
-use Rattle.server.specs.declared.serving.TheConstants.{PIECE_SIZE}
+use Rattle.textio.specs.declared.some_bytes.TheConstants.{PIECE_SIZE}
 use Rattle.server.proofs.Conversing.{begun, ended, faulted, gone_on, unread}
 use Rattle.server.proofs.serving.converse.Goals as goal
 
