@@ -12,8 +12,8 @@ ghost use Rattle.epochs.specs.Versions.{AllBefore, AreHistories, in_order, versi
 
 use crate::address::Address;
 use crate::foreseen::Foreseen;
-use crate::key_change::{KeyChange, change_at};
 use crate::history::{History, Version};
+use crate::key_change::{KeyChange, change_at};
 use crate::seeded::Seeded;
 use book::{Keeper, Record, Refusal};
 use encoding::{Hash32, Index, Name};

@@ -10,8 +10,8 @@ ghost use Rattle.epochs.specs.Versions.{AllBefore, in_order, versions_of};
 
 use crate::address::Address;
 use crate::foreseen::Foreseen;
-use crate::key_change::KeyChange;
 use crate::history::Version;
+use crate::key_change::KeyChange;
 use crate::names::Names;
 use crate::seeded::Seeded;
 use book::{Keeper, Record, Refusal};

@@ -100,7 +100,9 @@ impl<'a> Job<'a> {
                 index: case.text(),
                 root: root_order(case),
             })),
-            b"audit" => Some(Job::Audit(AuditOrder { signing_key: case.text() })),
+            b"audit" => Some(Job::Audit(AuditOrder {
+                signing_key: case.text(),
+            })),
             b"judge" => Some(Job::Judge {
                 key: case.text(),
                 file: case.bytes(),

@@ -150,7 +150,9 @@ fn tell_letter(case: &mut Case<'_>, key: &str, file: &[u8]) {
 
 /// `audit KEYTEXT INPUT`
 fn audit_bytes(case: &mut Case<'_>) {
-    let order = AuditOrder { signing_key: case.text() };
+    let order = AuditOrder {
+        signing_key: case.text(),
+    };
     let mut reader = case.bytes();
     let mut written = Vec::new(case.alloc());
     let audited = audit(case.alloc(), order, &mut reader, &mut written);

@@ -27,7 +27,12 @@ pub(crate) fn done(case: &mut Case<'_>, feed: &RootFeed) {
 /// Who follows a provider.
 pub(crate) trait Follow<H, V> {
     /// Takes a piece of a list of roots.
-    fn follow(&mut self, by: &mut Functions<H, V>, feed: &mut RootFeed, piece: &[u8]) -> Result<(), Refusal>;
+    fn follow(
+        &mut self,
+        by: &mut Functions<H, V>,
+        feed: &mut RootFeed,
+        piece: &[u8],
+    ) -> Result<(), Refusal>;
 }
 
 impl<H, V> Follow<H, V> for Client<H, V, KeyedSign>
@@ -35,7 +40,12 @@ where
     H: NodeHash + Drop,
     V: VufCheck + Drop,
 {
-    fn follow(&mut self, by: &mut Functions<H, V>, feed: &mut RootFeed, piece: &[u8]) -> Result<(), Refusal> {
+    fn follow(
+        &mut self,
+        by: &mut Functions<H, V>,
+        feed: &mut RootFeed,
+        piece: &[u8],
+    ) -> Result<(), Refusal> {
         self.update_from(&mut by.hash, &by.verifier, feed, piece)
     }
 }
@@ -45,7 +55,12 @@ where
     H: NodeHash + Drop,
     V: VufCheck + Drop,
 {
-    fn follow(&mut self, by: &mut Functions<H, V>, feed: &mut RootFeed, piece: &[u8]) -> Result<(), Refusal> {
+    fn follow(
+        &mut self,
+        by: &mut Functions<H, V>,
+        feed: &mut RootFeed,
+        piece: &[u8],
+    ) -> Result<(), Refusal> {
         self.update_from(&mut by.hash, &by.verifier, feed, piece)
     }
 }

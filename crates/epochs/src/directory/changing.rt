@@ -26,8 +26,8 @@ ghost use Rattle.epochs.specs.Replied.{last, promised};
 
 use super::Directory;
 use crate::address::Address;
-use crate::key_change::KeyChange;
 use crate::history::Version;
+use crate::key_change::KeyChange;
 use crate::signing::{hash_of, next_salt, signed_promise, signed_root};
 use crate::waiting::{let_change_wait, let_wait};
 use book::{Keeper, Record, Refusal};

@@ -14,9 +14,9 @@ ghost use Rattle.play.specs.Taking.{AllTake, AuditorTakes, MonitorTakes};
 ghost use Rattle.play.specs.Wanting.{IsOffered, MayTake};
 ghost use Rattle.play.specs.Watchers.{all_through};
 
+use super::Engine;
 use super::asking::body_of;
 use super::wanting::{client_memory, observe};
-use super::Engine;
 use crate::Checks;
 use crate::ask::Ask;
 use auditor::Auditor;

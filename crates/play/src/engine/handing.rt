@@ -9,8 +9,8 @@ ghost use Rattle.monitor.specs.Expecting.{IsNewPromise};
 ghost use Rattle.monitor.specs.Monitors.{with_change};
 ghost use Rattle.play.specs.Handed.{IsHanded, MayBeHanded};
 
-use crate::Checks;
 use super::wanting::monitor_memory;
+use crate::Checks;
 use encoding::KeyData;
 use monitor::Monitor;
 use nodehash::NodeHash;

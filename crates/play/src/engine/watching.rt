@@ -17,9 +17,9 @@ ghost use Rattle.play.specs.Played.{Stand, watcher_of};
 ghost use Rattle.play.specs.Steps.{HasStepped, IsNextOf, Watches};
 ghost use Rattle.play.specs.Watchers.{ahead, through, Watcher};
 
+use super::Engine;
 use super::asking::body_of;
 use super::wanting::start;
-use super::Engine;
 use crate::Checks;
 use crate::ask::Ask;
 use crate::telling::{tell_refusal, tell_step};
