@@ -8,7 +8,7 @@ use Rattle.prefixtree.proofs.Unique.{ends}
 use Rattle.rootchain.specs.declared.body.Body.{Body}
 use Rattle.proofs.specs.Replies.{reply_bytes}
 use Rattle.book.specs.Books.{Page}
-use Rattle.book.specs.Maps.{at}
+use Rattle.encoding.specs.Maps.{at}
 use Rattle.book.specs.Shows.{Provider, index_of, placement, reply_end, IsReplyOf}
 use Rattle.book.proofs.Placed.{is_placement}
 

@@ -9,7 +9,7 @@ use Rattle.encoding.specs.Bytes.{Is32Bytes}
 use Rattle.commands.specs.Operations.{Operation}
 use Rattle.book.specs.Books.{Binding, Book, Page, pages}
 use Rattle.book.specs.Honest.{IsMentioned}
-use Rattle.book.specs.Maps.{Map, at}
+use Rattle.encoding.specs.Maps.{Map, at}
 use Rattle.book.specs.Shows.{Provider, index_of}
 use Rattle.book.specs.Sound.{AreBindings, HasNamesOf, HoldsName, IsSound}
 use Rattle.book.proofs.Distinct.{AreApart, HasName, IsApart, entry-named}

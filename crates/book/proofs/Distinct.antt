@@ -12,7 +12,7 @@ use Rattle.commands.specs.declared.edit.Verb.{Verb}
 use Rattle.commands.specs.declared.edit.Verb.TheVariants.{Register, Change}
 use Rattle.commands.specs.Operations.{Operation, Query, Edit, Put, Turn}
 use Rattle.book.specs.Books.{Binding, Book, pages}
-use Rattle.book.specs.Maps.{Map, at, overwritten, put_name}
+use Rattle.encoding.specs.Maps.{Map, at, overwritten, put_at}
 use Rattle.book.specs.Shows.{Provider, index_of}
 use Rattle.book.proofs.Entries.{at_put_other, found-entry, is_name, is_no_name, same_name, stays}
 use Rattle.book.proofs.Members.{first-or-later, none-there}
@@ -43,7 +43,7 @@ entry-named (e ∷ es) entry is = elim (first-or-later e es entry is) [
     by true more = (e.1, refl)
     by false more = more
 
-pub put-named : (map : Map Binding) (name other : List ℕ) (binding : Binding) → HasName (put_name map name binding) other → HasName map other ⊎ (other ≡ name)
+pub put-named : (map : Map Binding) (name other : List ℕ) (binding : Binding) → HasName (put_at map name binding) other → HasName map other ⊎ (other ≡ name)
 put-named map name other binding has = by (is_at (bytes_cmp name) other) refl
   where
     by : (t : Bool) → is_at (bytes_cmp name) other ≡ t → HasName map other ⊎ (other ≡ name)

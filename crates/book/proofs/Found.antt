@@ -19,7 +19,7 @@ use Rattle.proofs.proofs.Honest.{honest-accepted}
 use Rattle.book.specs.Books.{Binding, Page}
 use Rattle.book.specs.Fresh.{KeepsLaws}
 use Rattle.book.specs.Honest.{key_at}
-use Rattle.book.specs.Maps.{Map, at}
+use Rattle.encoding.specs.Maps.{Map, at}
 use Rattle.book.specs.Shows.{Provider, index_of, placement, reply_end, IsReplyOf}
 use Rattle.book.proofs.Entries.{Ascends, found-entry}
 use Rattle.book.proofs.PathEnds.{leaf_there, no_leaf_there, other_sizes}

@@ -8,7 +8,7 @@ use Rattle.book.specs.declared.reply.Reply.{Reply}
 use Rattle.book.specs.Steps.{Answer, next_page, refusal, with_page, Answers, step}
 use Rattle.commands.specs.Operations.{Operation, Query, Edit, Put, Turn}
 use Rattle.book.specs.Books.{Book, Page, pages}
-use Rattle.book.specs.Maps.{overwritten}
+use Rattle.encoding.specs.Maps.{overwritten}
 use Rattle.book.specs.Shows.{Provider, index_of}
 use Rattle.book.specs.Turns.{Run}
 use Rattle.book.proofs.Carried.{carried}

@@ -28,7 +28,7 @@ use Rattle.book.specs.Books.{Binding, Book, Page, pages}
 use Rattle.proofs.specs.BrokenPromises.{IsBrokenPromise}
 use Rattle.book.specs.Fresh.{KeepsLaws}
 use Rattle.book.specs.Honest.{key_at, IsAbout, IsAnswer, IsDouble, IsHonestRun, IsKept, IsSaid, IsSaidAt, ListsInOrder, TellsRoot, UsersDiffer}
-use Rattle.book.specs.Maps.{Map, at}
+use Rattle.encoding.specs.Maps.{Map, at}
 use Rattle.book.specs.Shows.{Provider, SignedPage, index_of, promise, roots, sealed_behind, sealed_pages, IsRootOf}
 use Rattle.book.specs.Turns.{Run}
 use Rattle.proofs.specs.Watches.{expected}

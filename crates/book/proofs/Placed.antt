@@ -6,7 +6,7 @@ use Rattle.commit.specs.Commitments.{commitment_bytes}
 use Rattle.prefixtree.specs.Placement.{Item, Items, IsPlacement, commitment_of, put, put_all}
 use Rattle.prefixtree.proofs.Places.{placement_none, placement_put}
 use Rattle.book.specs.Books.{Binding}
-use Rattle.book.specs.Maps.{Map, at}
+use Rattle.encoding.specs.Maps.{Map, at}
 use Rattle.book.specs.Shows.{Provider, index_of, placement}
 use Rattle.book.proofs.Entries.{at_put_same, all_put, at_put_other, Ascends, first_alone, hits, misses, rest_ascends}
 

@@ -17,7 +17,7 @@ use Rattle.commands.specs.Operations.{Operation, IsCommand, Question, Query, Edi
 use Rattle.commands.specs.Operations as ask
 use Rattle.book.specs.Books.{Binding, Book, Page, page_at, pages}
 use Rattle.book.specs.Honest.{latest_after, AreConsecutive, IsAskedBy, IsPromisedBy, IsSaid, IsSaidAt}
-use Rattle.book.specs.Maps.{at}
+use Rattle.encoding.specs.Maps.{at}
 use Rattle.book.specs.Shows.{Provider, SignedPage, index_of, promise, roots, sealed_behind, sealed_pages, signed_promise, IsReplyOf, IsRootOf}
 use Rattle.book.specs.Turns.{Shows, Turn, Run}
 use Rattle.book.proofs.Entries.{at_put_same, found-entry}

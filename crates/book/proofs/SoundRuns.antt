@@ -9,7 +9,7 @@ use Rattle.book.specs.declared.reply.Reply.{Reply}
 use Rattle.book.specs.Steps.{Answer, refusal, with_pending}
 use Rattle.commands.specs.Operations.{Operation, IsCommand, Query, Edit, Put, Turn}
 use Rattle.book.specs.Books.{Binding, Book}
-use Rattle.book.specs.Maps.{Map, at, put_name}
+use Rattle.encoding.specs.Maps.{Map, at, put_at}
 use Rattle.book.specs.Salts.{GivesSalts}
 use Rattle.book.specs.Shows.{Provider, index_of}
 use Rattle.book.specs.Sound.{HoldsName, IsSound}
@@ -41,11 +41,11 @@ module _ (provider : Provider) where
       binding : Binding
       binding = record { key = key; salt = book.salt }
 
-      waits : IsSome (at book.pending other) → (t : Bool) → is_at (bytes_cmp name) other ≡ t → HasName (put_name book.pending name binding) other
-      waits some true is = (binding, ap (at (put_name book.pending name binding)) (is_name name other is) ∙ at_put_same name binding book.pending)
-      waits some false is = some-named (put_name book.pending name binding) other (ap is_some (at_put_other name binding book.pending other (is_no_name name other is)) ∙ some)
+      waits : IsSome (at book.pending other) → (t : Bool) → is_at (bytes_cmp name) other ≡ t → HasName (put_at book.pending name binding) other
+      waits some true is = (binding, ap (at (put_at book.pending name binding)) (is_name name other is) ∙ at_put_same name binding book.pending)
+      waits some false is = some-named (put_at book.pending name binding) other (ap is_some (at_put_other name binding book.pending other (is_no_name name other is)) ∙ some)
 
-      held : HoldsName book other → HasName book.last.bindings other ⊎ HasName (put_name book.pending name binding) other
+      held : HoldsName book other → HasName book.last.bindings other ⊎ HasName (put_at book.pending name binding) other
       held (inl last) = inl (some-named book.last.bindings other last)
       held (inr some) = inr (waits some (is_at (bytes_cmp name) other) refl)
 

@@ -12,7 +12,7 @@ use Rattle.encoding.specs.Limits.{IsKeyData, IsName}
 use Rattle.book.specs.Steps.{next_page, with_page, with_pending}
 use Rattle.book.specs.Books.{Binding, Book, Page, pages}
 use Rattle.book.specs.Fresh.{fresh, IsEpoch}
-use Rattle.book.specs.Maps.{Map, at, overwritten, put_name}
+use Rattle.encoding.specs.Maps.{Map, at, overwritten, put_at}
 use Rattle.book.specs.Sound.{AreBindings, HasNamesOf, HoldsName, IsEntry, IsPage, IsSound}
 use Rattle.book.proofs.Entries.{all_overwritten, all_put, ascends_none, ascends_overwritten, ascends_put, at_put_other, at_put_same, is_name, is_no_name, stays}
 use Rattle.book.proofs.Turning.{next-sized, the-last}
@@ -88,10 +88,10 @@ are-entries : (map : Map Binding) → AreLimited map → All IsEntry map
 are-entries map all = All-weaker (λ entry. IsName entry.0 × IsLimited entry.1) IsEntry (λ entry is. record { name = is.0; key = is.1.0; salt = is.1.1 }) map
     (All-from_recursion (λ entry. IsName entry.0 × IsLimited entry.1) map all)
 
-bindings-put : (map : Map Binding) (name : List ℕ) (binding : Binding) → AreBindings map → IsName name → IsLimited binding → AreBindings (put_name map name binding)
+bindings-put : (map : Map Binding) (name : List ℕ) (binding : Binding) → AreBindings map → IsName name → IsLimited binding → AreBindings (put_at map name binding)
 bindings-put map name binding are named within = record {
   ascend = ascends_put map name binding are.ascend;
-  entries = are-entries (put_name map name binding) (all_put name binding IsName IsLimited map named within (limited map are.entries));
+  entries = are-entries (put_at map name binding) (all_put name binding IsName IsLimited map named within (limited map are.entries));
 }
 
 bindings-overwritten : (map entries : Map Binding) → AreBindings map → AreBindings entries → AreBindings (overwritten map entries)
@@ -105,14 +105,14 @@ no-bindings = record { ascend = ascends_none Binding; entries = are-entries [] t
 
 -- ---- names
 
-has-put : (map : Map Binding) (name : List ℕ) (binding : Binding) (other : List ℕ) → IsSome (at map other) → IsSome (at (put_name map name binding) other)
+has-put : (map : Map Binding) (name : List ℕ) (binding : Binding) (other : List ℕ) → IsSome (at map other) → IsSome (at (put_at map name binding) other)
 has-put map name binding other has = by (is_at (bytes_cmp name) other) refl
   where
-    by : (t : Bool) → is_at (bytes_cmp name) other ≡ t → IsSome (at (put_name map name binding) other)
-    by true is = ap is_some (ap (at (put_name map name binding)) (is_name name other is) ∙ at_put_same name binding map)
+    by : (t : Bool) → is_at (bytes_cmp name) other ≡ t → IsSome (at (put_at map name binding) other)
+    by true is = ap is_some (ap (at (put_at map name binding)) (is_name name other is) ∙ at_put_same name binding map)
     by false is = ap is_some (at_put_other name binding map other (is_no_name name other is)) ∙ has
 
-put-has : (map : Map Binding) (name : List ℕ) (binding : Binding) (other : List ℕ) → IsSome (at (put_name map name binding) other) → IsSome (at map other) ⊎ (other ≡ name)
+put-has : (map : Map Binding) (name : List ℕ) (binding : Binding) (other : List ℕ) → IsSome (at (put_at map name binding) other) → IsSome (at map other) ⊎ (other ≡ name)
 put-has map name binding other has = by (is_at (bytes_cmp name) other) refl
   where
     by : (t : Bool) → is_at (bytes_cmp name) other ≡ t → IsSome (at map other) ⊎ (other ≡ name)
@@ -121,7 +121,7 @@ put-has map name binding other has = by (is_at (bytes_cmp name) other) refl
 
 has-overwritten : (entries map : Map Binding) (name : List ℕ) → IsSome (at map name) → IsSome (at (overwritten map entries) name)
 has-overwritten [] map name has = has
-has-overwritten (entry ∷ entries) map name has = has-overwritten entries (put_name map entry.0 entry.1) name (has-put map entry.0 entry.1 name has)
+has-overwritten (entry ∷ entries) map name has = has-overwritten entries (put_at map entry.0 entry.1) name (has-put map entry.0 entry.1 name has)
 
 overwritten-has : (entries map : Map Binding) (name : List ℕ) → IsSome (at (overwritten map entries) name) → IsSome (at map name) ⊎ IsSome (at entries name)
 overwritten-has entries map name has = by (at entries name) refl

@@ -7,7 +7,7 @@ use Rattle.book.specs.Steps.{Answer, Promised, Found, Told, Last, bad_index, bad
 use Rattle.commands.specs.declared.edit.Verb.{Verb}
 use Rattle.commands.specs.Operations.{Operation, Question, Query, Edit, Put, Turn, Promise, Lookup, History, Head}
 use Rattle.book.specs.Books.{Binding, Book, Page, page_at}
-use Rattle.book.specs.Maps.{at}
+use Rattle.encoding.specs.Maps.{at}
 use Rattle.book.proofs.Turning.{passed, two-passed}
 
 -- what a book that does not refuse answers, and the book after it

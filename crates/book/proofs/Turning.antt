@@ -13,7 +13,7 @@ use Rattle.book.specs.declared.directory_refusal.Refusal.{Refusal}
 use Rattle.book.specs.Steps.{first, has_length_within, with_pending, next_page, with_page}
 use Rattle.book.specs.Books.{Binding, Book, Page, page_at, pages}
 use Rattle.book.specs.Honest.{key_at, IsAskedBy}
-use Rattle.book.specs.Maps.{at}
+use Rattle.encoding.specs.Maps.{at}
 use Rattle.book.specs.Shows.{Provider, SignedPage, body_behind, signed, sealed_behind, sealed_pages, IsRootOf}
 use Rattle.book.proofs.Entries.{Ascends, all_overwritten, all_put, ascends_none, ascends_overwritten, ascends_put, at_put_other, is_name, is_no_name, overwrites}
 use Rattle.book.proofs.Found.{AreBindings, IsBinding, IsPage}

@@ -10,7 +10,7 @@ use Rattle.book.specs.Steps.{Answer, with_pending, next_page, with_page}
 use Rattle.commands.specs.Operations.{Operation, Query, Edit, Put, Turn}
 use Rattle.book.specs.Books.{Binding, Book, Page, pages}
 use Rattle.book.specs.Honest.{IsAbout, IsMentioned, IsSaid, UsersDiffer}
-use Rattle.book.specs.Maps.{Map}
+use Rattle.encoding.specs.Maps.{Map}
 use Rattle.book.specs.Shows.{index_of, Provider, IsRootOf}
 use Rattle.book.specs.Turns.{Run}
 use Rattle.book.proofs.Carried.{carried}

@@ -2,7 +2,7 @@
 -- the salts to come (CONIKS, sections 3 and 4).
 use Rattle.std.specs.Prelude.{ℕ, List, [], ◌∷◌, ◌++◌, ◌==◌, if◌then◌else◌, Option, Some, find}
 use Rattle.rand_core.specs.Stream.{Stream}
-use Rattle.book.specs.Maps.{Map}
+use Rattle.encoding.specs.Maps.{Map}
 
 -- the key that a name is bound to, and the salt of its commitment
 pub record Binding : Type 0 where

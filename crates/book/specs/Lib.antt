@@ -3,7 +3,6 @@ pub mod Folds
 pub mod Fresh
 pub mod Honest
 pub mod Keeps
-pub mod Maps
 pub mod Refusals
 pub mod Replays
 pub mod Salted

@@ -9,7 +9,7 @@ use Rattle.commands.specs.declared.edit.Verb.{Verb}
 use Rattle.commands.specs.Operations.{Edit}
 use Rattle.book.specs.Steps.{first, put_tests, refusal, Outcome, Answers, Refuses, step, kept_edit}
 use Rattle.book.specs.Books.{Binding, Book}
-use Rattle.book.specs.Maps.{put_name}
+use Rattle.encoding.specs.Maps.{put_at}
 
 -- the book whose next salt is the record's, where it has one
 abbrev pub with_salt_of : Record → Book → Book
@@ -22,7 +22,7 @@ with_salts_of other book = record book { salt = other.salt; left = other.left }
 
 -- the book in which this waits at a name too, while the salts to come stay
 abbrev pub with_bound : Book → List ℕ → Binding → Book
-with_bound book name binding = record book { pending = put_name book.pending name binding }
+with_bound book name binding = record book { pending = put_at book.pending name binding }
 
 -- the book after a step, if it was not refused
 abbrev pub after_answer : Outcome × Book → Option Book

@@ -14,7 +14,7 @@ use Rattle.rootchain.specs.declared.signed_promise.SignedPromise.{SignedPromise}
 use Rattle.rootchain.specs.declared.signed_root.SignedRoot.{SignedRoot}
 use Rattle.proofs.specs.Replies.{End, Present, Empty, Other, reply_bytes}
 use Rattle.book.specs.Books.{Binding, Book, Page, pages}
-use Rattle.book.specs.Maps.{Map}
+use Rattle.encoding.specs.Maps.{Map}
 
 -- a page and its signed root
 pub record SignedPage : Type 0 where

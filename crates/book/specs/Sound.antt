@@ -6,7 +6,7 @@ use Rattle.std.specs.Map.{keys_of}
 use Rattle.encoding.specs.Bytes.{bytes_cmp, Is32Bytes}
 use Rattle.encoding.specs.Limits.{IsKeyData, IsName}
 use Rattle.book.specs.Books.{Binding, Book, Page, pages}
-use Rattle.book.specs.Maps.{Map, at}
+use Rattle.encoding.specs.Maps.{Map, at}
 
 -- a name and what is bound to it, within their limits
 pub record IsEntry (entry : List ℕ × Binding) : Type 0 where

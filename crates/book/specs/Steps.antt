@@ -15,7 +15,7 @@ use Rattle.book.specs.declared.record.Record.TheVariants.{Start, Bound, Turned}
 use Rattle.book.specs.declared.directory_refusal.Refusal.{Refusal}
 use Rattle.book.specs.declared.directory_refusal.Refusal.TheVariants.{BadName, BadKey, NameTaken, NoSuchName, PendingExists, IndexTaken, NoSuchEpoch, EpochNotLater, NoPromise, BadRange}
 use Rattle.book.specs.Books.{Binding, Book, Page, page_at, pages}
-use Rattle.book.specs.Maps.{Map, at, overwritten, put_name}
+use Rattle.encoding.specs.Maps.{Map, at, overwritten, put_at}
 use Rattle.rootchain.specs.declared.root_list.TheConstants.{MAX_ROOTS}
 
 -- the first of some tests that holds
@@ -46,7 +46,7 @@ pub data Answer : Type 0 where
 -- the name's binding waits with the next salt, and the salt after it is drawn
 abbrev pub with_pending : Book → List ℕ → List ℕ → Book
 with_pending book name key = record book {
-  pending = put_name book.pending name (record { key = key; salt = book.salt });
+  pending = put_at book.pending name (record { key = key; salt = book.salt });
   salt = (fill_bytes 32 book.left).0;
   left = (fill_bytes 32 book.left).1;
 }

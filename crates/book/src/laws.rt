@@ -10,7 +10,7 @@ ghost use Rattle.book.specs.Folds.{Fate, TellsOutcome, steps_under_fates};
 ghost use Rattle.book.specs.Fresh.{fresh, IsEpoch, KeepsLaws};
 ghost use Rattle.book.specs.Honest.{IsHonestRun};
 ghost use Rattle.book.specs.Keeps.{fails_next, keeps_next};
-ghost use Rattle.book.specs.Maps.{at, overwritten};
+ghost use Rattle.encoding.specs.Maps.{at, overwritten};
 ghost use Rattle.book.specs.Salted.{salted};
 ghost use Rattle.book.specs.Salts.{GivesSalts};
 ghost use Rattle.book.specs.Replies.{reply_content, FailAlike};

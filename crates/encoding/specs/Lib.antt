@@ -5,5 +5,6 @@ pub mod Faults
 pub mod Fields
 pub mod Forms
 pub mod Limits
+pub mod Maps
 pub mod Reading
 pub use Rattle.byteorder.specs.Endian

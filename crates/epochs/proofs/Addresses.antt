@@ -8,7 +8,7 @@ use Rattle.std.specs.declared.cmp.Ordering.TheVariants.{Less, Equal, Greater}
 use Rattle.prefixtree.proofs.Order.{same-equal}
 use Rattle.rand_core.specs.Stream.{Stream}
 use Rattle.book.specs.Books.{Binding}
-use Rattle.book.specs.Maps.{Map, at, put_name}
+use Rattle.encoding.specs.Maps.{Map, at, put_at}
 use Rattle.book.specs.Shows.{Provider}
 use Rattle.book.specs.Sound.{HoldsName}
 use Rattle.book.proofs.Entries.{found-entry}
@@ -30,12 +30,12 @@ module _ (provider : Provider) where
       let e = found-entry (λ entry. entry.1 ≡ address_of provider entry.0) addresses name address found are in
       sym e.3 ∙ e.1 ∙ ap (address_of provider) e.2
 
-  addresses-put : (addresses : Map Address) (name : List ℕ) (address : Address) → AreAddresses provider addresses → address ≡ address_of provider name → AreAddresses provider (put_name addresses name address)
+  addresses-put : (addresses : Map Address) (name : List ℕ) (address : Address) → AreAddresses provider addresses → address ≡ address_of provider name → AreAddresses provider (put_at addresses name address)
   addresses-put [] name address are is = (is, tt)
   addresses-put (e ∷ es) name address are is = by (bytes_cmp name e.0) refl (addresses-put es name address are.1 is)
     where
-      by : (r : Ordering) → bytes_cmp name e.0 ≡ r → AreAddresses provider (put_name es name address)
-          → AreAddresses provider (match_ordering r ((name, address) ∷ e ∷ es) ((e.0, address) ∷ es) (e ∷ put_name es name address))
+      by : (r : Ordering) → bytes_cmp name e.0 ≡ r → AreAddresses provider (put_at es name address)
+          → AreAddresses provider (match_ordering r ((name, address) ∷ e ∷ es) ((e.0, address) ∷ es) (e ∷ put_at es name address))
       by Less same more = (is, are)
       by Equal same more = (is ∙ ap (address_of provider) (same-equal name e.0 same), are.1)
       by Greater same more = (are.0, more)

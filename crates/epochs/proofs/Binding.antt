@@ -7,7 +7,7 @@ use Rattle.commit.specs.Commitments.{commitment_bytes}
 use Rattle.prefixtree.specs.Placement.{Items, commitment_of, put}
 use Rattle.book.specs.Steps.{with_pending}
 use Rattle.book.specs.Books.{Book}
-use Rattle.book.specs.Maps.{Map, at, put_name}
+use Rattle.encoding.specs.Maps.{Map, at, put_at}
 use Rattle.book.specs.Replays.{with_bound}
 use Rattle.book.specs.Salted.{salted}
 use Rattle.book.specs.Shows.{Provider, index_of}
@@ -75,7 +75,7 @@ module _ (provider : Provider) (parts : Parts) (own : List ℕ) (left : Stream) 
           ∙ ap with_drawn (first-salt own [] left)
         where
           with_drawn : List ℕ × Stream → Book
-          with_drawn drawn-next = record (book_of parts (drawn-next.0) (drawn-next.1)) { pending = put_name (pending_of parts) name (record { key = key; salt = salt }) }
+          with_drawn drawn-next = record (book_of parts (drawn-next.0) (drawn-next.1)) { pending = put_at (pending_of parts) name (record { key = key; salt = salt }) }
 
 -- once the salt after it is drawn, the book is that in which the binding waits under the next salt
 pub drawn_after : (before middle : Book) (name key next : List ℕ) (rest : Stream) → middle ≡ with_bound before name (record { key = key; salt = before.salt })

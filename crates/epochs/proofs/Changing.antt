@@ -18,7 +18,7 @@ use Rattle.book.specs.declared.directory_refusal.Refusal.{Refusal}
 use Rattle.book.specs.declared.directory_refusal.Refusal.TheVariants.{IndexTaken, NameTaken, PendingExists}
 use Rattle.book.specs.Steps.{first, has_its_index, with_pending, Promised}
 use Rattle.book.specs.Books.{Binding}
-use Rattle.book.specs.Maps.{Map, at}
+use Rattle.encoding.specs.Maps.{Map, at}
 use Rattle.book.specs.Replays.{put_refusal}
 use Rattle.book.specs.Shows.{Provider, index_of, placement, IsRootOf}
 use Rattle.book.specs.Sound.{HoldsName}

@@ -12,7 +12,7 @@ use Rattle.rootchain.specs.declared.signed_root.SignedRoot.{SignedRoot}
 use Rattle.book.specs.declared.reply.Reply.TheVariants as reply
 use Rattle.book.specs.Steps.{next_page, with_page, Last}
 use Rattle.book.specs.Books.{Book, Page}
-use Rattle.book.specs.Maps.{overwritten}
+use Rattle.encoding.specs.Maps.{overwritten}
 use Rattle.book.specs.Shows.{Provider, placement, IsRootOf}
 use Rattle.book.specs.Turns.{Shows}
 use Rattle.epochs.specs.Parts.{Keeps, Parts, last_of, last_root, pending_of}

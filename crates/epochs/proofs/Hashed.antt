@@ -18,7 +18,7 @@ use Rattle.std.proofs.lemmas.Map.Keys.{IsDistinct-tail}
 use Rattle.encoding.specs.Bytes.{bytes_cmp}
 use Rattle.prefixtree.specs.Placement.{Items, put_all}
 use Rattle.prefixtree.proofs.Order.{same-equal}
-use Rattle.book.specs.Maps.{Map, at, put_name}
+use Rattle.encoding.specs.Maps.{Map, at, put_at}
 use Rattle.book.proofs.Entries.{Ascends, ascends_none, ascends_put, at_put_other, at_put_same, first_alone, is_name, rest_ascends, same_name}
 use Rattle.epochs.specs.Histories.{or_else}
 use Rattle.epochs.specs.Versions.{at_bytes, in_order}
@@ -60,11 +60,11 @@ module _ {X : Type 0} where
           flipped : bytes_cmp x.0 y.0 ≡ Greater → bytes_cmp y.0 x.0 ≡ Less
           flipped is = nat_list_cmp_total.antisymm y.0 x.0 ∙ ap ordering_reverse is
 
-pub put-same : {X : Type 0} (name : List ℕ) (x : X) (map : Map X) → Ascends map → at map name ≡ Some x → put_name map name x ≡ map
-put-same name x map up found = alike (put_name map name x) map (ascends_put map name x up) up (λ other. by other (pointwise nat_eq other name) refl)
+pub put-same : {X : Type 0} (name : List ℕ) (x : X) (map : Map X) → Ascends map → at map name ≡ Some x → put_at map name x ≡ map
+put-same name x map up found = alike (put_at map name x) map (ascends_put map name x up) up (λ other. by other (pointwise nat_eq other name) refl)
   where
-    by : (other : List ℕ) (t : Bool) → pointwise nat_eq other name ≡ t → at (put_name map name x) other ≡ at map other
-    by other true is = subst (λ (n : List ℕ). at (put_name map name x) n ≡ at map n) (sym ((bytes_decides other name).0 is)) (at_put_same name x map ∙ sym found)
+    by : (other : List ℕ) (t : Bool) → pointwise nat_eq other name ≡ t → at (put_at map name x) other ≡ at map other
+    by other true is = subst (λ (n : List ℕ). at (put_at map name x) n ≡ at map n) (sym ((bytes_decides other name).0 is)) (at_put_same name x map ∙ sym found)
     by other false is = at_put_other name x map other (λ same. absurd (cc (is, (bytes_decides other name).1 same)))
 
 -- what was found by a key of these bytes
@@ -84,20 +84,20 @@ module _ {K X Y : Type 0} (bytes : K → List ℕ) (of : X → Y) where
   lookup-bytes name (e ∷ es) = by (pointwise nat_eq name (bytes e.0)) refl (lookup-bytes name es)
     where
       by : (t : Bool) → pointwise nat_eq name (bytes e.0) ≡ t → option_map of (lookup (test bytes name) es) ≡ at (at_bytes bytes of es) name
-          → option_map of (lookup (test bytes name) (e ∷ es)) ≡ at (put_name (at_bytes bytes of es) (bytes e.0) (of e.1)) name
-      by true is more = rw is (sym (subst (λ (n : List ℕ). at (put_name (at_bytes bytes of es) (bytes e.0) (of e.1)) n ≡ Some (of e.1)) (sym ((bytes_decides name (bytes e.0)).0 is)) (at_put_same (bytes e.0) (of e.1) (at_bytes bytes of es))))
+          → option_map of (lookup (test bytes name) (e ∷ es)) ≡ at (put_at (at_bytes bytes of es) (bytes e.0) (of e.1)) name
+      by true is more = rw is (sym (subst (λ (n : List ℕ). at (put_at (at_bytes bytes of es) (bytes e.0) (of e.1)) n ≡ Some (of e.1)) (sym ((bytes_decides name (bytes e.0)).0 is)) (at_put_same (bytes e.0) (of e.1) (at_bytes bytes of es))))
       by false is more = rw is (more ∙ sym (at_put_other (bytes e.0) (of e.1) (at_bytes bytes of es) name (λ same. absurd (cc (is, (bytes_decides name (bytes e.0)).1 same)))))
 
   -- what has one entry more, or another one at a name
   pub bytes-put : (name : List ℕ) (x : X) (es es_after : List (K × X)) → lookup (test bytes name) es_after ≡ Some x
       → ((other : List ℕ) → other ≢ name → lookup (test bytes other) es_after ≡ lookup (test bytes other) es)
-      → at_bytes bytes of es_after ≡ put_name (at_bytes bytes of es) name (of x)
+      → at_bytes bytes of es_after ≡ put_at (at_bytes bytes of es) name (of x)
   bytes-put name x es es_after there others =
-      alike (at_bytes bytes of es_after) (put_name (at_bytes bytes of es) name (of x)) (bytes_ascend es_after) (ascends_put (at_bytes bytes of es) name (of x) (bytes_ascend es))
+      alike (at_bytes bytes of es_after) (put_at (at_bytes bytes of es) name (of x)) (bytes_ascend es_after) (ascends_put (at_bytes bytes of es) name (of x) (bytes_ascend es))
       (λ other. by other (pointwise nat_eq other name) refl)
     where
-      by : (other : List ℕ) (t : Bool) → pointwise nat_eq other name ≡ t → at (at_bytes bytes of es_after) other ≡ at (put_name (at_bytes bytes of es) name (of x)) other
-      by other true is = subst (λ (n : List ℕ). at (at_bytes bytes of es_after) n ≡ at (put_name (at_bytes bytes of es) name (of x)) n) (sym ((bytes_decides other name).0 is))
+      by : (other : List ℕ) (t : Bool) → pointwise nat_eq other name ≡ t → at (at_bytes bytes of es_after) other ≡ at (put_at (at_bytes bytes of es) name (of x)) other
+      by other true is = subst (λ (n : List ℕ). at (at_bytes bytes of es_after) n ≡ at (put_at (at_bytes bytes of es) name (of x)) n) (sym ((bytes_decides other name).0 is))
           (sym (lookup-bytes name es_after) ∙ ap (option_map of) there ∙ sym (at_put_same name (of x) (at_bytes bytes of es)))
       by other false is =
           let differ : other ≢ name = λ same. absurd (cc (is, (bytes_decides other name).1 same)) in
@@ -105,7 +105,7 @@ module _ {K X Y : Type 0} (bytes : K → List ℕ) (of : X → Y) where
 
   -- a map in which a value was put at a name
   pub hashed-put : {S : Type 0} (name : List ℕ) (x : X) (map map_after : HashMap K X S)
-      → UpdatesBy (λ a b. pointwise nat_eq (bytes a) (bytes b)) (test bytes name) map map_after (Some x) → at_bytes bytes of map_after.entries ≡ put_name (at_bytes bytes of map.entries) name (of x)
+      → UpdatesBy (λ a b. pointwise nat_eq (bytes a) (bytes b)) (test bytes name) map map_after (Some x) → at_bytes bytes of map_after.entries ≡ put_at (at_bytes bytes of map.entries) name (of x)
   unfolding KeepsOthers
   hashed-put name x map map_after updates = bytes-put name x map.entries map_after.entries updates.1 others
     where
@@ -118,9 +118,9 @@ module _ {K X Y : Type 0} (bytes : K → List ℕ) (of : X → Y) where
 
   -- the same at a key of these bytes
   pub hashed-put_at : {S : Type 0} (name : List ℕ) (key : K) (x : X) (map map_after : HashMap K X S) → bytes key ≡ name
-      → UpdatesBy (λ a b. pointwise nat_eq (bytes a) (bytes b)) (test bytes (bytes key)) map map_after (Some x) → at_bytes bytes of map_after.entries ≡ put_name (at_bytes bytes of map.entries) name (of x)
+      → UpdatesBy (λ a b. pointwise nat_eq (bytes a) (bytes b)) (test bytes (bytes key)) map map_after (Some x) → at_bytes bytes of map_after.entries ≡ put_at (at_bytes bytes of map.entries) name (of x)
   hashed-put_at name key x map map_after is updates =
-      subst (λ (n : List ℕ). at_bytes bytes of map_after.entries ≡ put_name (at_bytes bytes of map.entries) n (of x)) is (hashed-put (bytes key) x map map_after updates)
+      subst (λ (n : List ℕ). at_bytes bytes of map_after.entries ≡ put_at (at_bytes bytes of map.entries) n (of x)) is (hashed-put (bytes key) x map map_after updates)
 
 -- ---- items at indices
 
@@ -134,9 +134,9 @@ some_in_order index es = by (lookup (pointwise nat_eq index) es) ∙ ap is_some 
 
 -- a map in which a commitment was put at an index
 pub put_in_order : {S : Type 0} (index x commitment : List ℕ) (map map_after : HashMap (List ℕ) (List ℕ) S) (es_after : Items) → x ≡ commitment → es_after ≡ map_after.entries
-    → UpdatesBy (pointwise nat_eq) (pointwise nat_eq index) map map_after (Some x) → in_order es_after ≡ put_name (in_order map.entries) index commitment
+    → UpdatesBy (pointwise nat_eq) (pointwise nat_eq index) map map_after (Some x) → in_order es_after ≡ put_at (in_order map.entries) index commitment
 put_in_order index x commitment map map_after es_after same is updates =
-    ap in_order is ∙ hashed-put (λ (index : List ℕ). index) (λ (commitment : List ℕ). commitment) index x map map_after updates ∙ ap (put_name (in_order map.entries) index) same
+    ap in_order is ∙ hashed-put (λ (index : List ℕ). index) (λ (commitment : List ℕ). commitment) index x map map_after updates ∙ ap (put_at (in_order map.entries) index) same
 
 none-else : {X : Type 0} (o : Option X) → or_else o None ≡ option_map (λ x. x) o
 none-else None = refl
@@ -145,16 +145,16 @@ none-else (Some x) = refl
 at-put_all : (es items : Items) (index : List ℕ) → IsDistinct (pointwise nat_eq) (keys_of es) → at (put_all items es) index ≡ or_else (lookup (pointwise nat_eq index) es) (at items index)
 at-put_all [] items index distinct = refl
 at-put_all (e ∷ es) items index distinct =
-    at-put_all es (put_name items e.0 e.1) index (IsDistinct-tail (pointwise nat_eq) e.0 (keys_of es) distinct) ∙ by (pointwise nat_eq index e.0) refl
+    at-put_all es (put_at items e.0 e.1) index (IsDistinct-tail (pointwise nat_eq) e.0 (keys_of es) distinct) ∙ by (pointwise nat_eq index e.0) refl
   where
     by : (t : Bool) → pointwise nat_eq index e.0 ≡ t
-        → or_else (lookup (pointwise nat_eq index) es) (at (put_name items e.0 e.1) index) ≡ or_else (lookup (pointwise nat_eq index) (e ∷ es)) (at items index)
+        → or_else (lookup (pointwise nat_eq index) es) (at (put_at items e.0 e.1) index) ≡ or_else (lookup (pointwise nat_eq index) (e ∷ es)) (at items index)
     by true is =
         let none = lookup-none (pointwise nat_eq index) es (none_past_head nat_list_eq_equiv index e es distinct is) in
-        let here : at (put_name items e.0 e.1) index ≡ Some e.1 = subst (λ (i : List ℕ). at (put_name items e.0 e.1) i ≡ Some e.1) (sym ((bytes_decides index e.0).0 is)) (at_put_same e.0 e.1 items) in
+        let here : at (put_at items e.0 e.1) index ≡ Some e.1 = subst (λ (i : List ℕ). at (put_at items e.0 e.1) i ≡ Some e.1) (sym ((bytes_decides index e.0).0 is)) (at_put_same e.0 e.1 items) in
         rw (is, none, here) refl
     by false is =
-        let other : at (put_name items e.0 e.1) index ≡ at items index = at_put_other e.0 e.1 items index (λ same. absurd (cc (is, (bytes_decides index e.0).1 same))) in
+        let other : at (put_at items e.0 e.1) index ≡ at items index = at_put_other e.0 e.1 items index (λ same. absurd (cc (is, (bytes_decides index e.0).1 same))) in
         rw (is, other) refl
 
 -- items that were put in in turn

@@ -9,7 +9,7 @@ use Rattle.std.specs.declared.cmp.Ordering.TheVariants.{Less}
 use Rattle.std.proofs.lemmas.Bool.{cases_lt, eq-eqb, le-leb, leb-true, lt-leb, ne_eqb}
 use Rattle.prefixtree.proofs.Order.{equal-same, greater-less}
 use Rattle.book.specs.Books.{Binding}
-use Rattle.book.specs.Maps.{Map, overwritten, put_name}
+use Rattle.encoding.specs.Maps.{Map, overwritten, put_at}
 use Rattle.epochs.specs.Histories.{Version, chosen, or_else, binding_at, waiting, with_some}
 use Rattle.epochs.specs.Versions.{Ascends}
 use Rattle.encoding.specs.Bytes.{bytes_cmp}
@@ -25,15 +25,15 @@ chosen-above {X = X} f name (e ∷ es) h = by (f e.1) (chosen-above f name es h.
     by None more = more
     by (Some x) more = (h.0, more)
 
-pub put-front : {X : Type 0} (name : List ℕ) (x : X) (map : Map X) → Above name map → put_name map name x ≡ (name, x) ∷ map
+pub put-front : {X : Type 0} (name : List ℕ) (x : X) (map : Map X) → Above name map → put_at map name x ≡ (name, x) ∷ map
 put-front name x [] h = refl
-put-front name x (e ∷ es) h = ap (λ (o : Ordering). match_ordering o ((name, x) ∷ e ∷ es) ((e.0, x) ∷ es) (e ∷ put_name es name x)) h.0
+put-front name x (e ∷ es) h = ap (λ (o : Ordering). match_ordering o ((name, x) ∷ e ∷ es) ((e.0, x) ∷ es) (e ∷ put_at es name x)) h.0
 
 overwritten-past : {X : Type 0} (name : List ℕ) (x : X) (map more : Map X) → Above name more → overwritten ((name, x) ∷ map) more ≡ (name, x) ∷ overwritten map more
 overwritten-past name x map [] h = refl
 overwritten-past name x map (e ∷ es) h =
-    ap (λ (o : Ordering). overwritten (match_ordering o ((e.0, e.1) ∷ (name, x) ∷ map) ((name, e.1) ∷ map) ((name, x) ∷ put_name map e.0 e.1)) es) (greater-less e.0 name h.0)
-    ∙ overwritten-past name x (put_name map e.0 e.1) es h.1
+    ap (λ (o : Ordering). overwritten (match_ordering o ((e.0, e.1) ∷ (name, x) ∷ map) ((name, e.1) ∷ map) ((name, x) ∷ put_at map e.0 e.1)) es) (greater-less e.0 name h.0)
+    ∙ overwritten-past name x (put_at map e.0 e.1) es h.1
 
 overwritten-front : {X : Type 0} (name : List ℕ) (x : X) (map more : Map X) → Above name map → Above name more → overwritten map ((name, x) ∷ more) ≡ (name, x) ∷ overwritten map more
 overwritten-front {X = X} name x map more h k = ap (λ (m : Map X). overwritten m more) (put-front name x map h) ∙ overwritten-past name x map more k
@@ -51,7 +51,7 @@ chosen-overwritten {X = X} f g (e ∷ es) h =
     by (Some x) None a b rest = overwritten-past e.0 x (chosen f es) (chosen g es) b ∙ ap (λ (m : Map X). (e.0, x) ∷ m) rest
     by None (Some y) a b rest = overwritten-front e.0 y (chosen f es) (chosen g es) a b ∙ ap (λ (m : Map X). (e.0, y) ∷ m) rest
     by (Some x) (Some y) a b rest =
-        ap (λ (o : Ordering). overwritten (match_ordering o ((e.0, y) ∷ (e.0, x) ∷ chosen f es) ((e.0, y) ∷ chosen f es) ((e.0, x) ∷ put_name (chosen f es) e.0 y)) (chosen g es)) (equal-same e.0 e.0 refl)
+        ap (λ (o : Ordering). overwritten (match_ordering o ((e.0, y) ∷ (e.0, x) ∷ chosen f es) ((e.0, y) ∷ chosen f es) ((e.0, x) ∷ put_at (chosen f es) e.0 y)) (chosen g es)) (equal-same e.0 e.0 refl)
         ∙ overwritten-past e.0 y (chosen f es) (chosen g es) b ∙ ap (λ (m : Map X). (e.0, y) ∷ m) rest
 
 -- what a page shows is no older than a version before all

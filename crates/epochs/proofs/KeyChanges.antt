@@ -12,7 +12,7 @@ use Rattle.prefixtree.specs.Placement.{Items, put}
 use Rattle.book.specs.Books.{Binding}
 use Rattle.book.specs.declared.directory_refusal.Refusal.{Refusal}
 use Rattle.book.specs.declared.directory_refusal.Refusal.TheVariants.{NoSuchName, PendingExists}
-use Rattle.book.specs.Maps.{at}
+use Rattle.encoding.specs.Maps.{at}
 use Rattle.book.specs.Replays.{put_refusal, with_bound}
 use Rattle.book.specs.Shows.{Provider, index_of}
 use Rattle.book.specs.Sound.{HoldsName}

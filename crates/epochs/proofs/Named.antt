@@ -5,7 +5,7 @@ use Rattle.std.specs.HashMap.{HashMap, UpdatesBy}
 use Rattle.std.specs.Map.{lookup}
 use Rattle.std.specs.Option.{option_copied, option_map, unwrap_or}
 use Rattle.std.specs.Prelude.{nat_eq}
-use Rattle.book.specs.Maps.{at}
+use Rattle.encoding.specs.Maps.{at}
 use Rattle.epochs.specs.declared.address.Address.{Address}
 use Rattle.epochs.specs.Addresses.{HistoryContent, NamesContent, named, with_history, with_name}
 use Rattle.epochs.specs.Histories.{Version}

@@ -10,7 +10,7 @@ use Rattle.prefixtree.specs.Contents.{Contents}
 use Rattle.prefixtree.specs.Placement.{IsPlacement}
 use Rattle.rootchain.specs.declared.signed_root.SignedRoot.{SignedRoot}
 use Rattle.book.specs.Books.{Binding, Book, Page, pages}
-use Rattle.book.specs.Maps.{Map}
+use Rattle.encoding.specs.Maps.{Map}
 use Rattle.book.specs.Shows.{Provider, IsRootOf, roots}
 use Rattle.book.specs.Sound.{IsPage}
 use Rattle.book.proofs.Placed.{is_placement}

@@ -13,7 +13,7 @@ use Rattle.prefixtree.specs.Placement.{Item, Items, commitment_of, put_all}
 use Rattle.prefixtree.proofs.Order.{equal-same, greater-less, same-equal}
 use Rattle.book.specs.Steps.{has_its_index}
 use Rattle.book.specs.Books.{Binding}
-use Rattle.book.specs.Maps.{Map, at, overwritten, put_name}
+use Rattle.encoding.specs.Maps.{Map, at, overwritten, put_at}
 use Rattle.book.specs.Shows.{Provider, index_of, placement}
 use Rattle.book.proofs.Distinct.{AreApart, HasName, entry-named, put-named}
 use Rattle.book.proofs.Entries.{Ascends, ascends_none, ascends_put, at_put_other, at_put_same, first_alone, misses, rest_ascends}
@@ -29,12 +29,12 @@ less-greater i j h = nat_list_cmp_total.antisymm i j ∙ ap ordering_reverse h
 
 module _ {X : Type 0} where
   -- at one name the later stays
-  pub put-again : (name : List ℕ) (x y : X) (map : Map X) → put_name (put_name map name x) name y ≡ put_name map name y
+  pub put-again : (name : List ℕ) (x y : X) (map : Map X) → put_at (put_at map name x) name y ≡ put_at map name y
   put-again name x y [] = rw (equal-same name name refl) refl
   put-again name x y (e ∷ es) = by (bytes_cmp name e.0) refl (put-again name x y es)
     where
-      by : (r : Ordering) → bytes_cmp name e.0 ≡ r → put_name (put_name es name x) name y ≡ put_name es name y
-          → put_name (match_ordering r ((name, x) ∷ e ∷ es) ((e.0, x) ∷ es) (e ∷ put_name es name x)) name y ≡ match_ordering r ((name, y) ∷ e ∷ es) ((e.0, y) ∷ es) (e ∷ put_name es name y)
+      by : (r : Ordering) → bytes_cmp name e.0 ≡ r → put_at (put_at es name x) name y ≡ put_at es name y
+          → put_at (match_ordering r ((name, x) ∷ e ∷ es) ((e.0, x) ∷ es) (e ∷ put_at es name x)) name y ≡ match_ordering r ((name, y) ∷ e ∷ es) ((e.0, y) ∷ es) (e ∷ put_at es name y)
       by Less is more = rw (equal-same name name refl) refl
       by Equal is more = rw is refl
       by Greater is more = rw is (ap (λ (l : Map X). e ∷ l) more)
@@ -43,9 +43,9 @@ module _ {X : Type 0} where
   module _ (one other : List ℕ) (differ : one ≢ other) (x y : X) where
     -- what the order of the names makes of the pairs in front of a list
     abbrev Ordered : Map X → Type 0
-    Ordered map = put_name ((one, x) ∷ map) other y ≡ put_name ((other, y) ∷ map) one x
+    Ordered map = put_at ((one, x) ∷ map) other y ≡ put_at ((other, y) ∷ map) one x
 
-    pub put-swap : (map : Map X) → put_name (put_name map one x) other y ≡ put_name (put_name map other y) one x
+    pub put-swap : (map : Map X) → put_at (put_at map one x) other y ≡ put_at (put_at map other y) one x
     put-swap [] = by (bytes_cmp other one) refl
       where
         by : (r : Ordering) → bytes_cmp other one ≡ r → Ordered []
@@ -59,8 +59,8 @@ module _ {X : Type 0} where
         first Equal is a b = absurd (differ (sym (same-equal other one is)))
         first Greater is a b = rw (is, less-greater one other is, b) refl
 
-        by : (r s : Ordering) → bytes_cmp one e.0 ≡ r → bytes_cmp other e.0 ≡ s → put_name (put_name es one x) other y ≡ put_name (put_name es other y) one x
-            → put_name (match_ordering r ((one, x) ∷ e ∷ es) ((e.0, x) ∷ es) (e ∷ put_name es one x)) other y ≡ put_name (match_ordering s ((other, y) ∷ e ∷ es) ((e.0, y) ∷ es) (e ∷ put_name es other y)) one x
+        by : (r s : Ordering) → bytes_cmp one e.0 ≡ r → bytes_cmp other e.0 ≡ s → put_at (put_at es one x) other y ≡ put_at (put_at es other y) one x
+            → put_at (match_ordering r ((one, x) ∷ e ∷ es) ((e.0, x) ∷ es) (e ∷ put_at es one x)) other y ≡ put_at (match_ordering s ((other, y) ∷ e ∷ es) ((e.0, y) ∷ es) (e ∷ put_at es other y)) one x
         by Less Less a b more = first (bytes_cmp other one) refl a b
         by Less Equal a b more = rw (ap (λ (n : List ℕ). bytes_cmp n one) (same-equal other e.0 b) ∙ greater-less e.0 one a, b, a) refl
         by Less Greater a b more = rw (greater-less other one (nat_list_cmp_total.trans one e.0 other a (less-greater e.0 other b)), b, a) refl
@@ -84,30 +84,30 @@ module _ {X : Type 0} (index : List ℕ → List ℕ) (made : List ℕ → X →
 
     -- what is put in before pairs of other indices may be put in after them
     past : (entries : Map X) (items : Items) (text : List ℕ) → Sole entries → at entries name ≡ None
-        → put_all (put_name items (index name) text) (map paired entries) ≡ put_name (put_all items (map paired entries)) (index name) text
+        → put_all (put_at items (index name) text) (map paired entries) ≡ put_at (put_all items (map paired entries)) (index name) text
     past [] items text sole none = refl
     past (e ∷ es) items text sole none =
         let m = misses name e es none in
         ap (λ (l : Items). put_all l (map paired es)) (put-swap (index name) (index e.0) (λ same. m.differs (sole.0 (sym same))) text (made e.0 e.1) items)
-        ∙ past es (put_name items (index e.0) (made e.0 e.1)) text sole.1 m.none
+        ∙ past es (put_at items (index e.0) (made e.0 e.1)) text sole.1 m.none
 
     pub all-put : (entries : Map X) (items : Items) (x : X) → Ascends entries → Sole entries
-        → put_all items (map paired (put_name entries name x)) ≡ put_name (put_all items (map paired entries)) (index name) (made name x)
+        → put_all items (map paired (put_at entries name x)) ≡ put_at (put_all items (map paired entries)) (index name) (made name x)
     all-put [] items x up sole = refl
     all-put (e ∷ es) items x up sole =
-        by (bytes_cmp name e.0) refl (ascends_put (e ∷ es) name x up) (all-put es (put_name items (index e.0) (made e.0 e.1)) x (rest_ascends e es up) sole.1)
+        by (bytes_cmp name e.0) refl (ascends_put (e ∷ es) name x up) (all-put es (put_at items (index e.0) (made e.0 e.1)) x (rest_ascends e es up) sole.1)
       where
         by : (r : Ordering) → bytes_cmp name e.0 ≡ r
-            → Ascends (match_ordering r ((name, x) ∷ e ∷ es) ((e.0, x) ∷ es) (e ∷ put_name es name x))
-            → put_all (put_name items (index e.0) (made e.0 e.1)) (map paired (put_name es name x)) ≡ put_name (put_all (put_name items (index e.0) (made e.0 e.1)) (map paired es)) (index name) (made name x)
-            → put_all items (map paired (match_ordering r ((name, x) ∷ e ∷ es) ((e.0, x) ∷ es) (e ∷ put_name es name x))) ≡ put_name (put_all items (map paired (e ∷ es))) (index name) (made name x)
+            → Ascends (match_ordering r ((name, x) ∷ e ∷ es) ((e.0, x) ∷ es) (e ∷ put_at es name x))
+            → put_all (put_at items (index e.0) (made e.0 e.1)) (map paired (put_at es name x)) ≡ put_at (put_all (put_at items (index e.0) (made e.0 e.1)) (map paired es)) (index name) (made name x)
+            → put_all items (map paired (match_ordering r ((name, x) ∷ e ∷ es) ((e.0, x) ∷ es) (e ∷ put_at es name x))) ≡ put_at (put_all items (map paired (e ∷ es))) (index name) (made name x)
         by Less is above more = past (e ∷ es) items (made name x) sole (first_alone (name, x) (e ∷ es) above)
         by Equal is above more =
             let same : name ≡ e.0 = same-equal name e.0 is in
-            ap (λ (n : List ℕ). put_all (put_name items (index n) (made n x)) (map paired es)) (sym same)
+            ap (λ (n : List ℕ). put_all (put_at items (index n) (made n x)) (map paired es)) (sym same)
             ∙ ap (λ (l : Items). put_all l (map paired es)) (sym (put-again (index name) (made name e.1) (made name x) items))
-            ∙ past es (put_name items (index name) (made name e.1)) (made name x) sole.1 (ap (at es) same ∙ first_alone e es up)
-            ∙ ap (λ (n : List ℕ). put_name (put_all (put_name items (index n) (made n e.1)) (map paired es)) (index name) (made name x)) same
+            ∙ past es (put_at items (index name) (made name e.1)) (made name x) sole.1 (ap (at es) same ∙ first_alone e es up)
+            ∙ ap (λ (n : List ℕ). put_at (put_all (put_at items (index n) (made n e.1)) (map paired es)) (index name) (made name x)) same
         by Greater is above more = more
 
 -- ---- pairs that were put together before
@@ -121,16 +121,16 @@ map-itself [] = refl
 map-itself (pair ∷ pairs) = ap (λ (l : Items). pair ∷ l) (map-itself pairs)
 
 -- one pair more among those that are put in
-put_all-put : (items pairs : Items) (index text : List ℕ) → Ascends pairs → put_all items (put_name pairs index text) ≡ put_name (put_all items pairs) index text
+put_all-put : (items pairs : Items) (index text : List ℕ) → Ascends pairs → put_all items (put_at pairs index text) ≡ put_at (put_all items pairs) index text
 put_all-put items pairs index text up =
-    ap (put_all items) (sym (map-itself (put_name pairs index text)))
+    ap (put_all items) (sym (map-itself (put_at pairs index text)))
     ∙ all-put (λ index. index) (λ index text. text) index pairs items text up (all-itself index pairs)
-    ∙ ap (λ (l : Items). put_name (put_all items l) index text) (map-itself pairs)
+    ∙ ap (λ (l : Items). put_at (put_all items l) index text) (map-itself pairs)
 
 pub put_all-joined : (items pairs more : Items) → Ascends pairs → put_all items (put_all pairs more) ≡ put_all (put_all items pairs) more
 put_all-joined items pairs [] up = refl
 put_all-joined items pairs (pair ∷ more) up =
-    put_all-joined items (put_name pairs pair.0 pair.1) more (ascends_put pairs pair.0 pair.1 up)
+    put_all-joined items (put_at pairs pair.0 pair.1) more (ascends_put pairs pair.0 pair.1 up)
     ∙ ap (λ (l : Items). put_all l more) (put_all-put items pairs pair.0 pair.1 up)
 
 -- ---- names in maps
@@ -158,7 +158,7 @@ module _ (provider : Provider) where
 
   -- a name that is put into bindings, in which no other has its index, is put into their placement
   pub placement_put : (bindings : Map Binding) (name : List ℕ) (binding : Binding) → Ascends bindings → Alone provider name bindings
-      → placement provider (put_name bindings name binding) ≡ put_name (placement provider bindings) (index_of provider name) (commitment provider name binding)
+      → placement provider (put_at bindings name binding) ≡ put_at (placement provider bindings) (index_of provider name) (commitment provider name binding)
   placement_put bindings name binding up alone = all-put (index_of provider) (commitment provider) name bindings [] binding up alone
 
   -- names of one index are one name, in the bindings and what overwrites them
@@ -176,10 +176,10 @@ module _ (provider : Provider) where
   pub apart-alone_second : (bindings pending : Map Binding) (name : List ℕ) → AreApartIn bindings pending → HasName bindings name ⊎ HasName pending name → Alone provider name pending
   apart-alone_second bindings pending name apart held = apart-alone pending name (λ other has same. apart other name (inr has) held same)
 
-  apart-put : (bindings : Map Binding) (e : List ℕ × Binding) (es : Map Binding) → AreApartIn bindings (e ∷ es) → AreApartIn (put_name bindings e.0 e.1) es
+  apart-put : (bindings : Map Binding) (e : List ℕ × Binding) (es : Map Binding) → AreApartIn bindings (e ∷ es) → AreApartIn (put_at bindings e.0 e.1) es
   apart-put bindings e es apart one other a b same = apart one other (held one a) (held other b) same
     where
-      held : (name : List ℕ) → HasName (put_name bindings e.0 e.1) name ⊎ HasName es name → HasName bindings name ⊎ HasName (e ∷ es) name
+      held : (name : List ℕ) → HasName (put_at bindings e.0 e.1) name ⊎ HasName es name → HasName bindings name ⊎ HasName (e ∷ es) name
       held name (inl now) = elim (put-named bindings e.0 name e.1 now) [
         | inl before ↦ inl before
         | inr same ↦ inr (subst (HasName (e ∷ es)) (sym same) (named-first e es))
@@ -191,7 +191,7 @@ module _ (provider : Provider) where
       → placement provider (overwritten bindings pending) ≡ put_all (placement provider bindings) (map (item provider) pending)
   overwritten-each bindings [] up apart = refl
   overwritten-each bindings (e ∷ es) up apart =
-      overwritten-each (put_name bindings e.0 e.1) es (ascends_put bindings e.0 e.1 up) (apart-put bindings e es apart)
+      overwritten-each (put_at bindings e.0 e.1) es (ascends_put bindings e.0 e.1 up) (apart-put bindings e es apart)
       ∙ ap (λ (l : Items). put_all l (map (item provider) es))
       (placement_put bindings e.0 e.1 up (apart-alone_first bindings (e ∷ es) e.0 apart (inr (named-first e es))))
 
@@ -215,7 +215,7 @@ module _ (provider : Provider) where
         or-false false = refl
     taken (e ∷ es) items none =
         by (bytes_eq e.0 name) (bytes_eq (index_of provider e.0) (index_of provider name)) refl refl (misses name e es none).differs
-        ∙ taken es (put_name items (index_of provider e.0) (commitment provider e.0 e.1)) (misses name e es none).none
+        ∙ taken es (put_at items (index_of provider e.0) (commitment provider e.0 e.1)) (misses name e es none).none
       where
         more : Bool
         more = has_its_index (index_of provider) name es
@@ -224,7 +224,7 @@ module _ (provider : Provider) where
         before = is_some (commitment_of items (index_of provider name))
 
         now : Bool
-        now = is_some (commitment_of (put_name items (index_of provider e.0) (commitment provider e.0 e.1)) (index_of provider name))
+        now = is_some (commitment_of (put_at items (index_of provider e.0) (commitment provider e.0 e.1)) (index_of provider name))
 
         or-true : (t : Bool) → (t || true) ≡ true
         or-true true = refl
@@ -237,7 +237,7 @@ module _ (provider : Provider) where
         by false true is same differs =
             or-true before ∙ ap (λ (found : Option (List ℕ)). is_some found || more)
             (sym (at_put_same (index_of provider e.0) (commitment provider e.0 e.1) items)
-            ∙ ap (commitment_of (put_name items (index_of provider e.0) (commitment provider e.0 e.1))) ((bytes_eq-Decides (index_of provider e.0) (index_of provider name)).0 same))
+            ∙ ap (commitment_of (put_at items (index_of provider e.0) (commitment provider e.0 e.1))) ((bytes_eq-Decides (index_of provider e.0) (index_of provider name)).0 same))
         by false false is other differs =
             ap (λ (found : Option (List ℕ)). is_some found || more)
             (sym (at_put_other (index_of provider e.0) (commitment provider e.0 e.1) items (index_of provider name)

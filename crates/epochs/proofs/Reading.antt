@@ -27,7 +27,7 @@ use Rattle.book.specs.declared.reply.Reply.TheVariants as reply
 use Rattle.book.specs.Steps.{Found, Promised, Told, bad_name, first, has_length_within, refusal, page_range, found_in, promise_outcome}
 use Rattle.commands.specs.Operations.{History, Lookup, Promise, Query}
 use Rattle.book.specs.Books.{Binding, Book, Page, page_at, pages}
-use Rattle.book.specs.Maps.{at}
+use Rattle.encoding.specs.Maps.{at}
 use Rattle.book.specs.Shows.{Provider, index_of, roots, reply_end, IsRootOf}
 use Rattle.book.specs.Turns.{IsReadAnswer, IsRefused, ReadsOnly, Shows}
 use Rattle.book.proofs.Rooted.{rooted-part}

@@ -15,7 +15,7 @@ use Rattle.std.proofs.lemmas.Map.Entries.{none_below_head}
 use Rattle.prefixtree.proofs.Order.{same-equal}
 use Rattle.book.specs.Books.{Binding}
 use Rattle.epochs.specs.Histories.{Version, chosen, or_else, binding_at, waiting, with_some}
-use Rattle.book.specs.Maps.{Map, at, overwritten, put_name}
+use Rattle.encoding.specs.Maps.{Map, at, overwritten, put_at}
 use Rattle.epochs.specs.Versions.{AllBefore, AllWithin, AreHistories, Ascends, NamesWithin, versions_of, with_version}
 use Rattle.book.proofs.Entries.{Ascends as NamesAscend, ascends_put, at_put_other, at_put_same, first_alone, is_name, rest_ascends}
 use Rattle.book.proofs.Turning.{all-push}
@@ -24,12 +24,12 @@ use Rattle.encoding.specs.Bytes.{bytes_cmp}
 
 -- ---- what holds of the entries' values
 module _ {V : Type 0} (Q : V → Type 0) where
-  pub all-put : (name : List ℕ) (x : V) (map : Map V) → Q x → AllByRecursion (λ e. Q e.1) map → AllByRecursion (λ e. Q e.1) (put_name map name x)
+  pub all-put : (name : List ℕ) (x : V) (map : Map V) → Q x → AllByRecursion (λ e. Q e.1) map → AllByRecursion (λ e. Q e.1) (put_at map name x)
   all-put name x [] q all = (q, tt)
   all-put name x (e ∷ es) q all = by (bytes_cmp name e.0) (all-put name x es q all.1)
     where
-      by : (r : Ordering) → AllByRecursion (λ e. Q e.1) (put_name es name x)
-          → AllByRecursion (λ e. Q e.1) (match_ordering r ((name, x) ∷ e ∷ es) ((e.0, x) ∷ es) (e ∷ put_name es name x))
+      by : (r : Ordering) → AllByRecursion (λ e. Q e.1) (put_at es name x)
+          → AllByRecursion (λ e. Q e.1) (match_ordering r ((name, x) ∷ e ∷ es) ((e.0, x) ∷ es) (e ∷ put_at es name x))
       by Less more = (q, all)
       by Equal more = (q, all.1)
       by Greater more = (all.0, more)
@@ -90,31 +90,31 @@ module _ {V X : Type 0} (f : V → Option X) where
   none_below name e es up is = lookup-none (is_at (bytes_cmp name)) (e ∷ es) (none_below_head nat_list_cmp_total name e es up is)
 
   -- what is chosen of names, where what is put in gives what was chosen before
-  pub chosen-put_same : (name : List ℕ) (x : V) (map : Map V) → NamesAscend map → f x ≡ option_and_then f (at map name) → chosen f (put_name map name x) ≡ chosen f map
+  pub chosen-put_same : (name : List ℕ) (x : V) (map : Map V) → NamesAscend map → f x ≡ option_and_then f (at map name) → chosen f (put_at map name x) ≡ chosen f map
   chosen-put_same name x [] up same = ap (λ (o : Option X). with_some o name []) same
   chosen-put_same name x (e ∷ es) up same = by (bytes_cmp name e.0) refl (chosen-put_same name x es (rest_ascends e es up))
     where
-      by : (r : Ordering) → bytes_cmp name e.0 ≡ r → (f x ≡ option_and_then f (at es name) → chosen f (put_name es name x) ≡ chosen f es)
-          → chosen f (match_ordering r ((name, x) ∷ e ∷ es) ((e.0, x) ∷ es) (e ∷ put_name es name x)) ≡ chosen f (e ∷ es)
+      by : (r : Ordering) → bytes_cmp name e.0 ≡ r → (f x ≡ option_and_then f (at es name) → chosen f (put_at es name x) ≡ chosen f es)
+          → chosen f (match_ordering r ((name, x) ∷ e ∷ es) ((e.0, x) ∷ es) (e ∷ put_at es name x)) ≡ chosen f (e ∷ es)
       by Less is more = ap (λ (o : Option X). with_some o name (chosen f (e ∷ es))) (same ∙ ap (option_and_then f) (none_below name e es up is))
       by Equal is more = ap (λ (o : Option X). with_some o e.0 (chosen f es)) (same ∙ ap (λ (r : Ordering). option_and_then f (cond (is_eq r) (Some e.1) (at es name))) is)
       by Greater is more = ap (with_some (f e.1) e.0) (more (same ∙ ap (λ (r : Ordering). option_and_then f (cond (is_eq r) (Some e.1) (at es name))) is))
 
   -- and where it gives something else
-  pub chosen-put_new : (name : List ℕ) (x : V) (y : X) (map : Map V) → NamesAscend map → f x ≡ Some y → chosen f (put_name map name x) ≡ put_name (chosen f map) name y
+  pub chosen-put_new : (name : List ℕ) (x : V) (y : X) (map : Map V) → NamesAscend map → f x ≡ Some y → chosen f (put_at map name x) ≡ put_at (chosen f map) name y
   unfolding IsStrictlySortedBy
   chosen-put_new name x y [] up new = ap (λ (o : Option X). with_some o name []) new
   chosen-put_new name x y (e ∷ es) up new = by (bytes_cmp name e.0) refl (chosen-put_new name x y es up.1 new)
     where
-      over : (o : Option X) → bytes_cmp name e.0 ≡ Equal → with_some (Some y) e.0 (chosen f es) ≡ put_name (with_some o e.0 (chosen f es)) name y
+      over : (o : Option X) → bytes_cmp name e.0 ≡ Equal → with_some (Some y) e.0 (chosen f es) ≡ put_at (with_some o e.0 (chosen f es)) name y
       over None is =
           let same : e.0 ≡ name = sym (same-equal name e.0 is) in
           ap (λ (n : List ℕ). with_some (Some y) n (chosen f es)) same ∙ sym (put-front name y (chosen f es) (subst (λ (n : List ℕ). Above n (chosen f es)) same (chosen-above f e.0 es up.0)))
-      over (Some z) is = sym (ap (λ (r : Ordering). match_ordering r ((name, y) ∷ (e.0, z) ∷ chosen f es) ((e.0, y) ∷ chosen f es) ((e.0, z) ∷ put_name (chosen f es) name y)) is)
+      over (Some z) is = sym (ap (λ (r : Ordering). match_ordering r ((name, y) ∷ (e.0, z) ∷ chosen f es) ((e.0, y) ∷ chosen f es) ((e.0, z) ∷ put_at (chosen f es) name y)) is)
 
-      past : (o : Option X) → bytes_cmp name e.0 ≡ Greater → with_some o e.0 (put_name (chosen f es) name y) ≡ put_name (with_some o e.0 (chosen f es)) name y
+      past : (o : Option X) → bytes_cmp name e.0 ≡ Greater → with_some o e.0 (put_at (chosen f es) name y) ≡ put_at (with_some o e.0 (chosen f es)) name y
       past None is = refl
-      past (Some z) is = sym (ap (λ (r : Ordering). match_ordering r ((name, y) ∷ (e.0, z) ∷ chosen f es) ((e.0, y) ∷ chosen f es) ((e.0, z) ∷ put_name (chosen f es) name y)) is)
+      past (Some z) is = sym (ap (λ (r : Ordering). match_ordering r ((name, y) ∷ (e.0, z) ∷ chosen f es) ((e.0, y) ∷ chosen f es) ((e.0, z) ∷ put_at (chosen f es) name y)) is)
 
       above : bytes_cmp name e.0 ≡ Less → Above name (e ∷ es)
       above is = (is, past_first (keys_of es) up.0)
@@ -123,8 +123,8 @@ module _ {V X : Type 0} (f : V → Option X) where
           past_first [] all = tt
           past_first (n ∷ names) all = (nat_list_cmp_total.trans name e.0 n is all.0, past_first names all.1)
 
-      by : (r : Ordering) → bytes_cmp name e.0 ≡ r → chosen f (put_name es name x) ≡ put_name (chosen f es) name y
-          → chosen f (match_ordering r ((name, x) ∷ e ∷ es) ((e.0, x) ∷ es) (e ∷ put_name es name x)) ≡ put_name (chosen f (e ∷ es)) name y
+      by : (r : Ordering) → bytes_cmp name e.0 ≡ r → chosen f (put_at es name x) ≡ put_at (chosen f es) name y
+          → chosen f (match_ordering r ((name, x) ∷ e ∷ es) ((e.0, x) ∷ es) (e ∷ put_at es name x)) ≡ put_at (chosen f (e ∷ es)) name y
       by Less is more = ap (λ (o : Option X). with_some o name (chosen f (e ∷ es))) new ∙ sym (put-front name y (chosen f (e ∷ es)) (chosen-above f name (e ∷ es) (above is)))
       by Equal is more = ap (λ (o : Option X). with_some o e.0 (chosen f es)) new ∙ over (f e.1) is
       by Greater is more = ap (with_some (f e.1) e.0) more ∙ past (f e.1) is
@@ -176,7 +176,7 @@ module _ (names : Map (List Version)) (name : List ℕ) (version : Version) wher
       (shown-append p version (versions_of names name) late ∙ none_or Version (binding_at p) (at names name) refl)
 
   -- what waits for the page of the version is as it was, and the version
-  pub waiting_added : (p : ℕ) → NamesAscend names → version.number ≡ p → chosen (waiting p) (with_version names name version) ≡ put_name (chosen (waiting p) names) name version.binding
+  pub waiting_added : (p : ℕ) → NamesAscend names → version.number ≡ p → chosen (waiting p) (with_version names name version) ≡ put_at (chosen (waiting p) names) name version.binding
   waiting_added p up due = chosen-put_new (waiting p) name (versions_of names name ++ version ∷ []) version.binding names up (waiting-append p version (versions_of names name) due)
 
   pub within_with : (n : ℕ) → version.number ≤ n → NamesWithin n names → NamesWithin n (with_version names name version)

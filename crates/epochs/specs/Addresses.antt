@@ -2,7 +2,7 @@
 use Rattle.std.specs.Prelude.{◌≡◌, ℕ, List, [], ◌∷◌, ◌++◌}
 use Rattle.std.specs.List.{AllByRecursion}
 use Rattle.std.specs.Option.{unwrap_or}
-use Rattle.book.specs.Maps.{Map, at, put_name}
+use Rattle.encoding.specs.Maps.{Map, at, put_at}
 use Rattle.book.specs.Shows.{Provider, index_of}
 use Rattle.epochs.specs.declared.address.Address.{Address}
 use Rattle.epochs.specs.Histories.{Version}
@@ -23,7 +23,7 @@ named bytes entries = record { versions = at_bytes bytes (λ history. history.ve
 
 -- the names with this history of a name
 abbrev pub with_history : NamesContent → List ℕ → HistoryContent → NamesContent
-with_history names name history = record { versions = put_name names.versions name history.versions; addresses = put_name names.addresses name history.address }
+with_history names name history = record { versions = put_at names.versions name history.versions; addresses = put_at names.addresses name history.address }
 
 -- the names with this as the last version of a name, which keeps its address, or else gets this one
 abbrev pub with_name : NamesContent → List ℕ → Address → Version → NamesContent

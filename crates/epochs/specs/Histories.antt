@@ -2,7 +2,7 @@
 -- that shows it.
 use Rattle.std.specs.Prelude.{ℕ, List, [], ◌∷◌, nat_le, nat_eq, if◌then◌else◌, Option, Some, None}
 use Rattle.book.specs.Books.{Binding}
-use Rattle.book.specs.Maps.{Map}
+use Rattle.encoding.specs.Maps.{Map}
 use Rattle.epochs.specs.declared.directory.reading.Opening.{Opening}
 
 -- what an opening opens a leaf to

@@ -4,7 +4,7 @@ use Rattle.std.specs.Option.{option_map}
 use Rattle.commands.specs.declared.edit.Verb.TheVariants.{Change}
 use Rattle.book.specs.declared.record.Record.{Record}
 use Rattle.book.specs.declared.directory_refusal.Refusal.{Refusal}
-use Rattle.book.specs.Maps.{at}
+use Rattle.encoding.specs.Maps.{at}
 use Rattle.book.specs.Steps.{binding_tests, first}
 use Rattle.book.specs.Turns.{IsUnkept}
 use Rattle.prefixtree.specs.Placement.{Items, commitment_of, put}

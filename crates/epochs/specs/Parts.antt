@@ -5,7 +5,7 @@ use Rattle.prefixtree.specs.Placement.{Items}
 use Rattle.rootchain.specs.Bodies.{body_bytes}
 use Rattle.rootchain.specs.declared.signed_root.SignedRoot.{SignedRoot}
 use Rattle.book.specs.Books.{Binding, Book, Page, pages}
-use Rattle.book.specs.Maps.{Map}
+use Rattle.encoding.specs.Maps.{Map}
 use Rattle.book.specs.Shows.{Provider, index_of, placement, roots}
 use Rattle.book.specs.Sound.{IsSound}
 use Rattle.epochs.specs.Ends.{all_but_last, final}

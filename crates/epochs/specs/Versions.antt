@@ -6,7 +6,7 @@ use Rattle.std.specs.Map.{keys_of}
 use Rattle.std.specs.Option.{unwrap_or}
 use Rattle.prefixtree.specs.Placement.{Items}
 use Rattle.epochs.specs.Histories.{Version}
-use Rattle.book.specs.Maps.{Map, at, put_name}
+use Rattle.encoding.specs.Maps.{Map, at, put_at}
 use Rattle.encoding.specs.Bytes.{bytes_cmp}
 
 -- the versions of a name ascend
@@ -37,12 +37,12 @@ versions_of names name = unwrap_or (at names name) []
 
 -- the names with this as the last version of a name
 abbrev pub with_version : Map (List Version) → List ℕ → Version → Map (List Version)
-with_version names name version = put_name names name (versions_of names name ++ version ∷ [])
+with_version names name version = put_at names name (versions_of names name ++ version ∷ [])
 
 -- what the entries of a map have, each at the bytes of its key, in the order of these
 unfoldable pub at_bytes : {K X Y : Type 0} → (K → List ℕ) → (X → Y) → List (K × X) → Map Y
 at_bytes bytes of [] = []
-at_bytes bytes of (entry ∷ entries) = put_name (at_bytes bytes of entries) (bytes entry.0) (of entry.1)
+at_bytes bytes of (entry ∷ entries) = put_at (at_bytes bytes of entries) (bytes entry.0) (of entry.1)
 
 -- the items that the entries of a map are, in the order of their indices
 abbrev pub in_order : Items → Items

@@ -3,7 +3,7 @@
 ghost use Rattle.std.specs.Prelude.{◌≡◌, ◌+◌, ◌<◌, ◌≤◌, [], IsSome, MatchOption, MatchResult, option_and_then};
 ghost use Rattle.std.specs.Option.{option_map};
 ghost use Rattle.commit.specs.Commitments.{commitment_bytes};
-ghost use Rattle.book.specs.Maps.{at};
+ghost use Rattle.encoding.specs.Maps.{at};
 ghost use Rattle.book.specs.Turns.{IsUnkept};
 ghost use Rattle.epochs.specs.Addresses.{named, with_name};
 ghost use Rattle.epochs.specs.Histories.{binding_at};

@@ -8,7 +8,7 @@ use Rattle.book.specs.declared.reply.Reply.{Reply}
 use Rattle.book.specs.declared.reply.Reply.TheVariants as reply_of
 use Rattle.book.specs.Steps.{Answer, Promised, Found, Told, Last, bad_name, Outcome, Answers, Refuses, step, kept_of}
 use Rattle.book.specs.Books.{Binding, Book, Page, page_at}
-use Rattle.book.specs.Maps.{at}
+use Rattle.encoding.specs.Maps.{at}
 use Rattle.book.specs.Shows.{Provider, index_of, IsReplyOf}
 use Rattle.book.specs.Turns.{Declines, Shows, Turn}
 use Rattle.book.proofs.Stepping.{finds, stepped}

@@ -14,7 +14,7 @@ use Rattle.book.specs.declared.reply.Reply.{Reply}
 use Rattle.book.specs.Steps.{Answer, refusal}
 use Rattle.book.specs.Books.{Binding, Book, Page, pages}
 use Rattle.book.specs.Keeps.{KeepsNothing, NeverFails}
-use Rattle.book.specs.Maps.{Map, at, put_name}
+use Rattle.encoding.specs.Maps.{Map, at, put_at}
 use Rattle.book.specs.Shows.{Provider, SignedPage, body_behind, index_of, roots, sealed_behind, sealed_pages, signed}
 use Rattle.book.specs.Turns.{Run}
 use Rattle.book.proofs.Carried.{carried}
@@ -97,11 +97,11 @@ abbrev pub StillWaits : Book → Book → Type 0
 StillWaits before book = (before.last.epoch < book.last.epoch)
     ⊎ ((book.last.epoch ≡ before.last.epoch) × ((name : List ℕ) → IsSome (at before.pending name) → IsSome (at book.pending name)))
 
-pub put_waits : (pending : Map Binding) (name other : List ℕ) (binding : Binding) → IsSome (at pending other) → IsSome (at (put_name pending name binding) other)
+pub put_waits : (pending : Map Binding) (name other : List ℕ) (binding : Binding) → IsSome (at pending other) → IsSome (at (put_at pending name binding) other)
 put_waits pending name other binding some = by (is_at (bytes_cmp name) other) refl
   where
-    by : (b : Bool) → is_at (bytes_cmp name) other ≡ b → IsSome (at (put_name pending name binding) other)
-    by true is = subst IsSome (sym (ap (at (put_name pending name binding)) (is_name name other is) ∙ at_put_same name binding pending)) refl
+    by : (b : Bool) → is_at (bytes_cmp name) other ≡ b → IsSome (at (put_at pending name binding) other)
+    by true is = subst IsSome (sym (ap (at (put_at pending name binding)) (is_name name other is) ∙ at_put_same name binding pending)) refl
     by false is = subst IsSome (sym (at_put_other name binding pending other (is_no_name name other is))) some
 
 waits_after : (index : List ℕ → List ℕ) (before book after : Book) (asked : Operation) (answer : Answer) → StillWaits before book → refusal index book asked ≡ None → Does book asked answer after → StillWaits before after

@@ -29,7 +29,7 @@ use Rattle.book.specs.Steps.{Answer, Promised, Found, Told, Last, with_pending}
 use Rattle.book.specs.Books.{Binding, Book, Page}
 use Rattle.book.specs.Honest.{IsKept}
 use Rattle.book.specs.Keeps.{KeepsNothing, NeverFails}
-use Rattle.book.specs.Maps.{at}
+use Rattle.encoding.specs.Maps.{at}
 use Rattle.book.specs.Shows.{Provider, index_of, roots}
 use Rattle.book.specs.Turns.{Shows, Turn}
 use Rattle.book.proofs.Entries.{at_put_same}

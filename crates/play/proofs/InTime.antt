@@ -13,7 +13,7 @@ use Rattle.book.specs.declared.directory_refusal.Refusal.{Refusal}
 use Rattle.book.specs.declared.directory_refusal.Refusal.TheVariants.{EpochNotLater}
 use Rattle.book.specs.Steps.{refusal, done, step, unless_refused}
 use Rattle.book.specs.Books.{Binding, Book, Page, pages}
-use Rattle.book.specs.Maps.{Map, at, put_name}
+use Rattle.encoding.specs.Maps.{Map, at, put_at}
 use Rattle.book.proofs.Entries.{at_put_other, at_put_same, is_name, is_no_name}
 use Rattle.book.proofs.Stepping.{put_passed}
 use Rattle.book.proofs.Turning.{above-last, passed}
@@ -29,11 +29,11 @@ use Rattle.play.proofs.Lists.{both, each-so}
 use Rattle.encoding.specs.Bytes.{bytes_cmp}
 
 -- what waits stays when more is put
-some-put : (map : Map Binding) (name own : List ℕ) (x : Binding) → is_some (at map name) ≡ true → is_some (at (put_name map own x) name) ≡ true
+some-put : (map : Map Binding) (name own : List ℕ) (x : Binding) → is_some (at map name) ≡ true → is_some (at (put_at map own x) name) ≡ true
 some-put map name own x some = by (is_at (bytes_cmp own) name) refl
   where
-    by : (t : Bool) → is_at (bytes_cmp own) name ≡ t → is_some (at (put_name map own x) name) ≡ true
-    by true is = let e = is_name own name is in subst (λ (n : List ℕ). is_some (at (put_name map own x) n) ≡ true) (sym e) (ap is_some (at_put_same own x map))
+    by : (t : Bool) → is_at (bytes_cmp own) name ≡ t → is_some (at (put_at map own x) name) ≡ true
+    by true is = let e = is_name own name is in subst (λ (n : List ℕ). is_some (at (put_at map own x) n) ≡ true) (sym e) (ap is_some (at_put_same own x map))
     by false is = ap is_some (at_put_other own x map name (is_no_name own name is)) ∙ some
 
 module _ (index_of : List ℕ → List ℕ) where

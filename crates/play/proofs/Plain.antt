@@ -19,7 +19,7 @@ use Rattle.book.specs.declared.directory_refusal.Refusal.{Refusal}
 use Rattle.book.specs.Steps.{has_its_index, next_page, refusal, page_range as page_told, with_page, Outcome, done, found_in, promise_outcome, step, unless_refused}
 use Rattle.book.specs.Books.{Binding, Book, Page, page_at, pages}
 use Rattle.book.specs.Honest.{key_at}
-use Rattle.book.specs.Maps.{at, Map}
+use Rattle.encoding.specs.Maps.{at, Map}
 use Rattle.book.specs.Refusals.{book_refusal_number}
 use Rattle.book.proofs.Members.{first-there, later-there}
 use Rattle.hub.specs.Desks.{or_not_operator}

@@ -23,7 +23,7 @@ use Rattle.book.specs.Steps.{has_its_index}
 use Rattle.book.specs.Books.{Binding, Book, Page, pages}
 use Rattle.book.specs.Fresh.{KeepsLaws}
 use Rattle.book.specs.Honest.{key_at, IsHonestRun}
-use Rattle.book.specs.Maps.{at}
+use Rattle.encoding.specs.Maps.{at}
 use Rattle.book.specs.Shows.{Provider, SignedPage, index_of, roots, sealed_behind, IsReplyOf, IsRootOf}
 use Rattle.book.specs.Sound.{IsSound}
 use Rattle.book.specs.Turns.{Turn}

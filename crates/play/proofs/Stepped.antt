@@ -29,7 +29,7 @@ use Rattle.book.specs.Steps.{Answer, Promised, Found, Told, Last, first, has_len
 use Rattle.book.specs.Books.{Binding, Book, Page, page_at, pages}
 use Rattle.book.specs.Honest.{key_at, IsHonestRun}
 use Rattle.book.specs.Keeps.{KeepsNothing, NeverFails}
-use Rattle.book.specs.Maps.{at}
+use Rattle.encoding.specs.Maps.{at}
 use Rattle.book.specs.Shows.{Provider, SignedPage, index_of, roots, sealed_pages, IsRootOf}
 use Rattle.book.specs.Sound.{IsSound}
 use Rattle.book.specs.Turns.{Declines, Turn}

@@ -19,7 +19,7 @@ use Rattle.book.specs.declared.reply.Reply.{Reply}
 use Rattle.book.specs.declared.reply.Reply.TheVariants as reply
 use Rattle.book.specs.Books.{Binding, Book, Page}
 use Rattle.book.specs.Honest.{key_at, AreConsecutive, IsSaid, IsSaidAt}
-use Rattle.book.specs.Maps.{at}
+use Rattle.encoding.specs.Maps.{at}
 use Rattle.book.specs.Shows.{Provider, index_of, roots, IsRootOf}
 use Rattle.auditor.specs.Chains.{Chains, chain_of}
 use Rattle.auditor.specs.Evidence.{IsEvidence}

@@ -12,7 +12,7 @@ use Rattle.book.specs.declared.reply.Reply.TheVariants as replies
 use Rattle.book.specs.Books.{Page, page_at}
 use Rattle.book.specs.Fresh.{KeepsLaws}
 use Rattle.book.specs.Honest.{IsHonestRun}
-use Rattle.book.specs.Maps.{at}
+use Rattle.encoding.specs.Maps.{at}
 use Rattle.book.specs.Shows.{index_of, roots, IsReplyOf, IsRootOf}
 use Rattle.book.specs.Sound.{IsSound}
 use Rattle.client.specs.Looking.{Looks}

@@ -8,7 +8,7 @@ use Rattle.proofs.specs.Views.{key_stated}
 use Rattle.proofs.specs.declared.statement.Statement.{Statement}
 use Rattle.book.specs.Steps.{Found}
 use Rattle.book.specs.Books.{Book, Page}
-use Rattle.book.specs.Maps.{at}
+use Rattle.encoding.specs.Maps.{at}
 use Rattle.book.specs.Shows.{Provider, index_of, IsReplyOf, IsRootOf}
 use Rattle.book.specs.Sound.{IsSound}
 use Rattle.client.specs.Clients.{Client}

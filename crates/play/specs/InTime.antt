@@ -6,7 +6,7 @@ use Rattle.commands.specs.declared.edit.Verb.{Verb}
 use Rattle.commands.specs.Operations.{Edit, Put}
 use Rattle.book.specs.Steps.{Answer}
 use Rattle.book.specs.Books.{Book}
-use Rattle.book.specs.Maps.{at}
+use Rattle.encoding.specs.Maps.{at}
 use Rattle.play.specs.Laws.{after_lines}
 use Rattle.play.specs.Messages.{comes_of}
 use Rattle.play.specs.Played.{opening}

@@ -5,7 +5,7 @@ use Rattle.hex.specs.Hex.{encode_lower}
 use Rattle.book.specs.Steps.{Answer, Promised, Found, Told, Last, has_its_index}
 use Rattle.book.specs.Books.{Book, Page}
 use Rattle.book.specs.Honest.{key_at}
-use Rattle.book.specs.Maps.{at}
+use Rattle.encoding.specs.Maps.{at}
 use Rattle.play.specs.Messages as message
 
 -- the epoch of the last of these pages, or 0 if there is none

@@ -18,7 +18,7 @@ use Rattle.book.specs.Books.{Book}
 use Rattle.book.specs.Fresh.{KeepsLaws}
 use Rattle.book.specs.Honest.{IsHonestRun}
 use Rattle.book.specs.Keeps.{KeepsNothing, NeverFails}
-use Rattle.book.specs.Maps.{at}
+use Rattle.encoding.specs.Maps.{at}
 use Rattle.book.specs.Shows.{Provider, index_of, roots}
 use Rattle.book.specs.Sound.{IsSound}
 use Rattle.book.specs.Turns.{Turn}

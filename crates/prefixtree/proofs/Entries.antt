@@ -8,15 +8,7 @@ use Rattle.std.specs.declared.cmp.Ordering.{Ordering}
 use Rattle.std.specs.declared.cmp.Ordering.TheVariants.{Less, Equal, Greater}
 use Rattle.prefixtree.proofs.Order.{same-equal, equal-same, is_at-other}
 use Rattle.encoding.specs.Bytes.{bytes_cmp}
-
-abbrev Map : Type 0 → Type 0
-Map X = List (List ℕ × X)
-
-abbrev at : {X : Type 0} → Map X → List ℕ → Option X
-at map name = lookup (is_at (bytes_cmp name)) map
-
-abbrev put : {X : Type 0} → Map X → List ℕ → X → Map X
-put map name x = insert_entry bytes_cmp map name x
+use Rattle.encoding.specs.Maps.{Map, at, put_at}
 
 pub same_name : (name : List ℕ) → is_at (bytes_cmp name) name ≡ true
 same_name name = ap is_eq (equal-same name name refl)
@@ -37,32 +29,32 @@ is_no_name name other is e = false_true (sym is ∙ ap (λ (x : List ℕ). is_at
     false_true e = absurd cc
 
 module _ {X : Type 0} (name : List ℕ) (x : X) where
-  pub at_put_same : (map : Map X) → at (put map name x) name ≡ Some x
+  pub at_put_same : (map : Map X) → at (put_at map name x) name ≡ Some x
   at_put_same [] = rw (same_name name) refl
   at_put_same (e ∷ es) = by (bytes_cmp name e.0) refl (at_put_same es)
     where
-      by : (r : Ordering) → bytes_cmp name e.0 ≡ r → at (put es name x) name ≡ Some x
-          → at (match_ordering r ((name, x) ∷ e ∷ es) ((e.0, x) ∷ es) (e ∷ put es name x)) name ≡ Some x
+      by : (r : Ordering) → bytes_cmp name e.0 ≡ r → at (put_at es name x) name ≡ Some x
+          → at (match_ordering r ((name, x) ∷ e ∷ es) ((e.0, x) ∷ es) (e ∷ put_at es name x)) name ≡ Some x
       by Less is more = rw (same_name name) refl
       by Equal is more = rw is refl
       by Greater is more = rw is more
 
-  pub at_put_other : (map : Map X) (other : List ℕ) → other ≢ name → at (put map name x) other ≡ at map other
+  pub at_put_other : (map : Map X) (other : List ℕ) → other ≢ name → at (put_at map name x) other ≡ at map other
   at_put_other [] other differ = rw (is_at-other other name differ) refl
   at_put_other (e ∷ es) other differ = by (bytes_cmp name e.0) refl (at_put_other es other differ)
     where
-      by : (r : Ordering) → bytes_cmp name e.0 ≡ r → at (put es name x) other ≡ at es other
-          → at (match_ordering r ((name, x) ∷ e ∷ es) ((e.0, x) ∷ es) (e ∷ put es name x)) other ≡ at (e ∷ es) other
+      by : (r : Ordering) → bytes_cmp name e.0 ≡ r → at (put_at es name x) other ≡ at es other
+          → at (match_ordering r ((name, x) ∷ e ∷ es) ((e.0, x) ∷ es) (e ∷ put_at es name x)) other ≡ at (e ∷ es) other
       by Less is more = rw (is_at-other other name differ) refl
       by Equal is more = rw (is_at-other other e.0 (λ same. differ (same ∙ sym (same-equal name e.0 is)))) refl
       by Greater is more = ap (cond (is_at (bytes_cmp other) e.0) (Some e.1)) more
 
-  pub all_put : (P : List ℕ → Type 0) (Q : X → Type 0) (map : Map X) → P name → Q x → AllByRecursion (λ e. P e.0 × Q e.1) map → AllByRecursion (λ e. P e.0 × Q e.1) (put map name x)
+  pub all_put : (P : List ℕ → Type 0) (Q : X → Type 0) (map : Map X) → P name → Q x → AllByRecursion (λ e. P e.0 × Q e.1) map → AllByRecursion (λ e. P e.0 × Q e.1) (put_at map name x)
   all_put P Q [] p q all = ((p, q), tt)
   all_put P Q (e ∷ es) p q all = by (bytes_cmp name e.0) (all_put P Q es p q all.1)
     where
-      by : (r : Ordering) → AllByRecursion (λ e. P e.0 × Q e.1) (put es name x)
-          → AllByRecursion (λ e. P e.0 × Q e.1) (match_ordering r ((name, x) ∷ e ∷ es) ((e.0, x) ∷ es) (e ∷ put es name x))
+      by : (r : Ordering) → AllByRecursion (λ e. P e.0 × Q e.1) (put_at es name x)
+          → AllByRecursion (λ e. P e.0 × Q e.1) (match_ordering r ((name, x) ∷ e ∷ es) ((e.0, x) ∷ es) (e ∷ put_at es name x))
       by Less more = ((p, q), all)
       by Equal more = ((all.0.0, q), all.1)
       by Greater more = (all.0, more)

@@ -7,14 +7,12 @@ ghost use Rattle.server.specs.Reopening.{cut_words, journal_line};
 use encoding::FixedText;
 use itoa::Buffer;
 use std::io::Write;
-use textio::{ProgramFault, write_text};
+use textio::{MAX_DIGITS, ProgramFault, write_text};
 
-/// The most bytes of a number, and of the words of the line.
-const NUMBER: usize = 20;
-
+/// The bytes of the line's words.
 const WORDS: usize = b"journal:  records taken,  bytes cut off\n".len();
 
-const LINE: usize = WORDS + NUMBER + NUMBER;
+const LINE: usize = WORDS + MAX_DIGITS + MAX_DIGITS;
 
 /// The line about a journal.
 fn journal_line(records: u64, cut: usize) -> FixedText<LINE>

@@ -78,15 +78,16 @@ impl<T: Drop> From<AllocFailed<T>> for ProgramFault {
     }
 }
 
-/// The most bytes that stand before and after the number of a line, and of the number itself.
+/// The most digits of a number of 64 bits.
+pub const MAX_DIGITS: usize = 20;
+
+/// The most bytes that stand before and after the number of a line.
 const BEFORE_NUMBER: usize = b"line ".len();
 
 const AFTER_NUMBER: usize = b": index repeated\n".len();
 
-const NUMBER: usize = 20;
-
 /// The most bytes of a fault's line.
-const FAULT_TEXT: usize = BEFORE_NUMBER + NUMBER + AFTER_NUMBER;
+const FAULT_TEXT: usize = BEFORE_NUMBER + MAX_DIGITS + AFTER_NUMBER;
 
 type FaultText = FixedText<FAULT_TEXT>;
 

@@ -13,7 +13,7 @@ ghost use Rattle.prefixtree.specs.Node.{node_count};
 ghost use Rattle.prefixtree.specs.Placement.{put_all, IsPlacement};
 ghost use Rattle.book.specs.declared.record.Record.TheVariants as kept_as;
 ghost use Rattle.book.specs.Steps.{next_page, with_page, with_pending, Last, Promised};
-ghost use Rattle.book.specs.Maps.{at, overwritten};
+ghost use Rattle.encoding.specs.Maps.{at, overwritten};
 ghost use Rattle.book.specs.Replays.{put_refusal, with_bound};
 ghost use Rattle.book.specs.Shows.{index_of as index_by, placement};
 ghost use Rattle.book.specs.Sound.{HoldsName};

@@ -10,7 +10,7 @@ ghost use Rattle.proofs.specs.Views.{end_given};
 ghost use Rattle.book.specs.Steps.{Told, bad_name, first};
 ghost use Rattle.book.specs.declared.directory_refusal.Refusal.TheVariants.{NoSuchEpoch};
 ghost use Rattle.book.specs.Books.{Page, page_at, pages};
-ghost use Rattle.book.specs.Maps.{at};
+ghost use Rattle.encoding.specs.Maps.{at};
 ghost use Rattle.book.specs.Shows.{index_of as index_by, reply_end, IsRootOf};
 ghost use Rattle.book.specs.Sound.{HoldsName};
 ghost use Rattle.book.specs.Turns.{IsReadAnswer, IsRefused, ReadsOnly};

@@ -4,7 +4,7 @@ use Rattle.prefixtree.specs.Contents.{Contents}
 use Rattle.rootchain.specs.declared.body.Body.{Body}
 use Rattle.book.specs.declared.reply.Reply.TheVariants as reply
 use Rattle.book.specs.Books.{Book}
-use Rattle.book.specs.Maps.{overwritten}
+use Rattle.encoding.specs.Maps.{overwritten}
 use Rattle.book.specs.Shows.{Provider, placement}
 use Rattle.book.specs.Steps.{Last, next_page, with_page}
 use Rattle.book.specs.Turns.{Shows}
