@@ -14,7 +14,7 @@ pub enum AskFault {
     /// new. This is told.
     #[error("the roots do not come")]
     Stopped,
-    #[error("out of memory")]
+    #[error("{}", ProgramFault::OutOfMemory)]
     OutOfMemory,
 }
 

@@ -1,5 +1,6 @@
-// Evidence is read in steps: bytes to a value of JSON, its three members to bytes, and these, as their kind
-// says, to roots, a promise and a proof. Each step finds what its definition says, or the file is no evidence.
+// Evidence is read in steps: the file to a value of JSON, two of its three members to bytes, and these, as the
+// third says, to two roots, or to a promise, a root and a proof. Where a step finds nothing, the file is no
+// evidence.
 ghost use Rattle.std.specs.Prelude.{◌≡◌, ◌↔◌, option_map, IsTrue};
 ghost use Rattle.serde_json.specs.View.{view};
 ghost use Rattle.audits.specs.Files.{text_at, Finds, HasHex, HasThree, IsEvidenceOf, IsFileOf, IsJson, ReadsAgain};

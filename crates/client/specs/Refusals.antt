@@ -1,4 +1,4 @@
--- The numbers of the refusals.
+-- The refusals: what they are to a chain, and their numbers.
 use Rattle.std.specs.Prelude.{ℕ}
 use Rattle.rootchain.specs.declared.root_refusal.Refusal as chains
 use Rattle.rootchain.specs.declared.root_refusal.Refusal.TheVariants as chain
@@ -9,13 +9,14 @@ use Rattle.client.specs.declared.client_refusal.Refusal.TheVariants.{Root, Proof
 use Rattle.client.specs.declared.client_refusal.RootRefusal.{RootRefusal}
 use Rattle.client.specs.declared.client_refusal.RootRefusal.TheVariants.{Malformed, BadSignature, NotLater, BadLink}
 
--- the like refusal of a chain, and its number
+-- the like refusal of a chain
 abbrev pub chain_refusal : RootRefusal → chains.Refusal
 chain_refusal Malformed = chain.Malformed
 chain_refusal BadSignature = chain.BadSignature
 chain_refusal NotLater = chain.NotLater
 chain_refusal BadLink = chain.BadLink
 
+-- its number
 abbrev pub root_number : RootRefusal → ℕ
 root_number why = chain_refusal_number (chain_refusal why)
 

@@ -17,7 +17,7 @@ pub enum Refusal {
     /// These two roots are evidence against the provider.
     #[error("the root contradicts the chain")]
     RootDiffers(RootEvidence),
-    #[error("out of memory")]
+    #[error("{}", rootchain::Refusal::Memory)]
     Memory,
     #[error("no promise for the name is kept")]
     NoPromise,

@@ -23,20 +23,20 @@ module _ (provider : Provider) {K : Type 0} (kept failed : K → Record → K �
   due of = put_refusal (index_of provider) book Change of
 
   -- a name and a key within their limits, which the book may refuse
-  pub held_turn : (r : Result SignedPromise Refusal) (after : Book) (keeper_after : K)
+  pub change_turn : (r : Result SignedPromise Refusal) (after : Book) (keeper_after : K)
       → refusal (index_of provider) book (Edit (Put Change name key)) ≡ due name
       → MatchResult r
       (λ promise. (due the_name ≡ None) × kept keeper (record_of_a.Bound Change the_salt the_name the_key) keeper_after × (after ≡ with_pending book the_name the_key)
       × Shows provider after (Promised the_name (record { key = the_key; salt = book.salt })) (promised (Ok promise)))
       (λ why. (after ≡ book) × IsRefusedSo failed keeper (record_of_a.Bound Change the_salt the_name the_key) (due the_name) why keeper_after)
       → Turn provider kept failed book keeper (Edit (Put Change name key)) (promised r) after keeper_after
-  held_turn (Ok promise) after keeper_after within (none, keeps, is, shows) =
+  change_turn (Ok promise) after keeper_after within (none, keeps, is, shows) =
       put_turn provider kept failed book keeper name key provider book the_name the_key the_salt refl refl same_name same_key same_salt (Ok promise) after keeper_after
       Change (within ∙ ap due (sym same_name) ∙ none) (keeps, is, shows)
-  held_turn (Err why) after keeper_after within (same, inr (none, unkept)) =
+  change_turn (Err why) after keeper_after within (same, inr (none, unkept)) =
       put_turn provider kept failed book keeper name key provider book the_name the_key the_salt refl refl same_name same_key same_salt (Err why) after keeper_after
       Change (within ∙ ap due (sym same_name) ∙ none) (same, unkept)
-  held_turn (Err why) after keeper_after within (same, inl (is, stays)) =
+  change_turn (Err why) after keeper_after within (same, inl (is, stays)) =
       subst (λ (b : Book). Turn provider kept failed book keeper (Edit (Put Change name key)) (reply.Refused why) b keeper_after) (sym same)
       (subst (λ (k : K). Turn provider kept failed book keeper (Edit (Put Change name key)) (reply.Refused why) book k) (sym stays)
       (refuses provider kept failed book keeper (Edit (Put Change name key)) why (within ∙ ap due (sym same_name) ∙ is)))

@@ -15,10 +15,10 @@ use textio::option_hex32;
 fn main(rt: HostRuntime) -> Result<()> {
     let alloc = rt.alloc();
     let words: Vec<String> = env::args(&rt)?.collect(alloc)?;
-    let [_, address, provider, name, key, seconds] = words.as_slice() else {
+    let [_, address, signing_key, name, key, seconds] = words.as_slice() else {
         bail!("usage: example_client ADDRESS PROVIDER_KEY NAME KEY SECONDS");
     };
-    let provider = Hash32::new(option_hex32(provider).context("reading PROVIDER_KEY")?);
+    let signing_key = Hash32::new(option_hex32(signing_key).context("reading PROVIDER_KEY")?);
     let owned = Name::new(name.as_bytes()).context("reading NAME")?;
     let key = hex::decode(alloc, key.as_bytes()).context("reading KEY")?;
     let expected = KeyData::new(&key).context("reading KEY")?;
@@ -28,8 +28,8 @@ fn main(rt: HostRuntime) -> Result<()> {
     let stream = &mut TcpStream::connect(&rt, address).context("connecting")?;
     let said = &mut Said::new(alloc);
     let token = Hash32::default();
-    let checks = Checks::keyed(provider);
-    let begun = Asker::start_at_head(alloc, stream, checks, provider, token, said);
+    let checks = Checks::keyed(signing_key);
+    let begun = Asker::start_at_head(alloc, stream, checks, signing_key, token, said);
     let mut asker = tell(&rt, begun, said)?;
     // Look the name up, and watch it from the latest epoch on. If it has a key, that has to be the owner's.
     let name = Vec::from_slice(alloc, owned.bytes())?;

@@ -29,7 +29,10 @@ pub(crate) enum Job<'a> {
     Root(RootOrder<'a>),
     Prove(ProveOrder<'a>),
     Audit(AuditOrder<'a>),
-    Judge { key: &'a str, file: &'a [u8] },
+    Judge {
+        signing_key: &'a str,
+        file: &'a [u8],
+    },
     /// Plays a script.
     Play,
     /// Serves a directory.
@@ -104,7 +107,7 @@ impl<'a> Job<'a> {
                 signing_key: case.text(),
             })),
             b"judge" => Some(Job::Judge {
-                key: case.text(),
+                signing_key: case.text(),
                 file: case.bytes(),
             }),
             b"play" => Some(Job::Play),
@@ -134,7 +137,7 @@ impl<'a> Job<'a> {
             Job::Root(order) => ended(root(alloc, *order, reader, writer)),
             Job::Prove(order) => ended(prove(alloc, *order, reader, writer)),
             Job::Audit(order) => ended(audit(alloc, *order, reader, writer)),
-            Job::Judge { key, file } => match judge_file(alloc, key, file, writer) {
+            Job::Judge { signing_key, file } => match judge_file(alloc, signing_key, file, writer) {
                 Ok(_) => ended(Ok(())),
                 Err(fault) => ended(Err(fault)),
             },

@@ -16,7 +16,7 @@ pub enum HubRefusal {
 
     /// If the piece was not taken, nothing was done. If it was, a first part of the messages is
     /// answered, and the others wait for the next piece, which may be empty.
-    #[error("out of memory")]
+    #[error("{}", book::Refusal::Memory)]
     Memory { taken: bool },
 }
 

@@ -1,5 +1,5 @@
 use crate::digests::{INTERIOR_BYTES, LEAF_BYTES, measure_length, measure_lengths};
-use crate::key_change::{Held, keyed};
+use crate::held::{Held, keyed};
 use crate::pages::Pages;
 use crate::roots::{
     BODY_BYTES, KEYED_BYTES, SIGNED_BYTES, after, bodies, first_body, hash_of, provider,

@@ -1,5 +1,5 @@
 use crate::digests::{LEAF_BYTES, measure_length};
-use crate::key_change::{key_of, name_of};
+use crate::held::{key_of, name_of};
 use crate::roots::{provider, provider_vuf};
 use crate::run::Run;
 use encoding::Hash32;

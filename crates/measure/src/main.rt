@@ -11,7 +11,7 @@ mod changes;
 mod digests;
 mod directory;
 mod feeding;
-mod key_change;
+mod held;
 mod keeping;
 mod looking;
 mod pages;

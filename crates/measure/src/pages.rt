@@ -1,4 +1,4 @@
-use crate::key_change::{Held, tree_around};
+use crate::held::{Held, tree_around};
 use crate::roots::{bodies, first_body, lists_of, provider, provider_vuf, signed};
 use crate::run::Run;
 use crate::tree::Plain;

@@ -1,5 +1,5 @@
 use crate::digests::{INTERIOR_BYTES, take_digests};
-use crate::key_change::{Held, tree_around};
+use crate::held::{Held, tree_around};
 use crate::roots::{first_body, provider_vuf};
 use crate::run::Run;
 use crate::tree::Plain;

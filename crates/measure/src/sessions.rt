@@ -1,5 +1,5 @@
 use crate::directory::{FIRST, Provided, close, new_directory, promise_byte, register_all};
-use crate::key_change::{key_of, name_of};
+use crate::held::{key_of, name_of};
 use crate::run::Run;
 use commands::{Put, Query, Verb};
 use encoding::{Hash32, ProofText};

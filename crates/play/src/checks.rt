@@ -15,14 +15,14 @@ pub struct Checks<H, V, S> {
 
 impl Checks<Sha256Hash, KeyedVuf, KeyedSign> {
     /// SHA-256, and the stand-ins under the provider's key.
-    pub fn keyed(signing_key: Hash32) -> Self
+    pub fn keyed(key: Hash32) -> Self
         ensures hash { result.hash ≡ 0 }
-        ensures keys { (result.vuf ≡ signing_key) × (result.verifier ≡ signing_key) }
+        ensures keys { (result.vuf ≡ key) × (result.verifier ≡ key) }
     {
         Checks {
             hash: Sha256Hash::new(),
-            vuf: KeyedVuf::new(signing_key),
-            verifier: KeyedSign::new(signing_key),
+            vuf: KeyedVuf::new(key),
+            verifier: KeyedSign::new(key),
         }
     }
 }

@@ -9,7 +9,7 @@ use itoa::Buffer;
 use std::io::Write;
 use textio::{MAX_DIGITS, ProgramFault, write_text};
 
-/// The bytes of the line's words.
+/// How many bytes the words of the line have.
 const WORDS: usize = b"journal:  records taken,  bytes cut off\n".len();
 
 const LINE: usize = WORDS + MAX_DIGITS + MAX_DIGITS;

@@ -30,7 +30,7 @@ pub(crate) fn answer(
             reconcile_both(case, &mut keyed(), client, clients.other.as_ref());
         }
         b"from" => match kept {
-            Some(monitor) => { feeds::update(case, &mut keyed(), &mut clients.feed, monitor) }
+            Some(monitor) => feeds::update(case, &mut keyed(), &mut clients.feed, monitor),
             None => case.spoil(),
         },
         verb => match kept {
