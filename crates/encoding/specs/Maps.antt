@@ -1,4 +1,4 @@
--- Maps from byte strings to what is held of them, as pairs in the order of the bytes.
+-- Maps from byte strings to what is held at them, as pairs in the order of the bytes.
 use Rattle.std.specs.Prelude.{ℕ, List, [], ◌∷◌, Option}
 use Rattle.std.specs.BTreeMap.{is_at, insert_entry}
 use Rattle.std.specs.Map.{lookup}

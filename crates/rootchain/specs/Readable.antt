@@ -41,6 +41,7 @@ well_tested body well = both_true (lt-ltb body.previous_epoch body.epoch well.0)
     by true none = rw (well.1 (eqb-true body.previous_epoch 0 none)) (nat_list_eq_equiv.refl (replicate 32 0))
     by false some = refl
 
+-- the parts of a body, in the order of its form
 abbrev pub body_parts : Body → ℕ × (ℕ × (List ℕ × (List ℕ × (List ℕ × List ℕ))))
 body_parts body = (body.epoch, (body.previous_epoch, (body.root, (body.previous_hash, (body.nonce, body.vuf_key)))))
 

@@ -1,5 +1,5 @@
-// A text is written by as many writes as it takes. What is left behind each write is kept, and none is left at
-// the end; a write that fails leaves a beginning written.
+// A text is written by as many writes as it takes. Each takes some bytes, and the loop goes on with the rest until
+// none is left. A write that fails leaves a beginning written.
 ghost use Rattle.std.specs.Prelude.{◌≡◌, ◌<◌, ◌≤◌, length, take, OnOk, IfOk, IfErr};
 ghost use Rattle.std.specs.Io.KnownBytes.{Appends, Keeps};
 ghost use Rattle.textio.specs.Output.{WritesBeginning};

@@ -1,11 +1,11 @@
-// A read that a signal interrupted took nothing, so it is tried again; the first that was not is the answer.
+// The first read that no signal interrupts gives the answer.
 ghost use Rattle.std.specs.Prelude.{◌≡◌, ◌<◌, ◌≤◌, length, take, IfOk, IfErr};
 ghost use Rattle.std.specs.Io.KnownBytes.{Consumes, IsAtEnd, Keeps};
 
 use crate::stream_fault::{StreamFault, after_error};
 use std::io::Read;
 
-/// The most bytes that a program reads at once.
+/// The most bytes that are read of a session's stream at once.
 pub const PIECE_SIZE: usize = 4096;
 
 /// Reads some bytes into the room, and answers how many. A read that a signal interrupted is tried
