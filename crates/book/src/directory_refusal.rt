@@ -34,7 +34,7 @@ pub enum Refusal {
     #[error("no operation on the name waits")]
     NoPromise,
 
-    #[error("out of memory")]
+    #[error("{}", rootchain::Refusal::Memory)]
     Memory,
 
     #[error("no root is asked for, or more than 64")]

@@ -10,7 +10,7 @@ pub enum Refusal {
     /// The start has other public keys than those handed in.
     #[error("other keys")]
     OtherKeys,
-    #[error("out of memory")]
+    #[error("{}", book::Refusal::Memory)]
     Memory,
 }
 

@@ -10,7 +10,7 @@ pub enum FeedRefusal {
     #[error("the stream had a length that no frame has")]
     BadFrame,
 
-    #[error("out of memory")]
+    #[error("{}", rootchain::Refusal::Memory)]
     Memory,
 }
 
