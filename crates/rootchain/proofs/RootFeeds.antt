@@ -1,7 +1,8 @@
 -- Where the bytes of a list are cut does not matter: a feed tells the roots that the list has.
-use Rattle.std.proofs.Common.{◌≡◌, ◌≢◌, ◌⊎◌, ℕ, zero, suc, ◌+◌, ◌^◌, ◌<◌, ◌≤◌, Bool, true, false, cond, leb, ltb, List, [], ◌∷◌, ◌++◌, length, take, drop, Result, Ok, Err, refl, sym, ap, subst, ◌∙◌, append_assoc, length-append, inl, inr, arith}
+use Rattle.std.proofs.Common.{◌≡◌, ◌≢◌, ◌⊎◌, ℕ, zero, suc, ◌+◌, ◌-◌, ◌^◌, ◌<◌, ◌≤◌, Bool, true, false, cond, leb, ltb, List, [], ◌∷◌, ◌++◌, length, take, drop, Result, Ok, Err, refl, sym, ap, subst, ◌∙◌, append_assoc, length-append, inl, inr, arith}
 use Rattle.std.proofs.lemmas.Bool.{and_parts, cases_lt, le-leb, leb-true, ltb-false, ltb-true, le-ltb, lt-ltb}
 use Rattle.std.proofs.lemmas.List.{append-nil, take_at, drop_at, take-append-le, drop-append-le, length-drop}
+use Rattle.std.specs.Prelude.{nat_lt, if◌then◌else◌}
 use Rattle.std.specs.List.{flat_map, AllByRecursion}
 use Rattle.byteorder.specs.Endian.{big_bytes, big_number}
 use Rattle.byteorder.specs.Numbers.{length-bytes_high_first}
@@ -18,10 +19,10 @@ use Rattle.rootchain.specs.declared.root_feed.Next.TheVariants as next
 use Rattle.rootchain.specs.Bodies.{body_bytes, IsBody}
 use Rattle.rootchain.specs.declared.root_feed.Stage.{Stage}
 use Rattle.rootchain.specs.declared.root_feed.Stage.TheVariants as stage
-use Rattle.rootchain.specs.FeedViews.{held_of, TellsNext}
+use Rattle.rootchain.specs.FeedViews.{held_of, IsFront, TellsNext, TellsPassed}
 use Rattle.rootchain.specs.RootLists.{read_root_count, SpellsRoots}
 use Rattle.rootchain.specs.SignedRoots.{read_signed_root, signed_root_bytes, IsSignedRoot}
-use Rattle.rootchain.specs.RootFeeds.{front, front_read, front_sized, least_len, least_root_len, read_signature_len, told, told_by, told_counted, told_from, Front, FeedState, Bad, Counts, Done, Failed, MayBeHeld, Owes, Part, Whole}
+use Rattle.rootchain.specs.RootFeeds.{front, front_read, front_sized, held_bytes, least_len, least_root_len, passed, read_signature_len, told, told_by, told_counted, told_from, too_long, Front, FeedState, Bad, Counts, Done, Failed, MayBeHeld, Overlong, Owes, Part, TooLong, Whole}
 use Rattle.rootchain.specs.Readable.{signed_root_field}
 use Rattle.rootchain.proofs.RootLists.{count_field}
 
@@ -71,6 +72,15 @@ len_none bytes fault e = none (read_bytes 146 bytes) refl
             refused : {A : Type 0} → {x : A} → Ok x ≡ Err fault → ⊥
             refused e = cc
 
+len_some : (bytes : List ℕ) (size : ℕ) (rest : List ℕ) → read_signature_len bytes ≡ Ok (size, rest) → 148 ≤ length bytes
+unfolding read_signature_len
+len_some bytes size rest e =
+    let u = bind_ok (read_bytes 146 bytes) (λ k. read_number 2 k.1) (size, rest) e in
+    let v = bind_ok (read_bytes 2 u.0.1) (λ x. Ok (big_number 2 x.0, x.1)) (size, rest) u.2 in
+    let body = bytes_long 146 bytes u.0 u.1 in
+    let two = (bytes_long 2 u.0.1 v.0 v.1).0 in
+    omega (arith, body.0, two, ap (λ (z : List ℕ × List ℕ). length z.1) body.1, length-drop 146 bytes)
+
 -- it stands at one place, whatever follows
 pub len_more : (bytes : List ℕ) (size : ℕ) (rest more : List ℕ) → read_signature_len bytes ≡ Ok (size, rest) → read_signature_len (bytes ++ more) ≡ Ok (size, rest ++ more)
 unfolding read_signature_len
@@ -90,8 +100,27 @@ len_more bytes size rest more e =
 front-short : (bytes : List ℕ) (fault : Fault) → read_signature_len bytes ≡ Err fault → front bytes ≡ Part
 front-short bytes fault e = ap (λ (r : Reading ℕ). front_sized r bytes) e
 
-front-bad : (bytes : List ℕ) (size : ℕ) (rest : List ℕ) → read_signature_len bytes ≡ Ok (size, rest) → 256 < size → front bytes ≡ Bad
-front-bad bytes size rest e large = ap (λ (r : Reading ℕ). front_sized r bytes) e ∙ rw (lt-ltb 256 size large) refl
+front-long : (bytes : List ℕ) (size : ℕ) (rest : List ℕ) → read_signature_len bytes ≡ Ok (size, rest) → 256 < size → front bytes ≡ too_long (148 + size) bytes
+front-long bytes size rest e large = ap (λ (r : Reading ℕ). front_sized r bytes) e ∙ rw (lt-ltb 256 size large) refl
+
+-- it is less than a root, or none
+long-is : (len : ℕ) (bytes : List ℕ) → ((length bytes < len) × (too_long len bytes ≡ TooLong (len - length bytes))) ⊎ ((len ≤ length bytes) × (too_long len bytes ≡ Bad))
+long-is len bytes = elim (cases_lt (length bytes) len) [
+  | inl short ↦ inl (short, rw (lt-ltb (length bytes) len short) refl)
+  | inr all ↦ inr (all, rw (le-ltb (length bytes) len all) refl)
+]
+
+long-part : (len : ℕ) (bytes : List ℕ) → too_long len bytes ≡ Part → ⊥
+long-part len bytes part = elim (long-is len bytes) [
+  | inl less ↦ missing (sym less.1 ∙ part)
+  | inr whole ↦ none (sym whole.1 ∙ part)
+]
+  where
+    missing : {n : ℕ} → TooLong n ≡ Part → ⊥
+    missing e = cc
+
+    none : Bad ≡ Part → ⊥
+    none e = cc
 
 front-part : (bytes : List ℕ) (size : ℕ) (rest : List ℕ) → read_signature_len bytes ≡ Ok (size, rest) → size ≤ 256 → length bytes < 148 + size → front bytes ≡ Part
 front-part bytes size rest e few short = ap (λ (r : Reading ℕ). front_sized r bytes) e ∙ rw (le-ltb 256 size few, lt-ltb (length bytes) (148 + size) short) refl
@@ -139,8 +168,39 @@ module _ (held piece new rest : List ℕ) (fills : Fills held piece 148 new rest
     all : read_signature_len (held ++ piece) ≡ Ok (size, left ++ rest)
     all = subst (λ (z : List ℕ). read_signature_len z ≡ Ok (size, left ++ rest)) fills.joined (len_more new size left rest e)
 
-    pub fails : 256 < size → front (held ++ piece) ≡ Bad
-    fails large = front-bad (held ++ piece) size (left ++ rest) all large
+    -- a root whose signature is too long is held no longer than up to its length
+    cut-at : 256 < size → front held ≡ Part → length new ≡ 148
+    cut-at large part = is (ltb (length held) 148) refl
+      where
+        is : (short : Bool) → ltb (length held) 148 ≡ short → length new ≡ 148
+        is true d = omega (arith, len_some new size left e, fills.most (omega (arith, ltb-true _ _ d)))
+        is false d =
+            let same = fills.stays (ltb-false _ _ d) in
+            absurd (long-part (148 + size) held (sym (front-long held size left (subst (λ (z : List ℕ). read_signature_len z ≡ Ok (size, left)) same e) large) ∙ part))
+
+    pub passes : 256 < size → front held ≡ Part
+        → ((length rest < size) × (front (held ++ piece) ≡ TooLong (size - length rest))) ⊎ ((size ≤ length rest) × (front (held ++ piece) ≡ Bad))
+    passes large part =
+        let len : length (held ++ piece) ≡ 148 + length rest = omega (arith, ap (λ (z : List ℕ). length z) fills.joined, length-append new rest, cut-at large part) in
+        let is = front-long (held ++ piece) size (left ++ rest) all large in
+        elim (long-is (148 + size) (held ++ piece)) [
+          | inl less ↦ (
+              let same : 148 + size - length (held ++ piece) ≡ size - length rest = omega (arith, len) in
+              inl (omega (arith, less.0, len), is ∙ less.1 ∙ ap TooLong same))
+          | inr whole ↦ inr (omega (arith, whole.0, len), is ∙ whole.1)
+        ]
+
+    -- the answer to the bytes that are left of the piece
+    pub passed-front : 256 < size → front held ≡ Part → (owed : ℕ) (next : Next) (stage : Stage) (kept : List ℕ) → TellsPassed owed size rest next stage → IsFront owed (held ++ piece) next (held_of stage kept)
+    passed-front large part owed (next.Root root after) stage kept tells = absurd tells
+    passed-front large part owed next.Wait stage kept tells = elim (passes large part) [
+      | inl less ↦ inr (size - length rest, omega (arith, less.0), less.1, ap (λ (s : Stage). held_of s kept) tells.1)
+      | inr whole ↦ absurd (omega (arith, tells.0, whole.0))
+    ]
+    passed-front large part owed next.Failed stage kept tells = elim (passes large part) [
+      | inl less ↦ absurd (omega (arith, tells.0, less.0))
+      | inr whole ↦ (whole.1, ap (λ (s : Stage). held_of s kept) tells.1)
+    ]
 
     module _ (few : size ≤ 256) (part : front held ≡ Part) (new' rest' : List ℕ) (again : Fills new rest (148 + size) new' rest') where
       together : new' ++ rest' ≡ held ++ piece
@@ -273,11 +333,24 @@ module _ (held piece new rest : List ℕ) (fills : Fills held piece 2 new rest) 
 abbrev add : Front → List ℕ → Front
 add (Whole root rest) more = Whole root (rest ++ more)
 add Part more = Part
+add (TooLong missing) more = if nat_lt (length more) missing then TooLong (missing - length more) else Bad
 add Bad more = Bad
 
 front_read-more : (r : Result SignedRoot Fault) (rest more : List ℕ) (f : Front) → front_read r rest ≡ f → front_read r (rest ++ more) ≡ add f more
 front_read-more (Ok root) rest more f e = ap (λ (z : Front). add z more) e
 front_read-more (Err fault) rest more f e = ap (λ (z : Front). add z more) e
+
+long-more : (len : ℕ) (bytes more : List ℕ) → too_long len (bytes ++ more) ≡ add (too_long len bytes) more
+long-more len bytes more = elim (long-is len bytes) [
+  | inl less ↦ elim (cases_lt (length more) (len - length bytes)) [
+    | inl short ↦ (
+        let few : length (bytes ++ more) < len = omega (arith, less.0, short, length-append bytes more) in
+        let same : len - length (bytes ++ more) ≡ len - length bytes - length more = omega (arith, less.0, short, length-append bytes more) in
+        rw (less.1, lt-ltb (length (bytes ++ more)) len few, lt-ltb (length more) (len - length bytes) short) (ap TooLong same))
+    | inr long ↦ rw (less.1, le-ltb (length (bytes ++ more)) len (omega (arith, less.0, long, length-append bytes more)), le-ltb (length more) (len - length bytes) long) refl
+  ]
+  | inr whole ↦ rw (whole.1, le-ltb (length (bytes ++ more)) len (omega (arith, whole.0, length-append bytes more))) refl
+]
 
 front-more : (bytes more : List ℕ) (f : Front) → f ≢ Part → front bytes ≡ f → front (bytes ++ more) ≡ add f more
 front-more bytes more f some e = by_len (read_signature_len bytes) refl
@@ -285,7 +358,9 @@ front-more bytes more f some e = by_len (read_signature_len bytes) refl
     by_len : (r : Reading ℕ) → read_signature_len bytes ≡ r → front (bytes ++ more) ≡ add f more
     by_len (Err fault) none = absurd (some (sym e ∙ front-short bytes fault none))
     by_len (Ok (size, left)) is = elim (cases_lt 256 size) [
-      | inl large ↦ front-bad (bytes ++ more) size (left ++ more) (len_more bytes size left more is) large ∙ ap (λ (z : Front). add z more) (sym (front-bad bytes size left is large) ∙ e)
+      | inl large ↦ (
+          front-long (bytes ++ more) size (left ++ more) (len_more bytes size left more is) large
+          ∙ long-more (148 + size) bytes more ∙ ap (λ (z : Front). add z more) (sym (front-long bytes size left is large) ∙ e))
       | inr few ↦ elim (cases_lt (length bytes) (148 + size)) [
         | inl short ↦ absurd (some (sym e ∙ front-part bytes size left is few short))
         | inr long ↦ (
@@ -299,6 +374,22 @@ front-more bytes more f some e = by_len (read_signature_len bytes) refl
 abbrev pub after_told : List SignedRoot × FeedState → List ℕ → List SignedRoot × FeedState
 after_told t more = let u = told_from t.1 more in (t.0 ++ u.0, u.1)
 
+-- a root whose signature is too long is told no sooner
+passed-more : (left missing : ℕ) (piece more : List ℕ) → length piece < missing → passed left missing (piece ++ more) ≡ passed left (missing - length piece) more
+passed-more left missing piece more short = elim (cases_lt (length more) (missing - length piece)) [
+  | inl less ↦ (
+      let few : length (piece ++ more) < missing = omega (arith, short, less, length-append piece more) in
+      let same : missing - length (piece ++ more) ≡ missing - length piece - length more = omega (arith, short, less, length-append piece more) in
+      rw (lt-ltb (length (piece ++ more)) missing few, lt-ltb (length more) (missing - length piece) less) (ap (Overlong left) same))
+  | inr all ↦ rw (le-ltb (length (piece ++ more)) missing (omega (arith, short, all, length-append piece more)), le-ltb (length more) (missing - length piece) all) refl
+]
+
+add-passed : (left missing : ℕ) (bytes more : List ℕ) (next : List ℕ → List SignedRoot × FeedState) → told_by (add (TooLong missing) more) left bytes next ≡ ([], passed left missing more)
+add-passed left missing bytes more next = elim (cases_lt (length more) missing) [
+  | inl less ↦ rw (lt-ltb (length more) missing less) refl
+  | inr all ↦ rw (le-ltb (length more) missing all) refl
+]
+
 told-more : (left : ℕ) (bytes more : List ℕ) → told left (bytes ++ more) ≡ after_told (told left bytes) more
 told-more zero [] more = refl
 told-more zero (byte ∷ bytes) more = refl
@@ -306,6 +397,10 @@ told-more (suc left) bytes more = by_front (λ rest. told-more left rest more) (
   where
     by_front : ((rest : List ℕ) → told left (rest ++ more) ≡ after_told (told left rest) more) → (f : Front) → front bytes ≡ f → told (suc left) (bytes ++ more) ≡ after_told (told (suc left) bytes) more
     by_front later Part e = ap (λ (t : List SignedRoot × FeedState). after_told t more) (sym (ap (λ (f : Front). told_by f (suc left) bytes (told left)) e))
+    by_front later (TooLong missing) e =
+        ap (λ (f : Front). told_by f (suc left) (bytes ++ more) (told left)) (front-more bytes more (TooLong missing) (λ w. cc) e)
+        ∙ add-passed (suc left) missing (bytes ++ more) more (told left)
+        ∙ ap (λ (t : List SignedRoot × FeedState). after_told t more) (sym (ap (λ (f : Front). told_by f (suc left) bytes (told left)) e))
     by_front later Bad e =
         ap (λ (f : Front). told_by f (suc left) (bytes ++ more) (told left)) (front-more bytes more Bad (λ w. cc) e)
         ∙ ap (λ (t : List SignedRoot × FeedState). after_told t more) (sym (ap (λ (f : Front). told_by f (suc left) bytes (told left)) e))
@@ -333,6 +428,12 @@ counted-more bytes more = by_count (read_root_count bytes) refl
 pub from-more : (held : FeedState) (piece more : List ℕ) → told_from held (piece ++ more) ≡ after_told (told_from held piece) more
 from-more (Counts bytes) piece more = ap (λ (z : List ℕ). told_counted (read_root_count z) z) (sym (append_assoc bytes piece more)) ∙ counted-more (bytes ++ piece) more
 from-more (Owes left bytes) piece more = ap (told left) (sym (append_assoc bytes piece more)) ∙ told-more left (bytes ++ piece) more
+from-more (Overlong left missing) piece more = elim (cases_lt (length piece) missing) [
+  | inl short ↦ (
+      ap (λ (h : FeedState). ([], h)) (passed-more left missing piece more short)
+      ∙ rw (lt-ltb (length piece) missing short) refl)
+  | inr all ↦ rw (le-ltb (length (piece ++ more)) missing (omega (arith, all, length-append piece more)), le-ltb (length piece) missing all) refl
+]
 from-more Failed piece more = refl
 
 -- what is held tells no more by itself
@@ -421,15 +522,6 @@ list-spelled bytes roots is =
 
 -- ---- less than a root, or than the number of roots
 
-len_some : (bytes : List ℕ) (size : ℕ) (rest : List ℕ) → read_signature_len bytes ≡ Ok (size, rest) → 148 ≤ length bytes
-unfolding read_signature_len
-len_some bytes size rest e =
-    let u = bind_ok (read_bytes 146 bytes) (λ k. read_number 2 k.1) (size, rest) e in
-    let v = bind_ok (read_bytes 2 u.0.1) (λ x. Ok (big_number 2 x.0, x.1)) (size, rest) u.2 in
-    let body = bytes_long 146 bytes u.0 u.1 in
-    let two = (bytes_long 2 u.0.1 v.0 v.1).0 in
-    omega (arith, body.0, two, ap (λ (z : List ℕ × List ℕ). length z.1) body.1, length-drop 146 bytes)
-
 -- fewer bytes than these are less than a root
 few-part : (bytes : List ℕ) → length bytes < 148 → front bytes ≡ Part
 few-part bytes short = is (read_signature_len bytes) refl
@@ -441,12 +533,9 @@ few-part bytes short = is (read_signature_len bytes) refl
 -- a root has a signature of at most 256 bytes
 pub len-few : (bytes : List ℕ) (size : ℕ) (rest : List ℕ) → read_signature_len bytes ≡ Ok (size, rest) → front bytes ≡ Part → size ≤ 256
 len-few bytes size rest e part = elim (cases_lt 256 size) [
-  | inl large ↦ absurd (never (sym (front-bad bytes size rest e large) ∙ part))
+  | inl large ↦ absurd (long-part (148 + size) bytes (sym (front-long bytes size rest e large) ∙ part))
   | inr few ↦ few
 ]
-  where
-    never : Bad ≡ Part → ⊥
-    never e = cc
 
 least-part : (held piece : List ℕ) → front held ≡ Part → length held + length piece < least_root_len (read_signature_len held)
     → (front (held ++ piece) ≡ Part) × (length held + length piece ≤ 404)
@@ -471,4 +560,61 @@ part-is-held (stage.Roots zero) held piece is short = absurd (omega (arith, shor
 part-is-held (stage.Roots (suc left)) held piece is short =
     let part = least-part held piece is.1 short in
     (ap (λ (f : Front). told_by f (suc left) (held ++ piece) (told left)) part.0, (λ e. cc), (is.0, part.0, λ none. absurd cc), part.1)
+part-is-held (stage.Overlong left missing) held piece is short = absurd (omega (arith, short))
 part-is-held stage.Failed held piece is short = absurd (omega (arith, short))
+
+-- less than a root is held
+pub held-few : (held : FeedState) → MayBeHeld held → length (held_bytes held) ≤ 404
+held-few (Counts bytes) is = omega (arith, is)
+held-few (Owes left bytes) is = by_len (read_signature_len bytes) refl
+  where
+    by_len : (r : Reading ℕ) → read_signature_len bytes ≡ r → length bytes ≤ 404
+    by_len (Err fault) e = omega (arith, len_none bytes fault e)
+    by_len (Ok (size, rest)) e = let few = len-few bytes size rest e is.1 in omega (arith, few, part-is bytes size rest e few is.1)
+held-few (Overlong left missing) is = omega arith
+held-few Failed is = omega arith
+
+-- ---- the answers of a feed
+
+-- what stands first is told
+pub front-tells : (left : ℕ) (held piece : List ℕ) (next : Next) (after : FeedState) → 0 < left → IsFront left (held ++ piece) next after → TellsNext (Owes left held) piece next after
+front-tells zero held piece next after some is = absurd (omega (arith, some))
+front-tells (suc left) held piece (next.Root root rest) after some is =
+    let last : suc left - 1 ≡ left = omega arith in
+    let state : after ≡ Owes left [] = is.1 ∙ ap (λ (n : ℕ). Owes n []) last in
+    ap (λ (f : Front). told_by f (suc left) (held ++ piece) (told left)) is.0
+    ∙ sym (ap (λ (h : FeedState). let more = told_from h rest.now in (root ∷ more.0, more.1)) state)
+front-tells (suc left) held piece next.Wait after some (inl is) =
+    (ap (λ (f : Front). told_by f (suc left) (held ++ piece) (told left)) is.0 ∙ ap (λ (h : FeedState). ([], h)) (sym is.1), λ e. apart (sym is.1 ∙ e))
+  where
+    apart : Owes (suc left) (held ++ piece) ≡ Failed → ⊥
+    apart e = cc
+front-tells (suc left) held piece next.Wait after some (inr is) =
+    (ap (λ (f : Front). told_by f (suc left) (held ++ piece) (told left)) is.2 ∙ ap (λ (h : FeedState). ([], h)) (sym is.3), λ e. apart (sym is.3 ∙ e))
+  where
+    apart : Overlong (suc left) is.0 ≡ Failed → ⊥
+    apart e = cc
+front-tells (suc left) held piece next.Failed after some is =
+    (ap (λ (f : Front). told_by f (suc left) (held ++ piece) (told left)) is.0, is.1)
+
+pub front-held : (left : ℕ) (bytes : List ℕ) (next : Next) (after : FeedState) → 0 < left → left ≤ 64 → IsFront left bytes next after → MayBeHeld after
+front-held left bytes (next.Root root rest) after some few is = subst MayBeHeld (sym is.1) (omega (arith, few), front-none, λ _. refl)
+front-held left bytes next.Wait after some few (inl is) = subst MayBeHeld (sym is.1) (few, is.0, λ none. absurd (omega (arith, some, none)))
+front-held left bytes next.Wait after some few (inr is) = subst MayBeHeld (sym is.3) (few, is.1)
+front-held left bytes next.Failed after some few is = subst MayBeHeld (sym is.1) tt
+
+-- bytes of a root whose signature is too long
+pub passed-tells : (left missing : ℕ) (piece : List ℕ) (next : Next) (stage : Stage) (kept : List ℕ) → TellsPassed left missing piece next stage → TellsNext (Overlong left missing) piece next (held_of stage kept)
+passed-tells left missing piece (next.Root root rest) stage kept tells = absurd tells
+passed-tells left missing piece next.Wait stage kept tells =
+    let state : held_of stage kept ≡ Overlong left (missing - length piece) = ap (λ (s : Stage). held_of s kept) tells.1 in
+    (rw (lt-ltb (length piece) missing tells.0) (ap (λ (h : FeedState). ([], h)) (sym state)), λ e. apart (sym state ∙ e))
+  where
+    apart : {n : ℕ} → Overlong left n ≡ Failed → ⊥
+    apart e = cc
+passed-tells left missing piece next.Failed stage kept tells = (rw (le-ltb (length piece) missing tells.0) refl, ap (λ (s : Stage). held_of s kept) tells.1)
+
+pub passed-held : (left missing : ℕ) (piece : List ℕ) (next : Next) (stage : Stage) (kept : List ℕ) → left ≤ 64 → TellsPassed left missing piece next stage → MayBeHeld (held_of stage kept)
+passed-held left missing piece (next.Root root rest) stage kept few tells = absurd tells
+passed-held left missing piece next.Wait stage kept few tells = subst MayBeHeld (sym (ap (λ (s : Stage). held_of s kept) tells.1)) (few, omega (arith, tells.0))
+passed-held left missing piece next.Failed stage kept few tells = subst MayBeHeld (sym (ap (λ (s : Stage). held_of s kept) tells.1)) tt

@@ -8,7 +8,7 @@ use Rattle.rootchain.specs.declared.piece_refusal.PieceRefusal.TheVariants.{Malf
 use Rattle.rootchain.specs.Chains.{IsChain, KeyedRoots}
 use Rattle.rootchain.specs.RootFeeds.{told_from, FeedState, Counts, Done, Failed}
 use Rattle.rootchain.specs.TakingLists.{with_roots, StopsAt, Takes}
-use Rattle.rootchain.specs.TakingPieces.{joined, of_piece, PieceRefusalHolds, TakesPiece, TakesPieces, TakesTold, CuttingDoesNotMatter}
+use Rattle.rootchain.specs.TakingPieces.{first_refusal, joined, of_piece, CuttingDoesNotMatter, PieceRefusalHolds, PiecesComeToOne, TakesPiece, TakesPieces, TakesTold, TakesUpTo}
 use Rattle.rootchain.proofs.RootFeeds.{from-more, from-nothing, from-start, list-spelled}
 use Rattle.rootchain.proofs.TakingLists.{grows-nothing, stop-holds, takes-chain, takes-grows}
 
@@ -63,47 +63,90 @@ module _ (hash : List ℕ → List ℕ) (verified : List ℕ → List ℕ → Li
   no-stop chain why after (first ∷ front, root, rest, same, _, _) = absurd cc
 
   -- a feed that failed takes no more
-  failed-stays : (chain : KeyedRoots) (pieces : List (List ℕ)) (after : KeyedRoots) (held' : FeedState) → TakesPieces hash verified chain Failed pieces after held' → (after ≡ chain) × (held' ≡ Failed)
-  failed-stays chain [] after held' calls = calls
-  failed-stays chain (piece ∷ pieces) after held' (Ok _, middle, between, one, _, later) = absurd (one.2 one.1)
-  failed-stays chain (piece ∷ pieces) after held' (Err Malformed, middle, between, one, _, later) =
-      let rest = failed-stays middle pieces after held' (subst (λ (h : FeedState). TakesPieces hash verified middle h pieces after held') one.2 later) in
+  failed-stays : (chain : KeyedRoots) (pieces : List (List ℕ)) (answers : List (Result Unit PieceRefusal)) (after : KeyedRoots) (held' : FeedState)
+      → TakesPieces hash verified chain Failed pieces answers after held' → (after ≡ chain) × (held' ≡ Failed)
+  failed-stays chain [] [] after held' calls = calls
+  failed-stays chain [] (answer ∷ answers) after held' calls = absurd calls
+  failed-stays chain (piece ∷ pieces) [] after held' calls = absurd calls
+  failed-stays chain (piece ∷ pieces) (Ok _ ∷ answers) after held' (middle, between, one, _, later) = absurd (one.2 one.1)
+  failed-stays chain (piece ∷ pieces) (Err Malformed ∷ answers) after held' (middle, between, one, _, later) =
+      let rest = failed-stays middle pieces answers after held' (subst (λ (h : FeedState). TakesPieces hash verified middle h pieces answers after held') one.2 later) in
       (rest.0 ∙ one.0, rest.1)
-  failed-stays chain (piece ∷ pieces) after held' (Err (Root why), middle, between, one, _, later) = absurd (no-stop chain why middle one.0)
-  failed-stays chain (piece ∷ pieces) after held' (Err Memory, middle, between, one, some, later) = absurd (some refl)
+  failed-stays chain (piece ∷ pieces) (Err (Root why) ∷ answers) after held' (middle, between, one, _, later) = absurd (no-stop chain why middle one.0)
+  failed-stays chain (piece ∷ pieces) (Err Memory ∷ answers) after held' (middle, between, one, some, later) = absurd (some refl)
 
   -- what the pieces tell together is taken, up to the first root that is refused
-  abbrev Comes : KeyedRoots → List SignedRoot × FeedState → KeyedRoots → FeedState → Type 0
-  Comes chain t after held' = (Takes hash verified chain t.0 after × (held' ≡ t.1)) ⊎ ((why : ListRefusal) × StopsAt hash verified chain t.0 why after × (why ≢ list.Memory) × (held' ≡ Failed))
+  abbrev Comes : KeyedRoots → List SignedRoot × FeedState → Result Unit PieceRefusal → KeyedRoots → FeedState → Type 0
+  Comes chain t (Ok _) after held' = Takes hash verified chain t.0 after × (held' ≡ t.1) × (held' ≢ Failed)
+  Comes chain t (Err Malformed) after held' = Takes hash verified chain t.0 after × (t.1 ≡ Failed) × (held' ≡ Failed)
+  Comes chain t (Err (Root why)) after held' = StopsAt hash verified chain t.0 why after × (why ≢ list.Memory) × (held' ≡ Failed)
+  Comes chain t (Err Memory) after held' = ⊥
 
-  pieces-come : (pieces : List (List ℕ)) (chain : KeyedRoots) (held : FeedState) (after : KeyedRoots) (held' : FeedState) → told_from held [] ≡ ([], held) → TakesPieces hash verified chain held pieces after held'
-      → Comes chain (told_from held (joined pieces)) after held'
-  pieces-come [] chain held after held' settled calls = subst (λ (t : List SignedRoot × FeedState). Comes chain t after held') (sym settled) (inl calls)
-  pieces-come (piece ∷ pieces) chain held after held' settled (Ok _, middle, between, one, _, later) =
+  comes-after : (answer : Result Unit PieceRefusal) (roots : List SignedRoot) (u : List SignedRoot × FeedState) (chain middle after : KeyedRoots) (held' : FeedState)
+      → Takes hash verified chain roots middle → Comes middle u answer after held' → Comes chain (roots ++ u.0, u.1) answer after held'
+  comes-after (Ok _) roots u chain middle after held' takes comes = (takes-append roots u.0 chain middle after takes comes.0, comes.1, comes.2)
+  comes-after (Err Malformed) roots u chain middle after held' takes comes = (takes-append roots u.0 chain middle after takes comes.0, comes.1, comes.2)
+  comes-after (Err (Root why)) roots u chain middle after held' takes comes = (stops-after roots u.0 chain middle why after takes comes.0, comes.1, comes.2)
+  comes-after (Err Memory) roots u chain middle after held' takes comes = absurd comes
+
+  pieces-come : (pieces : List (List ℕ)) (answers : List (Result Unit PieceRefusal)) (chain : KeyedRoots) (held : FeedState) (after : KeyedRoots) (held' : FeedState)
+      → told_from held [] ≡ ([], held) → held ≢ Failed → TakesPieces hash verified chain held pieces answers after held'
+      → Comes chain (told_from held (joined pieces)) (first_refusal answers) after held'
+  pieces-come [] [] chain held after held' settled some calls =
+      subst (λ (t : List SignedRoot × FeedState). Comes chain t (Ok tt) after held') (sym settled) (calls.0, calls.1, λ e. some (sym calls.1 ∙ e))
+  pieces-come [] (answer ∷ answers) chain held after held' settled some calls = absurd calls
+  pieces-come (piece ∷ pieces) [] chain held after held' settled some calls = absurd calls
+  pieces-come (piece ∷ pieces) (Ok _ ∷ answers) chain held after held' settled some (middle, between, one, _, later) =
       let t = told_from held piece in
-      let calls = subst (λ (h : FeedState). TakesPieces hash verified middle h pieces after held') one.1 later in
-      subst (λ (t : List SignedRoot × FeedState). Comes chain t after held') (sym (from-more held piece (joined pieces)))
-      (elim (pieces-come pieces middle t.1 after held' (from-nothing held piece) calls) [
-        | inl all ↦ inl (takes-append t.0 _ chain middle after one.0 all.0, all.1)
-        | inr stop ↦ inr (stop.0, stops-after t.0 _ chain middle stop.0 after one.0 stop.1, stop.2, stop.3)
-      ])
-  pieces-come (piece ∷ pieces) chain held after held' settled (Err Malformed, middle, between, one, _, later) =
+      let calls = subst (λ (h : FeedState). TakesPieces hash verified middle h pieces answers after held') one.1 later in
+      subst (λ (t : List SignedRoot × FeedState). Comes chain t (first_refusal answers) after held') (sym (from-more held piece (joined pieces)))
+      (comes-after (first_refusal answers) t.0 (told_from t.1 (joined pieces)) chain middle after held' one.0
+      (pieces-come pieces answers middle t.1 after held' (from-nothing held piece) (λ e. one.2 (one.1 ∙ e)) calls))
+  pieces-come (piece ∷ pieces) (Err Malformed ∷ answers) chain held after held' settled some (middle, between, one, _, later) =
       let t = told_from held piece in
-      let rest = failed-stays middle pieces after held' (subst (λ (h : FeedState). TakesPieces hash verified middle h pieces after held') one.2 later) in
+      let rest = failed-stays middle pieces answers after held' (subst (λ (h : FeedState). TakesPieces hash verified middle h pieces answers after held') one.2 later) in
       let u = told_from t.1 (joined pieces) in
       let none : u ≡ ([], Failed) = ap (λ (h : FeedState). told_from h (joined pieces)) one.1 in
-      subst (λ (t : List SignedRoot × FeedState). Comes chain t after held') (sym (from-more held piece (joined pieces)))
-      (inl (takes-append t.0 u.0 chain middle after one.0 (subst (λ (u : List SignedRoot × FeedState). Takes hash verified middle u.0 after) (sym none) rest.0), rest.1 ∙ sym (ap (λ (u : List SignedRoot × FeedState). u.1) none)))
-  pieces-come (piece ∷ pieces) chain held after held' settled (Err (Root why), middle, between, one, _, later) =
+      subst (λ (t : List SignedRoot × FeedState). Comes chain t (Err Malformed) after held') (sym (from-more held piece (joined pieces))) (
+        takes-append t.0 u.0 chain middle after one.0 (subst (λ (u : List SignedRoot × FeedState). Takes hash verified middle u.0 after) (sym none) rest.0),
+        ap (λ (u : List SignedRoot × FeedState). u.1) none,
+        rest.1,
+      )
+  pieces-come (piece ∷ pieces) (Err (Root why) ∷ answers) chain held after held' settled some (middle, between, one, _, later) =
       let t = told_from held piece in
-      let rest = failed-stays middle pieces after held' (subst (λ (h : FeedState). TakesPieces hash verified middle h pieces after held') one.2 later) in
-      subst (λ (t : List SignedRoot × FeedState). Comes chain t after held') (sym (from-more held piece (joined pieces)))
-      (inr (why, stops-before t.0 _ chain why after (subst (λ (c : KeyedRoots). StopsAt hash verified chain t.0 why c) (sym rest.0) one.0), one.1, rest.1))
-  pieces-come (piece ∷ pieces) chain held after held' settled (Err Memory, middle, between, one, some, later) = absurd (some refl)
+      let rest = failed-stays middle pieces answers after held' (subst (λ (h : FeedState). TakesPieces hash verified middle h pieces answers after held') one.2 later) in
+      subst (λ (t : List SignedRoot × FeedState). Comes chain t (Err (Root why)) after held') (sym (from-more held piece (joined pieces)))
+      (stops-before t.0 _ chain why after (subst (λ (c : KeyedRoots). StopsAt hash verified chain t.0 why c) (sym rest.0) one.0), one.1, rest.1)
+  pieces-come (piece ∷ pieces) (Err Memory ∷ answers) chain held after held' settled some (middle, between, one, room, later) = absurd (room refl)
+
+  begun : Counts [] ≢ Failed
+  begun e = cc
+
+  one-piece : (chain : KeyedRoots) (piece : List ℕ) (answer : Result Unit PieceRefusal) (after : KeyedRoots) (held' : FeedState) → Comes chain (told_from (Counts []) piece) answer after held'
+      → TakesPiece hash verified chain (Counts []) piece answer after held' × (answer ≢ Err Memory)
+  one-piece chain piece (Ok _) after held' comes = (comes, λ e. cc)
+  one-piece chain piece (Err Malformed) after held' comes = (comes, λ e. cc)
+  one-piece chain piece (Err (Root why)) after held' comes = (comes, λ e. cc)
+  one-piece chain piece (Err Memory) after held' comes = absurd comes
+
+  pub to-one : PiecesComeToOne hash verified
+  to-one chain pieces answers after held' calls = one-piece chain (joined pieces) (first_refusal answers) after held' (pieces-come pieces answers chain (Counts []) after held' from-start begun calls)
+
+  up-to : (chain : KeyedRoots) (roots : List SignedRoot) (answer : Result Unit PieceRefusal) (after : KeyedRoots) (held' : FeedState) → Comes chain (roots, Done) answer after held'
+      → TakesUpTo hash verified chain roots after held'
+  up-to chain roots (Ok _) after held' comes = inl (comes.0, comes.1)
+  up-to chain roots (Err Malformed) after held' comes = absurd (never comes.1)
+    where
+      never : Done ≡ Failed → ⊥
+      never e = cc
+  up-to chain roots (Err (Root why)) after held' comes = inr (why, comes.0, comes.1, comes.2)
+  up-to chain roots (Err Memory) after held' comes = absurd comes
 
   pub cuts : CuttingDoesNotMatter hash verified
-  cuts chain roots pieces after held' spelled calls =
-      subst (λ (t : List SignedRoot × FeedState). Comes chain t after held') (list-spelled (joined pieces) roots spelled) (pieces-come pieces chain (Counts []) after held' from-start calls)
+  cuts chain roots pieces answers after held' spelled calls =
+      up-to chain roots (first_refusal answers) after held'
+      (subst (λ (t : List SignedRoot × FeedState). Comes chain t (first_refusal answers) after held') (list-spelled (joined pieces) roots spelled)
+      (pieces-come pieces answers chain (Counts []) after held' from-start begun calls))
 
   -- ---- a chain stays one
 

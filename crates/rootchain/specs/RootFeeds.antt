@@ -1,6 +1,6 @@
 -- A list of signed roots whose bytes come in pieces: the roots that are whole are told, one after another,
 -- and the bytes of the next one are held (after CONIKS, section 3).
-use Rattle.std.specs.Prelude.{◌≡◌, ℕ, zero, suc, ◌+◌, ◌<◌, ◌≤◌, nat_lt, if◌then◌else◌, List, [], ◌∷◌, ◌++◌, length, take, drop, Result, Ok, Err}
+use Rattle.std.specs.Prelude.{◌≡◌, ℕ, zero, suc, ◌+◌, ◌-◌, ◌<◌, ◌≤◌, nat_lt, if◌then◌else◌, List, [], ◌∷◌, ◌++◌, length, take, drop, Result, Ok, Err}
 use Rattle.encoding.specs.declared.fault.Fault.{Fault}
 use Rattle.encoding.specs.declared.fault.Fault.TheVariants.{Short, Trailing, OutOfRange}
 use Rattle.encoding.specs.Reading.{Reading, read_bytes, read_number, read_then, whole_of}
@@ -14,10 +14,15 @@ use Rattle.rootchain.specs.declared.root_feed.TheConstants.{FIXED_LEN}
 
 -- ---- the first root
 
--- what stands first in bytes: a root and the bytes after it, less than a root, or what no root begins with
+-- what stands first in bytes
 pub data Front : Type 0 where
+  -- a root, and the bytes after it
   Whole : SignedRoot → List ℕ → Front
+  -- less than a root
   Part : Front
+  -- less than what would be a root, but that its signature is too long: so many bytes of it are still to come
+  TooLong : ℕ → Front
+  -- bytes of a root's length that spell none
   Bad : Front
 
 -- the length of a root's signature, which stands behind its body
@@ -29,10 +34,14 @@ abbrev pub front_read : Result SignedRoot Fault → List ℕ → Front
 front_read (Ok root) rest = Whole root rest
 front_read (Err fault) rest = Bad
 
+-- what no root begins with, since its signature is too long: it is told once as many bytes are there
+abbrev pub too_long : ℕ → List ℕ → Front
+too_long len bytes = if nat_lt (length bytes) len then TooLong (len - length bytes) else Bad
+
 abbrev pub front_sized : Reading ℕ → List ℕ → Front
 front_sized (Err fault) bytes = Part
 front_sized (Ok (size, _)) bytes =
-    if nat_lt MAX_SMALL_LEN size then Bad
+    if nat_lt MAX_SMALL_LEN size then too_long (FIXED_LEN + size) bytes
     else if nat_lt (length bytes) (FIXED_LEN + size) then Part
     else front_read (whole_of (read_signed_root (take (FIXED_LEN + size) bytes))) (drop (FIXED_LEN + size) bytes)
 
@@ -47,6 +56,9 @@ pub data FeedState : Type 0 where
   Counts : List ℕ → FeedState
   -- so many roots are still to come, and these bytes of the first of them are there
   Owes : ℕ → List ℕ → FeedState
+  -- so many roots are still to come, and the signature of the first is too long: of its bytes, which are not
+  -- held, so many are still to come
+  Overlong : ℕ → ℕ → FeedState
   -- bytes came that no list has there, or a root was refused
   Failed : FeedState
 
@@ -58,10 +70,19 @@ Done = Owes 0 []
 abbrev pub owed_by : FeedState → ℕ
 owed_by (Counts bytes) = MAX_ROOTS
 owed_by (Owes left bytes) = left
+owed_by (Overlong left missing) = left
 owed_by Failed = 0
+
+-- the bytes that are held
+abbrev pub held_bytes : FeedState → List ℕ
+held_bytes (Counts bytes) = bytes
+held_bytes (Owes left bytes) = bytes
+held_bytes (Overlong left missing) = []
+held_bytes Failed = []
 
 abbrev pub told_by : Front → ℕ → List ℕ → (List ℕ → List SignedRoot × FeedState) → List SignedRoot × FeedState
 told_by Part left bytes next = ([], Owes left bytes)
+told_by (TooLong missing) left bytes next = ([], Overlong left missing)
 told_by Bad left bytes next = ([], Failed)
 told_by (Whole root rest) left bytes next = let more = next rest in (root ∷ more.0, more.1)
 
@@ -77,10 +98,15 @@ told_counted (Err Short) bytes = ([], Counts bytes)
 told_counted (Err Trailing) bytes = ([], Failed)
 told_counted (Err OutOfRange) bytes = ([], Failed)
 
+-- what is held once more bytes came of a root whose signature is too long: it is told once all have come
+abbrev pub passed : ℕ → ℕ → List ℕ → FeedState
+passed left missing piece = if nat_lt (length piece) missing then Overlong left (missing - length piece) else Failed
+
 -- the roots that a piece makes whole, and what is held after it
 abbrev pub told_from : FeedState → List ℕ → List SignedRoot × FeedState
 told_from (Counts bytes) piece = told_counted (read_root_count (bytes ++ piece)) (bytes ++ piece)
 told_from (Owes left bytes) piece = told left (bytes ++ piece)
+told_from (Overlong left missing) piece = ([], passed left missing piece)
 told_from Failed piece = ([], Failed)
 
 -- how many bytes the first root has at least, by those of it that are there
@@ -94,10 +120,12 @@ abbrev pub least_len : FeedState → ℕ
 least_len (Counts bytes) = 2
 least_len (Owes zero bytes) = 0
 least_len (Owes (suc left) bytes) = least_root_len (read_signature_len bytes)
+least_len (Overlong left missing) = 0
 least_len Failed = 0
 
 -- what may be held: less than the number, or less than a root
 abbrev pub MayBeHeld : FeedState → Type 0
 MayBeHeld (Counts bytes) = length bytes < 2
 MayBeHeld (Owes left bytes) = (left ≤ MAX_ROOTS) × (front bytes ≡ Part) × (left ≡ 0 → bytes ≡ [])
+MayBeHeld (Overlong left missing) = (left ≤ MAX_ROOTS) × (0 < missing)
 MayBeHeld Failed = Unit

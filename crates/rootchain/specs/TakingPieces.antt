@@ -31,10 +31,16 @@ piece_answer outcome.Taken why = Ok tt
 piece_answer outcome.Malformed why = Err Malformed
 piece_answer outcome.Refused why = Err (of_piece why)
 
+-- the first refusal among answers, if there is one
+abbrev pub first_refusal : {E : Type 0} → List (Result Unit E) → Result Unit E
+first_refusal [] = Ok tt
+first_refusal (Ok _ ∷ answers) = first_refusal answers
+first_refusal (Err why ∷ answers) = Err why
+
 module _ (hash : List ℕ → List ℕ) (verified : List ℕ → List ℕ → List ℕ → Type 0) where
-  -- What comes of a piece: the roots that it makes whole are taken in order, each before the next one is
-  -- looked at, up to the first that is refused. After a refusal the feed has failed; only want of memory
-  -- changes nothing, and it comes only while roots are still to come.
+  -- What comes of a piece: the roots that it makes whole are taken in order, each before the next one is looked
+  -- at, up to the first that is refused. A feed that had failed makes none whole. Any refusal but for want of
+  -- memory leaves the feed failed; want of memory changes nothing, and comes of no feed that failed or is done.
   abbrev pub TakesPiece : {A : Type 0} → KeyedRoots → FeedState → List ℕ → Result A PieceRefusal → KeyedRoots → FeedState → Type 0
   TakesPiece chain held piece (Ok _) after held' = Takes hash verified chain (told_from held piece).0 after × (held' ≡ (told_from held piece).1) × (held' ≢ Failed)
   TakesPiece chain held piece (Err Malformed) after held' = Takes hash verified chain (told_from held piece).0 after × ((told_from held piece).1 ≡ Failed) × (held' ≡ Failed)
@@ -56,11 +62,13 @@ module _ (hash : List ℕ → List ℕ) (verified : List ℕ → List ℕ → Li
 
   -- ---- call after call
 
-  -- the pieces as they come, in calls of which none is refused for want of memory
-  abbrev pub TakesPieces : KeyedRoots → FeedState → List (List ℕ) → KeyedRoots → FeedState → Type 0
-  TakesPieces chain held [] after held' = (after ≡ chain) × (held' ≡ held)
-  TakesPieces chain held (piece ∷ pieces) after held' = (answer : Result Unit PieceRefusal) × (middle : KeyedRoots) × (between : FeedState)
-      × TakesPiece chain held piece answer middle between × (answer ≢ Err Memory) × TakesPieces middle between pieces after held'
+  -- the pieces as they come, each with its answer; none is refused for want of memory
+  abbrev pub TakesPieces : KeyedRoots → FeedState → List (List ℕ) → List (Result Unit PieceRefusal) → KeyedRoots → FeedState → Type 0
+  TakesPieces chain held [] [] after held' = (after ≡ chain) × (held' ≡ held)
+  TakesPieces chain held [] (answer ∷ answers) after held' = ⊥
+  TakesPieces chain held (piece ∷ pieces) [] after held' = ⊥
+  TakesPieces chain held (piece ∷ pieces) (answer ∷ answers) after held' = (middle : KeyedRoots) × (between : FeedState)
+      × TakesPiece chain held piece answer middle between × (answer ≢ Err Memory) × TakesPieces middle between pieces answers after held'
 
   -- each root of the list is taken, and the feed is done; or those before the first that is refused, and it
   -- has failed
@@ -70,8 +78,15 @@ module _ (hash : List ℕ → List ℕ) (verified : List ℕ → List ℕ → Li
 
   -- Where the bytes of a list are cut does not matter.
   abbrev pub CuttingDoesNotMatter : Type 0
-  CuttingDoesNotMatter = (chain : KeyedRoots) (roots : List SignedRoot) (pieces : List (List ℕ)) (after : KeyedRoots) (held' : FeedState)
-      → SpellsRoots (joined pieces) roots → TakesPieces chain (Counts []) pieces after held' → TakesUpTo chain roots after held'
+  CuttingDoesNotMatter = (chain : KeyedRoots) (roots : List SignedRoot) (pieces : List (List ℕ)) (answers : List (Result Unit PieceRefusal)) (after : KeyedRoots) (held' : FeedState)
+      → SpellsRoots (joined pieces) roots → TakesPieces chain (Counts []) pieces answers after held' → TakesUpTo chain roots after held'
+
+  -- Nor where any other bytes are cut: pieces come to the refusal, the chain and the feed to which they come as
+  -- one piece.
+  abbrev pub PiecesComeToOne : Type 0
+  PiecesComeToOne = (chain : KeyedRoots) (pieces : List (List ℕ)) (answers : List (Result Unit PieceRefusal)) (after : KeyedRoots) (held' : FeedState)
+      → TakesPieces chain (Counts []) pieces answers after held'
+      → TakesPiece chain (Counts []) (joined pieces) (first_refusal answers) after held' × (first_refusal answers ≢ Err Memory)
 
 -- if evidence is told, its roots have a spelling
 abbrev pub PieceRefusalIsSpelled : PieceRefusal → Type 0

@@ -40,8 +40,9 @@ pub use compare::Compare;
 pub use evidence::RootEvidence;
 pub use laws::{
     body_is_read, chain_is_no_evidence, comparison_is_unique, cuts_of_a_list_do_not_matter,
-    epochs_ascend, limit_has_its_value, place_tells_evidence, promise_is_read, root_list_is_read,
-    signed_promise_is_read, signed_root_is_read,
+    epochs_ascend, length_has_its_value, limit_has_its_value, pieces_come_to_one,
+    place_tells_evidence, promise_is_read, root_list_is_read, signed_promise_is_read,
+    signed_root_is_read,
 };
 pub use list_refusal::ListRefusal;
 pub use piece_refusal::PieceRefusal;

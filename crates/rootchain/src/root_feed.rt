@@ -3,10 +3,10 @@
 //! end. A root that is whole is returned, and bytes that were held fall. Bytes that no list has there, and
 //! bytes after the last root, end the feed. A piece that is too short for any of this is only held: that is
 //! quick, since it makes no room for a root.
-ghost use Rattle.std.specs.Prelude.{◌≡◌, ◌⊎◌, ◌↔◌, ◌+◌, ◌≤◌, ◌++◌, [], length, IsTrue};
+ghost use Rattle.std.specs.Prelude.{◌≡◌, ◌⊎◌, ◌↔◌, ◌+◌, ◌<◌, ◌≤◌, ◌++◌, [], length, IsTrue};
 ghost use Rattle.encoding.specs.Reading.{Gives};
-ghost use Rattle.rootchain.specs.FeedViews.{held_of, HasSpelledRoot, IsFront, TakesPart, TellsNext};
-ghost use Rattle.rootchain.specs.RootFeeds.{front, least_len, owed_by, read_signature_len, Counts, Done, Failed, MayBeHeld, Owes, Part};
+ghost use Rattle.rootchain.specs.FeedViews.{held_of, HasSpelledRoot, IsFront, TakesPart, TellsNext, TellsPassed};
+ghost use Rattle.rootchain.specs.RootFeeds.{front, held_bytes, least_len, owed_by, read_signature_len, Counts, Done, Failed, MayBeHeld, Owes, Part};
 ghost use Rattle.rootchain.specs.declared.signed_root.TheConstants.{MAX_SIGNED_ROOT_LEN};
 
 use crate::SignedRoot;
@@ -40,6 +40,8 @@ enum Stage {
     Count,
     /// So many roots.
     Roots(usize),
+    /// So many roots, and of the first, whose signature is too long, so many bytes.
+    Overlong(usize, usize),
     /// Nothing more: bytes came that no list has there.
     Failed,
 }
@@ -76,7 +78,8 @@ impl RootFeed {
 
     /// Whether the list has come whole, and nothing after it.
     pub fn done(&self) -> bool
-        ensures { IsTrue result ↔ (self.now ≡ Done) }
+        ensures done { IsTrue result ↔ (self.now ≡ Done) }
+        ensures held { length (held_bytes self.now) ≤ MAX_SIGNED_ROOT_LEN }
     {
         matches!(self.stage, Stage::Roots(0))
     }
@@ -95,6 +98,7 @@ impl RootFeed {
         match self.stage {
             Stage::Count => MAX_ROOTS,
             Stage::Roots(left) => left,
+            Stage::Overlong(left, _) => left,
             Stage::Failed => 0,
         }
     }
@@ -168,6 +172,7 @@ fn least_len(stage: Stage, held: &[u8]) -> usize
             Ok(signature_len) => FIXED_LEN + signature_len,
             Err(_) => FIXED_LEN,
         },
+        Stage::Overlong(_, _) => 0,
         Stage::Failed => 0,
     }
 }
@@ -182,6 +187,7 @@ fn advance<'a>(stage: &mut Stage, held: &mut SignedRootText, piece: &'a [u8]) ->
     match *stage {
         Stage::Failed => Next::Failed,
         Stage::Roots(left) => next_of(stage, left, held, piece),
+        Stage::Overlong(left, missing) => pass(stage, left, missing, piece),
         Stage::Count => {
             let rest = fill(held, COUNT_LEN, piece);
             match read_count(&mut Cursor::new(held.bytes())) {
@@ -221,43 +227,52 @@ fn next_of<'a>(
         *stage = Stage::Failed;
         return Next::Failed;
     }
-    let next = first_of(held, piece);
-    *stage = match next {
-        Next::Root(_, _) => Stage::Roots(left - 1),
-        Next::Wait => Stage::Roots(left),
-        Next::Failed => Stage::Failed,
-    };
-    next
+    first_of(stage, left, held, piece)
 }
 
-/// What stands first in the bytes that are held and those of the piece. Holds what is less than a root.
-fn first_of<'a>(held: &mut SignedRootText, piece: &'a [u8]) -> Next<'a>
-    requires { front held.old ≡ Part }
-    ensures front { IsFront (held.old ++ piece.entry.now) result held.new }
+/// The first of so many roots in the bytes that are held and those of the piece. Holds what is less than a
+/// root.
+fn first_of<'a>(
+    stage: &mut Stage,
+    left: usize,
+    held: &mut SignedRootText,
+    piece: &'a [u8],
+) -> Next<'a>
+    requires some { 0 < left }
+    requires held { front held.old ≡ Part }
+    ensures front { IsFront left (held.old ++ piece.entry.now) result (held_of stage.new held.new) }
     ensures form { HasSpelledRoot result }
 {
     // A piece of `FIXED_LEN` bytes has no whole root, since a signature has at least one.
     if held.bytes().is_empty() && FIXED_LEN < piece.len() {
         if let Ok(root) = SignedRoot::read_from(&mut Cursor::new(piece)) {
             let rest = piece.split_at(root.written_len()).1;
+            *stage = Stage::Roots(left - 1);
             return Next::Root(root, rest);
         }
     }
-    first_held(held, piece)
+    first_held(stage, left, held, piece)
 }
 
 /// `first_of` by way of the bytes that are held.
-fn first_held<'a>(held: &mut SignedRootText, piece: &'a [u8]) -> Next<'a>
-    requires { front held.old ≡ Part }
-    ensures front { IsFront (held.old ++ piece.entry.now) result held.new }
+fn first_held<'a>(
+    stage: &mut Stage,
+    left: usize,
+    held: &mut SignedRootText,
+    piece: &'a [u8],
+) -> Next<'a>
+    requires some { 0 < left }
+    requires held { front held.old ≡ Part }
+    ensures front { IsFront left (held.old ++ piece.entry.now) result (held_of stage.new held.new) }
     ensures form { HasSpelledRoot result }
 {
+    *stage = Stage::Roots(left);
     let rest = fill(held, FIXED_LEN, piece);
     let Ok(signature_len) = read_signature_len(&mut Cursor::new(held.bytes())) else {
         return Next::Wait;
     };
     if MAX_SMALL_LEN < signature_len {
-        return Next::Failed;
+        return pass(stage, left, signature_len, rest);
     }
     let len = FIXED_LEN + signature_len;
     let rest = fill(held, len, rest);
@@ -267,10 +282,27 @@ fn first_held<'a>(held: &mut SignedRootText, piece: &'a [u8]) -> Next<'a>
     match SignedRoot::read_whole(held.bytes()) {
         Ok(root) => {
             *held = SignedRootText::new();
+            *stage = Stage::Roots(left - 1);
             Next::Root(root, rest)
         }
-        Err(_) => Next::Failed,
+        Err(_) => {
+            *stage = Stage::Failed;
+            Next::Failed
+        }
     }
+}
+
+/// Passes over so many bytes of a root whose signature is too long. Once all have come, the feed fails.
+fn pass<'a>(stage: &mut Stage, left: usize, missing: usize, piece: &'a [u8]) -> Next<'a>
+    ensures tells { TellsPassed left missing piece.entry.now result stage.new }
+    ensures form { HasSpelledRoot result }
+{
+    if piece.len() < missing {
+        *stage = Stage::Overlong(left, missing - piece.len());
+        return Next::Wait;
+    }
+    *stage = Stage::Failed;
+    Next::Failed
 }
 
 /// The length of the signature of the root at the front of bytes.

@@ -3,7 +3,7 @@ use Rattle.encoding.specs.declared.fault.Fault.TheVariants.{Short}
 use Rattle.rootchain.specs.RootLists.{read_root_count}
 use Rattle.rootchain.specs.FeedViews.{TellsNext}
 use Rattle.rootchain.specs.RootFeeds.{Counts, Owes}
-use Rattle.rootchain.proofs.RootFeeds.{count-fails, count-waits, count_more, counted-as, front-none, tells-same, Fills}
+use Rattle.rootchain.proofs.RootFeeds.{count-fails, count-waits, count_more, counted-as, front-none, passed-held, passed-tells, tells-same, Fills}
 use Rattle.rootchain.proofs.root_feed.advance.Goals as goal
 
 pub next_of-requires-in-Ok : goal.next_of-requires-in-Ok
@@ -40,3 +40,11 @@ returns-else-eq-clause-tells c =
     let short : length c.args.held.now < 2 = rw c.in-Count.is at c.requires in
     let fills : Fills c.args.held.now c.args.piece.now 2 c.fill-rest.new.held c.fill-rest.result.now = record { joined = c.fill-rest.ensures.joined; full = c.fill-rest.ensures.full; most = c.fill-rest.ensures.most; stays = c.fill-rest.ensures.stays } in
     rw c.in-Count.is (count-fails _ _ _ _ fills short c.in-Err.fault other none, refl)
+
+pub returns-in-Overlong-clause-tells : goal.returns-in-Overlong-clause-tells
+returns-in-Overlong-clause-tells c =
+    rw c.in-Overlong.is (passed-tells c.in-Overlong.left c.in-Overlong.missing c.args.piece.now c.pass.result c.pass.new.stage c.args.held.now c.pass.ensures.tells)
+
+pub returns-in-Overlong-clause-held : goal.returns-in-Overlong-clause-held
+returns-in-Overlong-clause-held c =
+    passed-held c.in-Overlong.left c.in-Overlong.missing c.args.piece.now c.pass.result c.pass.new.stage c.args.held.now (rw c.in-Overlong.is at c.requires).0 c.pass.ensures.tells

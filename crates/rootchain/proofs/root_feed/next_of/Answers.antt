@@ -1,8 +1,13 @@
-use Rattle.std.proofs.Common.{arith, ◌≡◌, []}
-use Rattle.rootchain.proofs.RootFeeds.{front-none}
+use Rattle.std.proofs.Common.{rules, ◌<◌}
+use Rattle.rootchain.proofs.RootFeeds.{front-held, front-tells}
 use Rattle.rootchain.proofs.root_feed.next_of.Goals as goal
 
-pub returns-in-Root-clause-held : goal.returns-in-Root-clause-held
-returns-in-Root-clause-held c =
-    let none : c.first_of-next.new.held ≡ [] = c.in-Root.ensures.front.1 in
-    (omega (arith, c.requires.0), rw none front-none, λ _. none)
+pub returns-clause-tells : goal.returns-clause-tells
+returns-clause-tells c =
+    let some : 0 < c.args.left = search rules in
+    front-tells c.args.left c.args.held.now c.args.piece.now c.first_of.result _ some c.first_of.ensures.front
+
+pub returns-clause-held : goal.returns-clause-held
+returns-clause-held c =
+    let some : 0 < c.args.left = search rules in
+    front-held c.args.left _ c.first_of.result _ some c.requires.0 c.first_of.ensures.front
