@@ -1,13 +1,14 @@
 -- A list of roots in pieces: the client's chain takes them, and the rest of the client stays.
-use Rattle.std.proofs.Common.{◌≡◌, ◌≢◌, ℕ, List, [], ◌∷◌, Result, Ok, Err, sym, ap, subst, ◌∙◌}
+use Rattle.std.proofs.Common.{◌≡◌, ◌≢◌, ℕ, List, [], ◌∷◌, Result, Ok, Err, refl, sym, ap, subst, ◌∙◌}
 use Rattle.rootchain.specs.Chains.{KeyedRoots}
-use Rattle.rootchain.specs.RootFeeds.{FeedState}
-use Rattle.rootchain.specs.TakingPieces.{TakesPiece, TakesPieces}
+use Rattle.rootchain.specs.RootFeeds.{FeedState, Counts}
+use Rattle.rootchain.specs.TakingPieces.{first_refusal, joined, TakesPiece, TakesPieces}
+use Rattle.rootchain.specs.declared.list_refusal.ListRefusal.TheVariants as list
 use Rattle.rootchain.specs.declared.piece_refusal.PieceRefusal.{PieceRefusal}
 use Rattle.rootchain.specs.declared.piece_refusal.PieceRefusal.TheVariants as piece
-use Rattle.rootchain.proofs.TakingPieces.{cuts}
+use Rattle.rootchain.proofs.TakingPieces.{cuts, to-one}
 use Rattle.client.specs.Clients.{Client}
-use Rattle.client.specs.UpdatingFrom.{piece_told_as, with_chain, UpdatesInPieces, UpdatesMayBeCut}
+use Rattle.client.specs.UpdatingFrom.{piece_told_as, with_chain, UpdatesComeToOne, UpdatesFrom, UpdatesInPieces, UpdatesMayBeCut}
 use Rattle.client.specs.declared.client_refusal.Refusal.{Refusal}
 use Rattle.client.specs.declared.client_refusal.Refusal.TheVariants.{Memory}
 
@@ -17,6 +18,11 @@ refused why = Err why
 abbrev piece_refused : PieceRefusal → Result Unit PieceRefusal
 piece_refused why = Err why
 
+-- the client's answer for its chain's
+abbrev told_answer : Result Unit PieceRefusal → Result Unit Refusal
+told_answer (Ok done) = Ok done
+told_answer (Err why) = Err (piece_told_as why)
+
 module _ (hash : List ℕ → List ℕ) (verified : List ℕ → List ℕ → List ℕ → Type 0) where
   some-room : (why : Refusal) (reason : PieceRefusal) → why ≡ piece_told_as reason → refused why ≢ refused Memory → piece_refused reason ≢ piece_refused piece.Memory
   some-room why reason told other e = other (ap refused (told ∙ ap piece_told_as (same e)))
@@ -24,30 +30,64 @@ module _ (hash : List ℕ → List ℕ) (verified : List ℕ → List ℕ → Li
       same : piece_refused reason ≡ piece_refused piece.Memory → reason ≡ piece.Memory
       same e = cc
 
-  pub chain-takes : (pieces : List (List ℕ)) (before : Client) (held : FeedState) (after : Client) (held' : FeedState) → UpdatesInPieces hash verified before held pieces after held'
-      → TakesPieces hash verified before.chain held pieces after.chain held' × (after ≡ with_chain before after.chain)
-  chain-takes [] before held after held' calls = ((ap (λ (c : Client). c.chain) calls.0, calls.1), calls.0 ∙ ap (with_chain before) (sym (ap (λ (c : Client). c.chain) calls.0)))
-  chain-takes (piece ∷ pieces) before held after held' (Ok done, middle, between, one, some, later) =
-      let more = chain-takes pieces middle between after held' later in
+  pub chain-takes : (pieces : List (List ℕ)) (answers : List (Result Unit Refusal)) (before : Client) (held : FeedState) (after : Client) (held' : FeedState)
+      → UpdatesInPieces hash verified before held pieces answers after held'
+      → (own : List (Result Unit PieceRefusal)) × (first_refusal answers ≡ told_answer (first_refusal own)) × TakesPieces hash verified before.chain held pieces own after.chain held'
+          × (after ≡ with_chain before after.chain)
+  chain-takes [] [] before held after held' calls = ([], refl, (ap (λ (c : Client). c.chain) calls.0, calls.1), calls.0 ∙ ap (with_chain before) (sym (ap (λ (c : Client). c.chain) calls.0)))
+  chain-takes [] (answer ∷ answers) before held after held' calls = absurd calls
+  chain-takes (piece ∷ pieces) [] before held after held' calls = absurd calls
+  chain-takes (piece ∷ pieces) (Ok done ∷ answers) before held after held' (middle, between, one, some, later) =
+      let more = chain-takes pieces answers middle between after held' later in
       let chain : one.0 ≡ middle.chain = sym (ap (λ (c : Client). c.chain) one.2) in (
-        (Ok done, middle.chain, between, subst (λ (c : KeyedRoots). TakesPiece hash verified {A = Unit} before.chain held piece (Ok done) c between) chain one.1, (λ e. cc), more.0),
-        more.1 ∙ ap (λ (c : Client). with_chain c after.chain) one.2,
+        Ok done ∷ more.0,
+        more.1,
+        (middle.chain, between, subst (λ (c : KeyedRoots). TakesPiece hash verified {A = Unit} before.chain held piece (Ok done) c between) chain one.1, (λ e. cc), more.2),
+        more.3 ∙ ap (λ (c : Client). with_chain c after.chain) one.2,
       )
-  chain-takes (piece ∷ pieces) before held after held' (Err why, middle, between, one, some, later) =
-      let more = chain-takes pieces middle between after held' later in
+  chain-takes (piece ∷ pieces) (Err why ∷ answers) before held after held' (middle, between, one, some, later) =
+      let more = chain-takes pieces answers middle between after held' later in
       let chain : one.0 ≡ middle.chain = sym (ap (λ (c : Client). c.chain) one.3) in (
+        Err one.1 ∷ more.0,
+        ap refused one.4,
         (
-          Err one.1,
           middle.chain,
           between,
           subst (λ (c : KeyedRoots). TakesPiece hash verified {A = Unit} before.chain held piece (Err one.1) c between) chain one.2,
           some-room why one.1 one.4 some,
-          more.0,
+          more.2,
         ),
-        more.1 ∙ ap (λ (c : Client). with_chain c after.chain) one.3,
+        more.3 ∙ ap (λ (c : Client). with_chain c after.chain) one.3,
       )
 
   pub cuts-of : UpdatesMayBeCut hash verified
-  cuts-of before roots pieces after held' spelled calls =
-      let t = chain-takes pieces before _ after held' calls in
-      (cuts hash verified before.chain roots pieces after.chain held' spelled t.0, t.1)
+  cuts-of before roots pieces answers after held' spelled calls =
+      let t = chain-takes pieces answers before _ after held' calls in
+      (cuts hash verified before.chain roots pieces t.0 after.chain held' spelled t.2, t.3)
+
+  -- ---- what comes of one piece
+
+  one-update : (before : Client) (held : FeedState) (piece : List ℕ) (own : Result Unit PieceRefusal) (after : Client) (held' : FeedState)
+      → TakesPiece hash verified before.chain held piece own after.chain held' → after ≡ with_chain before after.chain → UpdatesFrom hash verified before held piece (told_answer own) after held'
+  one-update before held piece (Ok done) after held' takes same = (after.chain, takes, same)
+  one-update before held piece (Err why) after held' takes same = (after.chain, why, takes, same, refl)
+
+  has-room : (chain : KeyedRoots) (held : FeedState) (bytes : List ℕ) (own : Result Unit PieceRefusal) (after : KeyedRoots) (held' : FeedState)
+      → TakesPiece hash verified chain held bytes own after held' → own ≢ Err piece.Memory → told_answer own ≢ Err Memory
+  has-room chain held bytes (Ok done) after held' takes some e = cc
+  has-room chain held bytes (Err piece.Malformed) after held' takes some e = cc
+  has-room chain held bytes (Err (piece.Root list.BadSignature)) after held' takes some e = cc
+  has-room chain held bytes (Err (piece.Root list.BeforeStart)) after held' takes some e = cc
+  has-room chain held bytes (Err (piece.Root list.Ahead)) after held' takes some e = cc
+  has-room chain held bytes (Err (piece.Root (list.Evidence evidence))) after held' takes some e = cc
+  has-room chain held bytes (Err (piece.Root list.Memory)) after held' takes some e = takes.1 refl
+  has-room chain held bytes (Err piece.Memory) after held' takes some e = some refl
+
+  pub to-one-update : UpdatesComeToOne hash verified
+  to-one-update before pieces answers after held' calls =
+      let t = chain-takes pieces answers before _ after held' calls in
+      let one = to-one hash verified before.chain pieces t.0 after.chain held' t.2 in (
+        subst (λ (answer : Result Unit Refusal). UpdatesFrom hash verified before (Counts []) (joined pieces) answer after held') (sym t.1)
+        (one-update before (Counts []) (joined pieces) (first_refusal t.0) after held' one.0 t.3),
+        λ e. has-room before.chain (Counts []) (joined pieces) (first_refusal t.0) after.chain held' one.0 one.1 (sym t.1 ∙ e),
+      )

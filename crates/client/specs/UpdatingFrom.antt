@@ -3,7 +3,7 @@ use Rattle.std.specs.Prelude.{◌≡◌, ◌≢◌, ℕ, List, [], ◌∷◌, Re
 use Rattle.rootchain.specs.Chains.{KeyedRoots}
 use Rattle.rootchain.specs.RootFeeds.{FeedState, Counts}
 use Rattle.rootchain.specs.RootLists.{SpellsRoots}
-use Rattle.rootchain.specs.TakingPieces.{joined, TakesPiece, TakesUpTo}
+use Rattle.rootchain.specs.TakingPieces.{first_refusal, joined, TakesPiece, TakesUpTo}
 use Rattle.rootchain.specs.declared.signed_root.SignedRoot.{SignedRoot}
 use Rattle.rootchain.specs.declared.piece_refusal.PieceRefusal.{PieceRefusal}
 use Rattle.rootchain.specs.declared.piece_refusal.PieceRefusal.TheVariants as piece
@@ -29,14 +29,23 @@ module _ (hash : List ℕ → List ℕ) (verified : List ℕ → List ℕ → Li
   UpdatesFrom {A} before held bytes (Err why) after held' = (chain : KeyedRoots) × (reason : PieceRefusal) × TakesPiece hash verified {A = A} before.chain held bytes (Err reason) chain held'
       × (after ≡ with_chain before chain) × (why ≡ piece_told_as reason)
 
-  -- the pieces as they come, in calls of which none is refused for want of memory
-  abbrev pub UpdatesInPieces : Client → FeedState → List (List ℕ) → Client → FeedState → Type 0
-  UpdatesInPieces before held [] after held' = (after ≡ before) × (held' ≡ held)
-  UpdatesInPieces before held (piece ∷ pieces) after held' = (answer : Result Unit Refusal) × (middle : Client) × (between : FeedState)
-      × UpdatesFrom before held piece answer middle between × (answer ≢ Err Memory) × UpdatesInPieces middle between pieces after held'
+  -- the pieces as they come, each with its answer; none is refused for want of memory
+  abbrev pub UpdatesInPieces : Client → FeedState → List (List ℕ) → List (Result Unit Refusal) → Client → FeedState → Type 0
+  UpdatesInPieces before held [] [] after held' = (after ≡ before) × (held' ≡ held)
+  UpdatesInPieces before held [] (answer ∷ answers) after held' = ⊥
+  UpdatesInPieces before held (piece ∷ pieces) [] after held' = ⊥
+  UpdatesInPieces before held (piece ∷ pieces) (answer ∷ answers) after held' = (middle : Client) × (between : FeedState)
+      × UpdatesFrom before held piece answer middle between × (answer ≢ Err Memory) × UpdatesInPieces middle between pieces answers after held'
 
   -- Where the bytes of a list are cut does not matter: the chain takes each root up to the first that is refused.
   abbrev pub UpdatesMayBeCut : Type 0
-  UpdatesMayBeCut = (before : Client) (roots : List SignedRoot) (pieces : List (List ℕ)) (after : Client) (held' : FeedState)
-      → SpellsRoots (joined pieces) roots → UpdatesInPieces before (Counts []) pieces after held'
+  UpdatesMayBeCut = (before : Client) (roots : List SignedRoot) (pieces : List (List ℕ)) (answers : List (Result Unit Refusal)) (after : Client) (held' : FeedState)
+      → SpellsRoots (joined pieces) roots → UpdatesInPieces before (Counts []) pieces answers after held'
       → TakesUpTo hash verified before.chain roots after.chain held' × (after ≡ with_chain before after.chain)
+
+  -- Nor where any other bytes are cut: pieces come to the refusal, the client and the feed to which they come as
+  -- one piece.
+  abbrev pub UpdatesComeToOne : Type 0
+  UpdatesComeToOne = (before : Client) (pieces : List (List ℕ)) (answers : List (Result Unit Refusal)) (after : Client) (held' : FeedState)
+      → UpdatesInPieces before (Counts []) pieces answers after held'
+      → UpdatesFrom before (Counts []) (joined pieces) (first_refusal answers) after held' × (first_refusal answers ≢ Err Memory)

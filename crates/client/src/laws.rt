@@ -1,6 +1,6 @@
 ghost use Rattle.client.specs.Agreements.{IsReconciled};
 ghost use Rattle.client.specs.Clients.{Client};
-ghost use Rattle.client.specs.UpdatingFrom.{UpdatesMayBeCut};
+ghost use Rattle.client.specs.UpdatingFrom.{UpdatesComeToOne, UpdatesMayBeCut};
 ghost use Rattle.client.specs.declared.outcome.Outcome.TheVariants.{TwoValues};
 
 use nodehash::NodeHash;
@@ -16,4 +16,10 @@ pub fn two_values_are_never_told<H: NodeHash, V: UniqueVuf>()
 /// memory runs out: the roots up to the first that `Client::update` would refuse are taken.
 pub fn cuts_of_a_list_do_not_matter<H: NodeHash, S: Verifier>()
     ensures { UpdatesMayBeCut H.digest_of S.verified }
+{}
+
+/// Pieces of any bytes for `Client::update_from` come to what they would come to as one piece, unless memory
+/// runs out: to the same first refusal, client and feed.
+pub fn pieces_come_to_one<H: NodeHash, S: Verifier>()
+    ensures { UpdatesComeToOne H.digest_of S.verified }
 {}

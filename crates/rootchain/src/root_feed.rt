@@ -1,8 +1,8 @@
 //! A list of roots in pieces. Where nothing is held, a root that is whole in a piece is read where it lies.
 //! Else the bytes of the next root are held: first up to the length of its signature, and then up to its
-//! end. A root that is whole is returned, and bytes that were held fall. Bytes that no list has there, and
-//! bytes after the last root, end the feed. A piece that is too short for any of this is only held: that is
-//! quick, since it makes no room for a root.
+//! end. A root that is whole is returned, and bytes that were held fall. If its signature is too long, its bytes
+//! are only counted, up to its end. Bytes that no list has there, and bytes after the last root, end the feed.
+//! A piece that is too short for any of this is only held: that is quick, since it makes no room for a root.
 ghost use Rattle.std.specs.Prelude.{◌≡◌, ◌⊎◌, ◌↔◌, ◌+◌, ◌<◌, ◌≤◌, ◌++◌, [], length, IsTrue};
 ghost use Rattle.encoding.specs.Reading.{Gives};
 ghost use Rattle.rootchain.specs.FeedViews.{held_of, HasSpelledRoot, IsFront, TakesPart, TellsNext, TellsPassed};
