@@ -615,6 +615,20 @@ class Answers(Lines):
             return [*shown, refusal.text]
         return ["taken"]
 
+    def chains_room(self, w):
+        """`room KEY ROOT LIST`: of a chain of its own, its head, `taken` or the text of the refusal, and its head then.
+        If memory runs out for the list, the head and `out of memory` stand before that."""
+        chain, data = Chain.start(sha256, w.hash(), w.form(SignedRoot.read)), w.bytes()
+        before = chain.head()
+        try:
+            chain.take_list(read_list(data))
+            answer = "taken"
+        except (Refusal, ListRefusal) as refusal:
+            answer = refusal.text
+        return [told(before.write()), answer, told(chain.head().write())]
+
+    chains_room_bytes = chains_room
+
     def chains_at(self, w):
         """`at EPOCH`"""
         return root_or_none(self.held().at(w.number()))

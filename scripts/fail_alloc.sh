@@ -6,8 +6,10 @@
 # The programs are vectors, session_vectors and faults, as they were built last. Each answers a question once
 # more where a call lacked memory. So a run passes if it writes the stored answers, or if it ends with status 1
 # before its first answer. Of many connections at once it may also close the one for which memory was wanting
-# (scripts/others_go_on.py); and three Heads in one piece may be answered in two calls. Any other end is a wrong answer in place of a refusal, or shows that a refused call
-# has changed something. A program that is not built counts as failed.
+# (scripts/others_go_on.py); three Heads in one piece may be answered in two calls; and where room for roots comes
+# first, the refusal for want of it may be told, with what it left, before the answer (scripts/room_first.py). Each of
+# those questions must be answered so in some run. Any other end is a wrong answer in place of a refusal, or shows that
+# a refused call has changed something. A program that is not built counts as failed.
 #
 # The questions of each subject, which stand between empty lines, are a run of their own. First each allocation of
 # the short subjects fails, whose notes begin with `in a few lines`; then every 4,096th one of the others, and the
@@ -104,6 +106,22 @@ in_two_calls() {
             END { exit !good }' "$folder/$1/$2.answers" "$3"
 }
 
+# Whether one list was refused for want of room, which changed nothing, before it was answered. Tells which one:
+# room_first PROGRAM SUBJECT OUTPUT
+room_first() {
+    grep -m 1 '^#' "$folder/$1/$2.questions" | grep -q ': room comes first' &&
+        python3 scripts/room_first.py "$folder/$1/$2.questions" "$3" "$folder/$1/$2.answers" | sed "s/^/$1 /"
+}
+
+# The questions that must be refused so in some run.
+room_questions() {
+    local program
+    for program in "${programs[@]}"; do
+        grep -l -m 1 '^# .*: room comes first' "$folder/$program"/[0-9]*.questions 2>/dev/null |
+            xargs -r grep -h '^[a-z]* room' | sed "s/^/$program /"
+    done
+}
+
 # Tries a part of the allocations until the time is over: a line PROGRAM END each, END `passed`, `early` or
 # `failed`.
 try_part() {
@@ -121,6 +139,8 @@ try_part() {
             elif [ $status = 0 ] && in_two_calls "$program" "$subject" "$output"; then
                 echo "$program passed"
                 cat "$output" >>"$folder/calls.$1"
+            elif [ $status = 0 ] && room_first "$program" "$subject" "$output" >>"$folder/rooms.$1"; then
+                echo "$program passed"
             else
                 echo "$program failed"
                 tell "$program" "$subject" "$number" $status "$output" >&2
@@ -180,6 +200,13 @@ failed=$((failed + left))
 if grep -q '^faults .* first$' "$folder/counts" && ! cat "$folder"/calls.* | awk '2 * $1 == $3' | grep -q .; then
     echo "three Heads: no run answered one of them, and then two"
     failed=$((failed + 1))
+fi
+# Where the reservation of room fails, the call is refused before its roots are looked at.
+without=$(comm -23 <(room_questions | sort -u) <(cat "$folder"/rooms.* 2>/dev/null | sort -u))
+if [ -n "$without" ]; then
+    echo "no run refused this for want of room:"
+    echo "$without"
+    failed=$((failed + $(wc -l <<<"$without")))
 fi
 echo "$(grep -vc " failed$" "$folder/ends") passed, $failed failed"
 [ $failed = 0 ]

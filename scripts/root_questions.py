@@ -299,6 +299,40 @@ def of_taking(q, rng):
         q.ask("chains after", epoch)
 
 
+# A chain that starts has room for three roots more, so a list of four takes memory.
+
+
+def few_roots(q):
+    """Names a key and roots: one to start at, one that follows it, and those that are refused."""
+    fifth = epoch_root(5, 2)
+    seventh = root_after(fifth, 7)
+    refused = [epoch_root(7, 5, key=ZERO32), epoch_root(1), epoch_root(9, 8), epoch_root(5, 4)]
+    q.let("k", KEY)
+    for name, root in zip("absuwf", [fifth, seventh, *refused]):
+        q.let(name, root.write())
+    return fifth.write(), seventh, refused
+
+
+@subject("in a few lines: room comes first, before the roots of a list are looked at")
+def of_room_first(q, rng):
+    start, seventh, refused = few_roots(q)
+    for verb in ["room", "room-bytes"]:
+        for root in [seventh, *refused]:
+            q.ask(f"chains {verb}", KEY, start, write_list([root, *[seventh] * 3]))
+        q.ask(f"chains {verb}", KEY, start, write_list([seventh, refused[0], *[seventh] * 2]))
+
+
+@subject("in a few lines: roots for which there is room, and bytes that are no list")
+def of_room_enough(q, rng):
+    start, seventh, refused = few_roots(q)
+    for verb in ["room", "room-bytes"]:
+        for root in [seventh, *refused]:
+            q.ask(f"chains {verb}", KEY, start, write_list([root, *[seventh] * 2]))
+        four = write_list([refused[0], *[seventh] * 3])
+        for data in [four[:-1], four + b"\0", u16(65) + four[2:]]:
+            q.ask(f"chains {verb}", KEY, start, data)
+
+
 @subject("a chain of hundreds of roots")
 def of_long_chains(q, rng):
     roots = chain_of(*range(1, 221))

@@ -315,11 +315,11 @@ class SessionAnswers(Lines):
 
     def in_pieces(self, taker, w):
         size, data = w.number(MAX_PIECE), w.bytes()
-        cuts = range(0, len(data), size) if size else [0]
+        pieces = [data[at : at + size] for at in range(0, len(data), size)] if size else [data]
 
         def take():
-            for start in cuts:
-                taker.update_from(self.values.feed, data[start : start + size] if size else data)
+            for piece in pieces:
+                taker.update_from(self.values.feed, piece)
 
         return self.done(take)
 
@@ -337,6 +337,75 @@ class SessionAnswers(Lines):
         """`any ROOT LIST PROMISE`: a client of its own, under a verifier that accepts each signature."""
         client = Client(ZERO32, w.bytes(), self.values.digest, self.values.vuf, AnyChain)
         return ["ok", *self.done(client.update, w.bytes()), *self.done(client.keep_promise, w.bytes())]
+
+    def started(self, w):
+        """What starts clients of their own at `KEY ROOT`."""
+        key, root = w.hash(), w.bytes()
+        return lambda: Client(key, root, self.values.digest, self.values.vuf)
+
+    def client_ways(self, w):
+        """`ways KEY ROOT LIST PLACE`: of clients of their own that take a list whole, in one piece, one byte a piece,
+        and in two pieces of which the first ends at the place: `ok` or the refusal, and the epoch of the head; of a
+        list in pieces also whether it has come whole, waits, or has failed. At the end the heads joined."""
+        start, data = self.started(w), w.bytes()
+        place = w.number(len(data))
+        client = start()
+        words, heads = [self.number(client.update, data), str(client.head().epoch)], client.head().write()
+        for pieces in ([data], [data[at : at + 1] for at in range(len(data))], [data[:place], data[place:]]):
+            client, feed = start(), RootFeed()
+            words += [self.number(client.take_pieces, feed, pieces), str(client.head().epoch), self.end_of(client, feed)]
+            heads += client.head().write()
+        return [*words, told(heads)]
+
+    @staticmethod
+    def number(call, *words):
+        """`ok`, or the number of the refusal."""
+        try:
+            call(*words)
+        except Refusal as refusal:
+            return str(refusal.number)
+        return "ok"
+
+    @staticmethod
+    def end_of(client, feed):
+        if feed.done():
+            return "done"
+        try:
+            client.update_from(feed, b"")
+        except Refusal:
+            return "failed"
+        return "waits"
+
+    def client_room(self, w):
+        """`room KEY ROOT PIECE..`: of clients of their own, of which one takes the last piece of a list and another one
+        those before it: the head and whether the list has come whole; `ok` or the refusal; and both again. If memory
+        runs out for the room, both and that refusal stand before that."""
+        start, pieces = self.started(w), w.all_bytes()
+        if not pieces:
+            raise BadQuestion
+        other, client, feed = start(), start(), RootFeed()
+        for piece in pieces[:-1]:
+            self.number(other.update_from, feed, piece)
+        return self.in_room(client, feed, client.update_from, feed, pieces[-1])
+
+    def client_room_whole(self, w):
+        """`room-whole KEY ROOT LIST`: the same of one that takes a list whole."""
+        start, data = self.started(w), w.bytes()
+        client = start()
+        return self.in_room(client, RootFeed(), client.update, data)
+
+    @staticmethod
+    def in_room(client, feed, call, *words):
+        def state():
+            return [told(client.head().write()), yes(feed.done())]
+
+        before = state()
+        try:
+            call(*words)
+            answer = "ok"
+        except Refusal as refusal:
+            answer = refused(refusal)
+        return [*before, answer, *state()]
 
     def client_look(self, w):
         """`look NAME EPOCH REPLY`"""

@@ -563,7 +563,7 @@ class RootFeed:
         return front
 
     def next(self):
-        """The first root, once it is whole, or None."""
+        """The first root, once it is whole, or None. Also one that is malformed is looked at only then."""
         if self.left is None:
             count = self.cut(2)
             if count is None:
@@ -573,10 +573,7 @@ class RootFeed:
             raise RootRefusal(MALFORMED)
         if self.left == 0 or len(self.bytes) < 148:
             return None
-        signature = int.from_bytes(self.bytes[146:148], "big")
-        if signature > 256:
-            raise RootRefusal(MALFORMED)
-        root = self.cut(148 + signature)
+        root = self.cut(148 + int.from_bytes(self.bytes[146:148], "big"))
         if root is None:
             return None
         self.left -= 1
@@ -617,6 +614,11 @@ class Client:
         except Refusal:
             feed.failed = True
             raise
+
+    def take_pieces(self, feed, pieces):
+        """Takes pieces up to the first that is refused."""
+        for piece in pieces:
+            self.update_from(feed, piece)
 
     def look(self, name, epoch, reply):
         """The key that a reply states of a name at an epoch (0: the head's), or None. The look is kept."""

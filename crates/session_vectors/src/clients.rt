@@ -1,7 +1,7 @@
 //! Of `client`: a client, and another one, which stay for the next lines.
 
-use crate::feeds;
 use crate::stand_ins::{Functions, keyed, summed};
+use crate::{feeds, lists};
 use client::{Client, Due, Outcome, Refusal, reconcile};
 use encoding::Hash32;
 use nodehash::{NodeHash, Sha256Hash, SumHash};
@@ -10,7 +10,7 @@ use rootchain::RootFeed;
 use sigiface::KeyedSign;
 use vrfiface::{KeyedVuf, PlainVuf, VufCheck};
 
-type Kept<H, V> = Client<H, V, KeyedSign>;
+pub(crate) type Kept<H, V> = Client<H, V, KeyedSign>;
 
 /// A client, the one that was put aside, and a list of roots that comes in pieces.
 #[derive(Drop)]
@@ -40,6 +40,9 @@ where
     match case.word() {
         b"start" => start(case, by, &mut clients.client),
         b"any" => any(case, by),
+        b"ways" => lists::ways(case, by),
+        b"room" => lists::room(case, by),
+        b"room-whole" => lists::room_whole(case, by),
         b"put-aside" => put_aside(case, clients),
         b"feed" => feeds::begin(case, &mut clients.feed),
         b"done" => feeds::done(case, &clients.feed),

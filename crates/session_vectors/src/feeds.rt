@@ -80,7 +80,8 @@ pub(crate) fn update<H, V, F: Follow<H, V>>(
     tell_done(case, in_pieces(by, feed, follower, size, bytes));
 }
 
-fn in_pieces<H, V, F: Follow<H, V>>(
+/// Hands bytes over in pieces of this size, or in one if it is 0, up to the first that is refused.
+pub(crate) fn in_pieces<H, V, F: Follow<H, V>>(
     by: &mut Functions<H, V>,
     feed: &mut RootFeed,
     follower: &mut F,

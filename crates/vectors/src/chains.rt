@@ -1,6 +1,7 @@
 //! Of `rootchain`: a chain, which stays for the next lines. Two chains are compared in `comparing`.
 
 use crate::comparing::compare;
+use crate::room::{Taker, room};
 use crate::roots::{say_body, signed_root, verifier};
 use encoding::Hash32;
 use nodehash::{Sha256Hash, SumHash};
@@ -15,6 +16,8 @@ pub(crate) fn answer(case: &mut Case<'_>, kept: &mut Kept) {
         b"start" => start(case, kept),
         b"compare" => compare(case, &mut Sha256Hash::new()),
         b"compare-sum" => compare(case, &mut SumHash::new()),
+        b"room" => room(case, Taker::List),
+        b"room-bytes" => room(case, Taker::Bytes),
         b"any" => any(case, Step::Take),
         b"any-extended" => any(case, Step::Extend),
         verb => match kept {

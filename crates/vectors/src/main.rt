@@ -25,6 +25,7 @@
 //! | | `RootEvidence::holds` | `fork`, `link`, `skip` |
 //! | `chains` | `Chain::start`, `extend`, `place`, `take` | `start`, `extend`, `place`, `take` |
 //! | | `take_list`, `at`, `after`, `head`, `key` | `take-list`, `at`, `after`, `head`, `key` |
+//! | | `take_list`, `take_bytes` where memory runs out for their room | `room`, `room-bytes` |
 //! | | `compare` | `compare`, `compare-sum` |
 //! | | `take`, `extend` under a verifier that accepts all | `any`, `any-extended` |
 //! | `trees` | `Tree::new`, `with`, `copy` | `new`, `with`, `copy` |
@@ -71,6 +72,7 @@ mod made_replies;
 mod nodes;
 mod reading;
 mod replies;
+mod room;
 mod root_lists;
 mod roots;
 mod stand_ins;
