@@ -11,6 +11,7 @@ use std::marker::{Model, PhantomData};
 mod comparing;
 mod next_root;
 mod placing;
+mod room;
 
 pub use placing::Place;
 

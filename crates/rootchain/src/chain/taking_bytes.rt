@@ -11,6 +11,7 @@ ghost use Rattle.rootchain.specs.TakingLists.{with_roots};
 ghost use Rattle.rootchain.specs.TakingPieces.{piece_answer, PieceRefusalHolds, PieceRefusalIsSpelled};
 
 use super::Chain;
+use super::room::make_room;
 use super::taking_pieces::{Outcome, of_piece};
 use crate::root_list::{has_roots, read_count};
 use crate::{ListRefusal, PieceRefusal, SignedRoot};
@@ -61,7 +62,7 @@ impl<H: NodeHash, S: Verifier> Chain<H, S> {
         let Ok(count) = read_count(&mut cursor) else {
             return Outcome::Malformed;
         };
-        if self.roots.reserve(count).is_err() {
+        if !make_room(&mut self.roots, count) {
             *why = ListRefusal::Memory;
             return refused_if(has_roots(count, &cursor));
         }

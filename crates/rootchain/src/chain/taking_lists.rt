@@ -8,6 +8,7 @@ ghost use Rattle.rootchain.specs.SignedRoots.{IsSignedRoot};
 ghost use Rattle.rootchain.specs.TakingLists.{with_roots, IsListRefusal, Takes, TakesEach, ListRefusalHolds, ListRefusalIsSpelled};
 
 use super::Chain;
+use super::room::make_room;
 use crate::{ListRefusal, RootList};
 use nodehash::NodeHash;
 use sigiface::Verifier;
@@ -37,7 +38,9 @@ impl<H: NodeHash, S: Verifier> Chain<H, S> {
         ensures chain { IsChain H.digest_of S.verified self.old }
         ensures counted { H.digests hash.new ≤ H.digests hash.old + length list.entry }
     {
-        self.roots.reserve(list.len())?;
+        if !make_room(&mut self.roots, list.len()) {
+            return Err(ListRefusal::Memory);
+        }
         let before = self.roots.len();
         match self.take_each(hash, verifier, list) {
             Ok(()) => Ok(()),

@@ -17,6 +17,7 @@ ghost use Rattle.rootchain.specs.declared.list_refusal.ListRefusal.TheVariants a
 ghost use Rattle.rootchain.specs.TakingPieces.{of_piece, piece_answer, TakesPiece, TakesTold, PieceRefusalHolds, PieceRefusalIsSpelled};
 
 use super::Chain;
+use super::room::{has_room, make_room};
 use crate::root_feed::Next;
 use crate::{ListRefusal, PieceRefusal, RootFeed};
 use nodehash::NodeHash;
@@ -43,7 +44,7 @@ impl<H: NodeHash, S: Verifier> Chain<H, S> {
         ensures stays { self.new ≡ self.old }
         ensures chain { IsChain H.digest_of S.verified self.old }
     {
-        feed.owed() <= self.roots.capacity() - self.roots.len() && feed.take_part(piece)
+        has_room(&self.roots, feed.owed()) && feed.take_part(piece)
     }
 
     /// Takes each root that the next piece of a list makes whole, as `take_list` does, before the next one
@@ -71,11 +72,12 @@ impl<H: NodeHash, S: Verifier> Chain<H, S> {
         ensures chain { IsChain H.digest_of S.verified self.old }
         ensures counted { H.digests hash.new ≤ H.digests hash.old + length (told_from feed.old piece.now).0 }
     {
+        // The field is lent here, so that what holds of each chain is known at the first return too.
         let roots = &mut self.roots;
         if feed.has_failed() {
             return Err(PieceRefusal::Malformed);
         }
-        if roots.reserve(feed.owed()).is_err() {
+        if !make_room(roots, feed.owed()) {
             return Err(PieceRefusal::Memory);
         }
         if feed.take_part(piece) {

@@ -1,7 +1,6 @@
-use Rattle.std.proofs.Common.{rules, arith, ◌≡◌, List, [], Err, length, sym, ap, subst, ◌∙◌}
+use Rattle.std.proofs.Common.{rules, arith, ◌≡◌, ◌+◌, ◌≤◌, List, [], length, vec_capacity, vec_len, sym, ap, subst, ◌∙◌}
 use Rattle.std.specs.List.{AllByRecursion}
 use Rattle.rootchain.specs.declared.signed_root.SignedRoot.{SignedRoot}
-use Rattle.rootchain.specs.declared.list_refusal.ListRefusal.TheVariants.{Memory}
 use Rattle.rootchain.specs.Chains.{IsChain, KeyedRoots}
 use Rattle.rootchain.specs.SignedRoots.{IsSignedRoot}
 use Rattle.rootchain.specs.TakingLists.{StopsAt, Takes}
@@ -12,16 +11,16 @@ use Rattle.rootchain.proofs.chain.Chain.take_list.Goals as goal
 -- ---- room for the list
 
 -- the chain is the same once it has room
-same-at-Ok : (g : given.Over) (c : goal.In-Ok g) → record { key = c.self.inside.key; roots = c.reserve.new.self.items } ≡ c.args.self.now
-same-at-Ok g c = ap (λ (rs : List SignedRoot). record { key = c.self.inside.key; roots = rs }) c.reserve.ensures.items ∙ c.self.view_is
+same-at-Ok : (g : given.Over) (c : goal.In-Ok g) → record { key = c.self.inside.key; roots = c.make_room.new.roots.items } ≡ c.args.self.now
+same-at-Ok g c = ap (λ (rs : List SignedRoot). record { key = c.self.inside.key; roots = rs }) c.make_room.ensures.items ∙ c.self.view_is
 
-same-at-Err : (g : given.Over) (c : goal.After-truncate g) → record { key = c.self.inside.key; roots = c.reserve.new.self.items } ≡ c.args.self.now
-same-at-Err g c = ap (λ (rs : List SignedRoot). record { key = c.self.inside.key; roots = rs }) c.reserve.ensures.items ∙ c.self.view_is
+same-at-Err : (g : given.Over) (c : goal.After-truncate g) → record { key = c.self.inside.key; roots = c.make_room.new.roots.items } ≡ c.args.self.now
+same-at-Err g c = ap (λ (rs : List SignedRoot). record { key = c.self.inside.key; roots = rs }) c.make_room.ensures.items ∙ c.self.view_is
 
-pub returns-in_err-reserve-clause-refused : goal.returns-in_err-reserve-clause-refused
-returns-in_err-reserve-clause-refused g c =
-    let passed : c.from_residual.result ≡ Err Memory = search rules in
-    rw passed (memory-refused g.H.NodeHash.digest_of g.S.Verifier.verified c.args.self.now c.args.list (omega (arith, c.in_err-reserve.ensures.full, c.len.ensures, c.self.inside.roots.ok)))
+pub returns-then-not-make_room-clause-refused : goal.returns-then-not-make_room-clause-refused
+returns-then-not-make_room-clause-refused g c =
+    let full : ¬ (vec_len c.make_room.new.roots + length c.args.list ≤ vec_capacity c.make_room.new.roots) = search rules in
+    memory-refused g.H.NodeHash.digest_of g.S.Verifier.verified c.args.self.now c.args.list (omega (arith, full, c.make_room.new.roots.ok))
 
 -- ---- the list is taken
 
@@ -46,7 +45,7 @@ pub returns-in-Err-clause-stays : goal.returns-in-Err-clause-stays
 returns-in-Err-clause-stays g c =
     let grown = takes-grows g.H.NodeHash.digest_of g.S.Verifier.verified (stopped g c).0 c.args.self.now c.take_each.new.self (stopped g c).4 in
     let had : c.len-before.result ≡ length c.args.self.now.roots =
-    omega (arith, c.len-before.ensures, c.reserve.new.self.ok.0, ap (λ (chain : KeyedRoots). length chain.roots) (same-at-Err g c)) in
+    omega (arith, c.len-before.ensures, c.make_room.new.roots.ok.0, ap (λ (chain : KeyedRoots). length chain.roots) (same-at-Err g c)) in
     rw (c.truncate.ensures.items) (taken-off c.args.self.now c.take_each.new.self c.self-2.inside.key c.self-2.inside.roots.items grown.0 c.len-before.result c.self-2.view_is grown.1 had)
 
 pub returns-in-Err-clause-grows : goal.returns-in-Err-clause-grows

@@ -1,4 +1,4 @@
-use Rattle.std.proofs.Common.{rules, arith, ◌≡◌, ◌+◌, ◌<◌, List, vec_capacity, vec_len, length, sym, ap, subst, ◌∙◌}
+use Rattle.std.proofs.Common.{rules, arith, ◌≡◌, ◌+◌, ◌<◌, ◌≤◌, List, vec_capacity, vec_len, length, sym, ap, subst, ◌∙◌}
 use Rattle.rootchain.specs.declared.signed_root.SignedRoot.{SignedRoot}
 use Rattle.rootchain.specs.declared.chain.taking_pieces.Outcome.TheVariants.{Refused, Malformed, Taken}
 use Rattle.rootchain.specs.Chains.{KeyedRoots}
@@ -15,20 +15,20 @@ pub returns-in_default-clause-takes : goal.returns-in_default-clause-takes
 returns-in_default-clause-takes g c =
     bytes-uncounted g.H.NodeHash.digest_of g.S.Verifier.verified c.args.self.now c.args.bytes.now _ (ap read_root_count (sym c.new-cursor.ensures) ∙ c.in_default.ensures)
 
-pub returns-then-is_err-clause-takes : goal.returns-then-is_err-clause-takes
-returns-then-is_err-clause-takes g c =
-    let stays : record { key = c.self.inside.key; roots = c.reserve.new.self.items } ≡ c.args.self.now =
-    ap (λ (rs : List SignedRoot). record { key = c.self.inside.key; roots = rs }) c.reserve.ensures.items ∙ c.self.view_is in
-    let full : vec_capacity c.self.inside.roots < vec_len c.self.inside.roots + c.in-Ok.count = search rules in
-    let some : 0 < c.in-Ok.count = omega (arith, full, c.self.inside.roots.ok) in
+pub returns-then-not-make_room-clause-takes : goal.returns-then-not-make_room-clause-takes
+returns-then-not-make_room-clause-takes g c =
+    let stays : record { key = c.self.inside.key; roots = c.make_room.new.roots.items } ≡ c.args.self.now =
+    ap (λ (rs : List SignedRoot). record { key = c.self.inside.key; roots = rs }) c.make_room.ensures.items ∙ c.self.view_is in
+    let full : ¬ (vec_len c.make_room.new.roots + c.in-Ok.count ≤ vec_capacity c.make_room.new.roots) = search rules in
+    let some : 0 < c.in-Ok.count = omega (arith, full, c.make_room.new.roots.ok) in
     rw c.refused_if.ensures (bytes-crowded g.H.NodeHash.digest_of g.S.Verifier.verified c.args.self.now c.args.bytes.now c.in-Ok.count c.read_count.new.cursor (λ k. omega (arith, c.type_inv.bytes k))
     (ap read_root_count (sym c.new-cursor.ensures) ∙ c.in-Ok.ensures) some c.has_roots.result c.has_roots.ensures _ stays)
 
 -- ---- the roots are taken
 
 -- the chain is the same once it has room
-same-Taken : (g : given.Over) (c : goal.In-Taken g) → record { key = c.self.inside.key; roots = c.reserve.new.self.items } ≡ c.args.self.now
-same-Taken g c = ap (λ (rs : List SignedRoot). record { key = c.self.inside.key; roots = rs }) c.reserve.ensures.items ∙ c.self.view_is
+same-Taken : (g : given.Over) (c : goal.In-Taken g) → record { key = c.self.inside.key; roots = c.make_room.new.roots.items } ≡ c.args.self.now
+same-Taken g c = ap (λ (rs : List SignedRoot). record { key = c.self.inside.key; roots = rs }) c.make_room.ensures.items ∙ c.self.view_is
 
 pub returns-in-Taken-clause-takes : goal.returns-in-Taken-clause-takes
 returns-in-Taken-clause-takes g c =
@@ -38,8 +38,8 @@ returns-in-Taken-clause-takes g c =
 
 -- ---- those that were taken are taken off again
 
-same-Malformed : (g : given.Over) (c : goal.After-truncate g) → record { key = c.self.inside.key; roots = c.reserve.new.self.items } ≡ c.args.self.now
-same-Malformed g c = ap (λ (rs : List SignedRoot). record { key = c.self.inside.key; roots = rs }) c.reserve.ensures.items ∙ c.self.view_is
+same-Malformed : (g : given.Over) (c : goal.After-truncate g) → record { key = c.self.inside.key; roots = c.make_room.new.roots.items } ≡ c.args.self.now
+same-Malformed g c = ap (λ (rs : List SignedRoot). record { key = c.self.inside.key; roots = rs }) c.make_room.ensures.items ∙ c.self.view_is
 
 pub returns-in-Malformed-clause-takes : goal.returns-in-Malformed-clause-takes
 returns-in-Malformed-clause-takes g c =
@@ -51,8 +51,8 @@ returns-in-Malformed-clause-takes g c =
     (ap read_root_count (sym c.new-cursor.ensures) ∙ c.in-Ok.ensures) c.take_read.new.why c.take_read.new.self _ read
     (rw (c.truncate.ensures.items) (taken-off c.args.self.now c.take_read.new.self c.self-2.inside.key c.self-2.inside.roots.items grown.0 c.len-before.result c.self-2.view_is grown.1 had))
 
-same-Refused : (g : given.Over) (c : goal.After-truncate-in-Refused g) → record { key = c.self.inside.key; roots = c.reserve.new.self.items } ≡ c.args.self.now
-same-Refused g c = ap (λ (rs : List SignedRoot). record { key = c.self.inside.key; roots = rs }) c.reserve.ensures.items ∙ c.self.view_is
+same-Refused : (g : given.Over) (c : goal.After-truncate-in-Refused g) → record { key = c.self.inside.key; roots = c.make_room.new.roots.items } ≡ c.args.self.now
+same-Refused g c = ap (λ (rs : List SignedRoot). record { key = c.self.inside.key; roots = rs }) c.make_room.ensures.items ∙ c.self.view_is
 
 pub returns-in-Refused-clause-takes : goal.returns-in-Refused-clause-takes
 returns-in-Refused-clause-takes g c =
