@@ -299,16 +299,12 @@ def of_room_first(q, rng):
 @subject("in a few lines: roots for which there is room, and bytes that are no list")
 def of_room_enough(q, rng):
     start, b, c, refused, too_long = few_roots(q)
-    for root in [b, *refused.values()]:
-        q.ask("client room", SIGNING_KEY, start, u16(3), root)
     for pieces in [
-        (u16(4) + b, c), (u16(3) + too_long[:-1], too_long[-1:]), (u16(0), b""), (u16(0), b"\0"), (u16(65), b""),
-        (u16(64) + refused[2], b),
+        (u16(3), b), (u16(3), refused[2]), (u16(3), refused[21]), (u16(4) + b, c), (u16(3) + too_long[:-1], too_long[-1:]),
+        (u16(0), b"\0"), (u16(64) + refused[2], b),
     ]:
         q.ask("client room", SIGNING_KEY, start, *pieces)
-    for root in [b, *list(refused.values())[1:]]:
-        q.ask("client room-whole", SIGNING_KEY, start, u16(3) + root + b * 2)
-    for data in [u16(4) + b * 3, u16(4) + refused[2] + b * 4, u16(4) + refused[1] + b * 3, u16(65) + b, b"\0"]:
+    for data in [u16(3) + b * 3, u16(3) + refused[2] + b * 2, u16(4) + b * 3, u16(4) + refused[1] + b * 3, u16(65) + b]:
         q.ask("client room-whole", SIGNING_KEY, start, data)
 
 
