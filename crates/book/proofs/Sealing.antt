@@ -11,7 +11,7 @@ use Rattle.rootchain.specs.Chains.{IsChain, Links, Names, Verifies}
 use Rattle.rootchain.specs.declared.signed_root.SignedRoot.{SignedRoot}
 use Rattle.book.specs.Books.{Page}
 use Rattle.rootchain.specs.Evidence.{IsFork, IsLink, IsSkip}
-use Rattle.book.specs.Fresh.{KeepsLaws}
+use Rattle.book.specs.ProviderLaws.{KeepsLaws}
 use Rattle.book.specs.Shows.{Provider, SignedPage, body_behind, placement, sealed_behind, signed}
 use Rattle.book.proofs.Found.{IsPage}
 use Rattle.book.proofs.Members.{first-or-later, first-there, later-there, neighbours, none-there}
@@ -94,7 +94,7 @@ module _ (provider : Provider) where
           root = refl;
           nonce = refl;
           vuf_key = refl;
-          form = ((climb.0, zeros), are.0.epoch, fits, node-size provider.hash laws.digest_size page.nonce (replicate 32 0) 256 (placement provider page.bindings) (λ more. omega arith), size, are.0.nonce, laws.vuf_key_size);
+          form = ((climb.0, zeros), (are.0.epoch, fits, node-size provider.hash laws.digest_size page.nonce (replicate 32 0) 256 (placement provider page.bindings) (λ more. omega arith), size, are.0.nonce, laws.vuf_key_size));
           signature = laws.signature_verifies (body_bytes (body_behind provider epoch before page));
           small = laws.signature_size (body_bytes (body_behind provider epoch before page));
           page = are.0;

@@ -54,7 +54,7 @@ each_few s P most of_one (x ∷ xs) all =
 pub body_few : (body : Body) → IsBody body → AreFew 146 (body_bytes body)
 body_few body h =
     both_few 2 144 (pair_few 0x52 1 (lit≤ tt) (lit≤ tt)) (both_few 8 136 (number_few 8 body.epoch) (both_few 8 128 (number_few 8 body.previous_epoch)
-    (both_few 32 96 (hash_few body.root h.3) (both_few 32 64 (hash_few body.previous_hash h.4) (both_few 32 32 (hash_few body.nonce h.5) (hash_few body.vuf_key h.6))))))
+    (both_few 32 96 (hash_few body.root h.1.2) (both_few 32 64 (hash_few body.previous_hash h.1.3) (both_few 32 32 (hash_few body.nonce h.1.4) (hash_few body.vuf_key h.1.5))))))
 
 pub root_few : (signed : SignedRoot) → IsSignedRoot signed → AreFew 404 (signed_root_bytes signed)
 root_few signed h = both_few 146 258 (body_few signed.body h.0) (counted_few 1 256 signed.signature h.1)
@@ -66,8 +66,8 @@ roots_few roots h =
 promise_few : (promise : Promise) → IsPromise promise → AreFew 2381 (promise_bytes promise)
 promise_few promise h =
     both_few 2 2379 (pair_few 0x50 1 (lit≤ tt) (lit≤ tt)) (both_few 8 2371 (number_few 8 promise.epoch)
-    (both_few 32 2339 (hash_few promise.body_hash h.2) (both_few 32 2307 (hash_few promise.index h.3)
-    (both_few 257 2050 (counted_few 1 255 promise.name h.4) (counted_few 1 2048 promise.key h.5)))))
+    (both_few 32 2339 (hash_few promise.body_hash h.1) (both_few 32 2307 (hash_few promise.index h.2)
+    (both_few 257 2050 (counted_few 1 255 promise.name h.3) (counted_few 1 2048 promise.key h.4)))))
 
 pub signed_promise_few : (signed : SignedPromise) → IsSignedPromise signed → AreFew 2639 (signed_promise_bytes signed)
 signed_promise_few signed h = both_few 2381 258 (promise_few signed.promise h.0) (counted_few 1 256 signed.signature h.1)
