@@ -128,7 +128,7 @@ nobody yet" "Status 0: " "Status 1: " "Status 2: " "Status 3: " "README.md" "doc
 for word in --version -V; do
     given "x\n" $word
     ends 0 "directoryd 0.1.0
-rattle-kit-13b logic dac8208d650f15bf" ""
+rattle-kit-13f logic dac8208d650f15bf" ""
 done
 
 # What each subcommand's help has to show: its options with the names of their values, and an example.

@@ -29,7 +29,7 @@ use tables::{Argument, Kind, SUBCOMMANDS, Subcommand};
 /// What `--version` prints behind the program's name: its version, and the kit that it was last proved with.
 static VERSION: &str = "\
 0.1.0
-rattle-kit-13b logic dac8208d650f15bf";
+rattle-kit-13f logic dac8208d650f15bf";
 
 /// What stands below the subcommands.
 static HELP: &str = "\
