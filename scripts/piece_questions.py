@@ -248,13 +248,17 @@ def of_altered_lists(q, rng):
             q.ask("client ways", SIGNING_KEY, start, data, differs)
     for data in (text, roots(*pages, *pages), roots()):
         q.ask("client ways", SIGNING_KEY, start, data, len(data) // 2)
+    words = "01*32 $list/2/182"
+    for line in ["ways", f"ways {words} 0000 3", "room", f"room {words}", f"room-more {words} -", f"room-whole {words}"]:
+        q.lines.append(f"client {line}")
 
 
 def new_client(start):
     return Client(SIGNING_KEY, start, sha256, KeyedVuf)
 
 
-# A chain that starts has room for three roots more, so a list of four, or one whose number is not read, takes memory.
+# A chain that starts has room for three roots more, so a list of four, or one whose number is not read, takes memory;
+# and then it has room for 64.
 
 
 def few_roots(q):
@@ -290,6 +294,8 @@ def of_room_first(q, rng):
         room(u16(4), root)
     room(u16(4) + too_long[:-1], too_long[-1:])
     room(u16(4) + refused[2][:100], refused[2][100:])
+    q.note("Of the room for 64 roots that another list took, one is used.")
+    q.ask("client room-more", SIGNING_KEY, start, u16(1) + b, u16(4) + refused[2])
     q.note("A whole list.")
     for root in [b, *list(refused.values())[1:]]:
         q.ask("client room-whole", SIGNING_KEY, start, u16(4) + root + b * 3)
@@ -304,6 +310,7 @@ def of_room_enough(q, rng):
         (u16(0), b"\0"), (u16(64) + refused[2], b),
     ]:
         q.ask("client room", SIGNING_KEY, start, *pieces)
+    q.ask("client room-more", SIGNING_KEY, start, u16(0), u16(4) + refused[2])
     for data in [u16(3) + b * 3, u16(3) + refused[2] + b * 2, u16(4) + b * 3, u16(4) + refused[1] + b * 3, u16(65) + b]:
         q.ask("client room-whole", SIGNING_KEY, start, data)
 

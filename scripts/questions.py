@@ -55,7 +55,8 @@ def of_bad_questions(q, rng):
         "bits bit 00*32",
         "bits name 0", "bits name 0g", "bits name $none", "let two 0001", "bits name $two/0/3",
         "bits name $two/2/1",
-        "bits name $two/1/2", "let a-b 00", "roots write-list 00", "trees joined 00*32 256 00*32 00*32",
+        "bits name $two/1/2", "let a-b 00", "roots write-list 00", "chains room",
+        "chains room-bytes 01*32 00 0000", "trees joined 00*32 256 00*32 00*32",
         "stand-ins value 00*32 -", "frames request 256 -", "text fault nothing",
     ]:
         q.lines.append(line)

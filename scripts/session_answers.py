@@ -388,6 +388,14 @@ class SessionAnswers(Lines):
             self.number(other.update_from, feed, piece)
         return self.in_room(client, feed, client.update_from, feed, pieces[-1])
 
+    def client_room_more(self, w):
+        """`room-more KEY ROOT LIST PIECE`: the same of one that takes a list in one piece, and then the first piece of
+        another one."""
+        start, data, piece = self.started(w), w.bytes(), w.bytes()
+        client, feed = start(), RootFeed()
+        self.number(client.update_from, RootFeed(), data)
+        return self.in_room(client, feed, client.update_from, feed, piece)
+
     def client_room_whole(self, w):
         """`room-whole KEY ROOT LIST`: the same of one that takes a list whole."""
         start, data = self.started(w), w.bytes()

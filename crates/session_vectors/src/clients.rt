@@ -42,6 +42,7 @@ where
         b"any" => any(case, by),
         b"ways" => lists::ways(case, by),
         b"room" => lists::room(case, by),
+        b"room-more" => lists::room_more(case, by),
         b"room-whole" => lists::room_whole(case, by),
         b"put-aside" => put_aside(case, clients),
         b"feed" => feeds::begin(case, &mut clients.feed),

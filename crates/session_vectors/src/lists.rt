@@ -175,14 +175,53 @@ where
             return case.lack_memory();
         }
     }
+    ask_twice(case, by, &mut client, &mut feed);
+}
+
+/// `room-more KEY ROOT LIST PIECE`: a client takes a list in one piece, and then the first piece of another one.
+/// Where memory runs out for that, it gets it once more.
+pub(crate) fn room_more<H, V>(case: &mut Case<'_>, by: &mut Functions<H, V>)
+where
+    H: NodeHash + Drop,
+    V: VufCheck + Drop,
+{
+    let key = case.hash();
+    let root = case.bytes();
+    let list = case.bytes();
+    let Some(mut client) = started(case, by, key, root) else {
+        return;
+    };
+    let mut before = RootFeed::new();
+    if let Err(Refusal::Memory) = client.update_from(
+        &mut by.hash,
+        &by.verifier,
+        &mut before,
+        list,
+    ) {
+        return case.lack_memory();
+    }
+    ask_twice(case, by, &mut client, &mut RootFeed::new());
+}
+
+/// Tells what the next word, as a piece, comes to, once more where memory runs out for it.
+fn ask_twice<H, V>(
+    case: &mut Case<'_>,
+    by: &mut Functions<H, V>,
+    client: &mut Kept<H, V>,
+    feed: &mut RootFeed,
+)
+where
+    H: NodeHash + Drop,
+    V: VufCheck + Drop,
+{
     let piece = case.bytes();
-    say_state(case, &client, &feed);
-    let first = client.update_from(&mut by.hash, &by.verifier, &mut feed, piece);
-    if tell(case, first, &client, &feed) {
+    say_state(case, client, feed);
+    let first = client.update_from(&mut by.hash, &by.verifier, feed, piece);
+    if tell(case, first, client, feed) {
         return;
     }
-    let second = client.update_from(&mut by.hash, &by.verifier, &mut feed, piece);
-    if !tell(case, second, &client, &feed) {
+    let second = client.update_from(&mut by.hash, &by.verifier, feed, piece);
+    if !tell(case, second, client, feed) {
         case.lack_memory();
     }
 }

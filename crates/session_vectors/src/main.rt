@@ -22,7 +22,7 @@
 //! | `serve` | `serve_directory` without a journal, which calls `serve` | `run`, `keys` |
 //! | `client` | `Client::start`, `update`, `look`, `look_next` | `start`, `update`, `look`, `look-next` |
 //! | | of them `update` calls `Chain::take_bytes`; `update_from`, which calls `take_part` and `take_piece`; `RootFeed::new`, `done` | `from`; `feed`, `done` |
-//! | | `update`, `update_from` of clients of their own; where memory runs out for their room | `ways`; `room-whole`, `room` |
+//! | | `update`, `update_from` of clients of their own; where memory runs out for their room | `ways`; `room-whole`, `room`, `room-more` |
 //! | | `keep_promise`, `due`, `due_epoch` | `keep`, `due`, `due-epoch` |
 //! | | `key`, `chain` | `key`, `head` |
 //! | | `reconcile` | `reconcile`, `reconcile-self`; `put-aside` makes the client the other one |
