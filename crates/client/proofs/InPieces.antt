@@ -33,7 +33,7 @@ module _ (hash : List ℕ → List ℕ) (verified : List ℕ → List ℕ → Li
   pub chain-takes : (pieces : List (List ℕ)) (answers : List (Result Unit Refusal)) (before : Client) (held : FeedState) (after : Client) (held' : FeedState)
       → UpdatesInPieces hash verified before held pieces answers after held'
       → (own : List (Result Unit PieceRefusal)) × (first_refusal answers ≡ told_answer (first_refusal own)) × TakesPieces hash verified before.chain held pieces own after.chain held'
-          × (after ≡ with_chain before after.chain)
+      × (after ≡ with_chain before after.chain)
   chain-takes [] [] before held after held' calls = ([], refl, (ap (λ (c : Client). c.chain) calls.0, calls.1), calls.0 ∙ ap (with_chain before) (sym (ap (λ (c : Client). c.chain) calls.0)))
   chain-takes [] (answer ∷ answers) before held after held' calls = absurd calls
   chain-takes (piece ∷ pieces) [] before held after held' calls = absurd calls
@@ -88,6 +88,6 @@ module _ (hash : List ℕ → List ℕ) (verified : List ℕ → List ℕ → Li
       let t = chain-takes pieces answers before _ after held' calls in
       let one = to-one hash verified before.chain pieces t.0 after.chain held' t.2 in (
         subst (λ (answer : Result Unit Refusal). UpdatesFrom hash verified before (Counts []) (joined pieces) answer after held') (sym t.1)
-        (one-update before (Counts []) (joined pieces) (first_refusal t.0) after held' one.0 t.3),
+            (one-update before (Counts []) (joined pieces) (first_refusal t.0) after held' one.0 t.3),
         λ e. has-room before.chain (Counts []) (joined pieces) (first_refusal t.0) after.chain held' one.0 one.1 (sym t.1 ∙ e),
       )

@@ -114,8 +114,8 @@ abbrev pub least_root_len : Reading ℕ → ℕ
 least_root_len (Ok (size, _)) = FIXED_LEN + size
 least_root_len (Err fault) = FIXED_LEN
 
--- how many bytes there are at least once the number of roots, or the first root, is whole; none where no root
--- is to come
+-- how many bytes there are at least once the number of roots, or the first root, is whole; 0 where no bytes of
+-- it are held
 abbrev pub least_len : FeedState → ℕ
 least_len (Counts bytes) = 2
 least_len (Owes zero bytes) = 0

@@ -1,6 +1,6 @@
 //! A list of roots in pieces. Where nothing is held, a root that is whole in a piece is read where it lies.
 //! Else the bytes of the next root are held: first up to the length of its signature, and then up to its
-//! end. A root that is whole is returned, and bytes that were held fall. If its signature is too long, its bytes
+//! end. A root that is whole is returned, and the held bytes are dropped. If its signature is too long, its bytes
 //! are only counted, up to its end. Bytes that no list has there, and bytes after the last root, end the feed.
 //! A piece that is too short for any of this is only held: that is quick, since it makes no room for a root.
 ghost use Rattle.std.specs.Prelude.{◌≡◌, ◌⊎◌, ◌↔◌, ◌+◌, ◌<◌, ◌≤◌, ◌++◌, [], length, IsTrue};
@@ -42,12 +42,12 @@ enum Stage {
     Roots(usize),
     /// So many roots, and of the first, whose signature is too long, so many bytes.
     Overlong(usize, usize),
-    /// Nothing more: bytes came that no list has there.
+    /// Nothing more: bytes came that no list has there, or a root was refused.
     Failed,
 }
 
 /// A list of signed roots whose bytes come in pieces, cut anywhere. It holds the bytes of the next root,
-/// at most 404, and is not on the heap.
+/// at most 404, and takes no memory from the heap.
 #[derive(Debug, Drop)]
 pub struct RootFeed {
     stage: Stage,
@@ -151,7 +151,7 @@ fn add_part(stage: Stage, held: &mut SignedRootText, piece: &[u8]) -> bool
     if missing <= piece.len() {
         return false;
     }
-    // One byte is stored sooner than a slice is copied.
+    // Storing one byte is faster than copying a slice.
     match piece {
         [byte] => held.push(*byte),
         _ => held.push_slice(piece),
@@ -159,8 +159,8 @@ fn add_part(stage: Stage, held: &mut SignedRootText, piece: &[u8]) -> bool
     true
 }
 
-/// How many bytes there are at least once the number of roots, or the first root, is whole. Where no root
-/// is to come, 0.
+/// How many bytes there are at least once the number of roots, or the first root, is whole; 0 where no bytes of
+/// it are held.
 fn least_len(stage: Stage, held: &[u8]) -> usize
     requires { MayBeHeld (held_of stage held.now) }
     ensures { result ≡ least_len (held_of stage held.now) }
@@ -243,7 +243,7 @@ fn first_of<'a>(
     ensures front { IsFront left (held.old ++ piece.entry.now) result (held_of stage.new held.new) }
     ensures form { HasSpelledRoot result }
 {
-    // A piece of `FIXED_LEN` bytes has no whole root, since a signature has at least one.
+    // A piece of `FIXED_LEN` bytes has no whole root, since a signature has at least one byte.
     if held.bytes().is_empty() && FIXED_LEN < piece.len() {
         if let Ok(root) = SignedRoot::read_from(&mut Cursor::new(piece)) {
             let rest = piece.split_at(root.written_len()).1;
@@ -272,6 +272,7 @@ fn first_held<'a>(
         return Next::Wait;
     };
     if MAX_SMALL_LEN < signature_len {
+        *held = SignedRootText::new();
         return pass(stage, left, signature_len, rest);
     }
     let len = FIXED_LEN + signature_len;

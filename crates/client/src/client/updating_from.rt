@@ -19,7 +19,7 @@ impl<H: NodeHash, V: VufCheck, S: Verifier> Client<H, V, S> {
     /// # Errors
     ///
     /// `Root` with `Malformed` if the feed failed before, else `Memory` if there is no memory for all roots
-    /// that are still to come: neither the client nor the feed changes. Else the refusal of the first root
+    /// that are still to come (64 until their number is known): neither the client nor the feed changes. Else the refusal of the first root
     /// that `update` would refuse, or `Root` with `Malformed` if the bytes after the roots before are none
     /// of a list: the client keeps these roots, and the feed has failed.
     #[inline(always)]
@@ -41,8 +41,8 @@ impl<H: NodeHash, V: VufCheck, S: Verifier> Client<H, V, S> {
         self.update_whole(hash, verifier, feed, piece)
     }
 
-    /// `update_from` of a piece that `take_part` left. It is a function of its own, since a function clears the
-    /// room for all its refusals when it is called.
+    /// `update_from` of a piece that `take_part` left. A function clears the room for all its refusals when it is
+    /// called; inlined, this one does so only where it is reached.
     #[inline(always)]
     fn update_whole(
         &mut self,

@@ -3,7 +3,7 @@ ghost use Rattle.std.specs.Prelude.{◌≡◌, ◌↔◌, ◌+◌, ◌≤◌, Is
 
 use crate::SignedRoot;
 
-/// Whether there is memory for so many roots more. What is missing is reserved.
+/// Reserves room for this many more roots. Returns whether there is that room.
 pub(super) fn make_room(roots: &mut Vec<SignedRoot>, count: usize) -> bool
     ensures room { IsTrue result ↔ (vec_len roots.new + count ≤ vec_capacity roots.new) }
     ensures items { roots.new.items ≡ roots.old.items }
@@ -12,7 +12,7 @@ pub(super) fn make_room(roots: &mut Vec<SignedRoot>, count: usize) -> bool
     roots.reserve(count).is_ok()
 }
 
-/// Whether there is memory for so many roots more. Nothing is reserved.
+/// Whether there is room for this many more roots.
 #[inline(always)]
 pub(super) fn has_room(roots: &Vec<SignedRoot>, count: usize) -> bool
     ensures { IsTrue result ↔ (vec_len roots.now + count ≤ vec_capacity roots.now) }

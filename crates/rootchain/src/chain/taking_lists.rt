@@ -1,5 +1,5 @@
 //! A list of roots is taken whole or not at all. Memory for all of them is reserved first; then each is
-//! placed, and appended if it is the next one. If one is refused, those that were appended fall again.
+//! placed, and appended if it is the next one. If one is refused, those that were appended are taken off again.
 ghost use Rattle.std.specs.Prelude.{◌≡◌, ◌+◌, ◌≤◌, List, length, IfErr, OnErr, OnOk};
 ghost use Rattle.std.specs.List.{AllByRecursion};
 ghost use Rattle.rootchain.specs.declared.signed_root.SignedRoot.{SignedRoot};

@@ -52,8 +52,8 @@ impl<H: NodeHash, S: Verifier> Chain<H, S> {
     ///
     /// # Errors
     ///
-    /// `Malformed` if the feed failed before, else `Memory` if there is no memory for all roots that are
-    /// still to come: neither the chain nor the feed changes. Else the refusal of the first root that
+    /// `Malformed` if the feed failed before, else `Memory` if there is no memory for all roots that are still to
+    /// come (64 until their number is known): neither the chain nor the feed changes. Else the refusal of the first root that
     /// `take_list` would refuse, or `Malformed` if the bytes after the roots before are none of a list: the
     /// chain keeps these roots, and the feed has failed.
     #[inline(never)]
@@ -72,7 +72,7 @@ impl<H: NodeHash, S: Verifier> Chain<H, S> {
         ensures chain { IsChain H.digest_of S.verified self.old }
         ensures counted { H.digests hash.new ≤ H.digests hash.old + length (told_from feed.old piece.now).0 }
     {
-        // The field is lent here, so that what holds of each chain is known at the first return too.
+        // The checker learns here that this is a chain.
         let roots = &mut self.roots;
         if feed.has_failed() {
             return Err(PieceRefusal::Malformed);
