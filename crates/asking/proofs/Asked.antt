@@ -86,13 +86,7 @@ module _ (hash : List ℕ → List ℕ) (accepted verified : List ℕ → List �
   asks_all exchanged (Ok done) first ready heard last said caught told_to said' stream sent later end asked frame head low epoch told is at exchange speaks catches hears tells hands notes marks goes =
       let above = subst (λ (m : Vec Mark Global). GoesOnAbove hash accepted verified exchanged m.items low (scene heard told_to later) (scene last said' end)) marks goes in
       record {
-        head = head;
-        is = is;
-        frame = frame;
-        stream = sent;
-        exchange = exchange;
-        epoch = epoch;
-        speaks = speaks;
+        reply = record { head = head; is = is; frame = frame; stream = sent; exchange = exchange; epoch = epoch; speaks = speaks };
         ready = scene ready caught later;
         catches = catches;
         heard = scene heard told_to later;

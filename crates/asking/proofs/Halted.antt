@@ -56,7 +56,7 @@ module _ {H V S T : Type 0} (hash : List ℕ → List ℕ) (accepted verified : 
         → ((noted' ≡ first.changes.items) × CatchesSome hash accepted verified exchanged epoch (scene first said sent) after)
         ⊎ ((ready : Scene T) × CatchesUp hash accepted verified exchanged epoch (scene first said sent) ready × HearsSome hash accepted verified exchanged marks.items head.body.epoch asked frame first.changes.items noted' ready after)
         → AsksSome hash accepted verified exchanged marks.items first.token asked first.changes.items noted' (scene first said stream) after
-    asks-on noted' after is exchange speaks steps = inr (record { head = head; is = is; frame = frame; stream = sent; exchange = exchange; epoch = epoch; speaks = speaks; steps = steps })
+    asks-on noted' after is exchange speaks steps = inr (record { reply = record { head = head; is = is; frame = frame; stream = sent; exchange = exchange; epoch = epoch; speaks = speaks }; steps = steps })
 
     -- roots were taken
     pub halts_catching : (fault : AskFault) (last : Asker H V S) (said' : Said) → IsHead first.client.chain head → exchanged stream (with_token first.token asked) frame sent → SpeaksOf asked frame epoch

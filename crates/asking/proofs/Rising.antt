@@ -5,7 +5,7 @@ use Rattle.rootchain.specs.declared.signed_promise.SignedPromise.{SignedPromise}
 use Rattle.rootchain.specs.declared.signed_root.SignedRoot.{SignedRoot}
 use Rattle.wire.specs.Frames.{Frame}
 use Rattle.wire.specs.Requests.{RequestContent}
-use Rattle.asking.specs.Asking.{AsksDirectory, AsksOn, AsksSome, CatchesSome, CatchesUp, GoesOnAbove, HearsSome, StopsAsking}
+use Rattle.asking.specs.Asking.{replied, AsksDirectory, AsksOn, AsksSome, CatchesSome, CatchesUp, GoesOnAbove, HearsSome, StopsAsking}
 use Rattle.asking.specs.Following.{Follows, StopsAfter, TakesList, TakesLists, TakesSome}
 use Rattle.asking.specs.Joining.{BeginsAt, BeginsSome, BeginsWatch}
 use Rattle.asking.specs.Reports.{Report, report_of, told_after, worse}
@@ -174,25 +174,25 @@ module _ (hash : List ℕ → List ℕ) (accepted verified : List ℕ → List �
 
   module _ (marks : List Mark) (token : List ℕ) (asked : RequestContent) (noted noted' : List SignedPromise) (before after : Scene T) where
     pub asks_rises : AsksDirectory hash accepted verified exchanged marks token asked noted noted' before after → Rises before after
-    asks_rises asks = then-rises before asks.ready after (catches-rises asks.epoch (record before { stream = asks.stream }) asks.ready asks.catches)
-        (then-rises asks.ready asks.heard after (more-told asks.ready asks.heard asks.hears.told asks.hears.tells) (above-rises marks asks.head.body.epoch asks.heard after asks.goes))
+    asks_rises asks = then-rises before asks.ready after (catches-rises asks.reply.epoch (replied asks.reply) asks.ready asks.catches)
+        (then-rises asks.ready asks.heard after (more-told asks.ready asks.heard asks.hears.told asks.hears.tells) (above-rises marks asks.reply.head.body.epoch asks.heard after asks.goes))
 
     on-rises : AsksOn hash accepted verified exchanged marks token asked noted noted' before after → Rises before after
     on-rises asks = by asks.steps
       where
-        by : ((noted' ≡ noted) × CatchesSome hash accepted verified exchanged asks.epoch (record before { stream = asks.stream }) after)
-            ⊎ ((ready : Scene T) × CatchesUp hash accepted verified exchanged asks.epoch (record before { stream = asks.stream }) ready × HearsSome hash accepted verified exchanged marks asks.head.body.epoch asked asks.frame noted noted' ready after)
+        by : ((noted' ≡ noted) × CatchesSome hash accepted verified exchanged asks.reply.epoch (replied asks.reply) after)
+            ⊎ ((ready : Scene T) × CatchesUp hash accepted verified exchanged asks.reply.epoch (replied asks.reply) ready × HearsSome hash accepted verified exchanged marks asks.reply.head.body.epoch asked asks.reply.frame noted noted' ready after)
             → Rises before after
-        by (inl (none, (head, is, high, some))) = some-rise (record before { stream = asks.stream }) after some
-        by (inr (ready, catches, hears)) = then-rises before ready after (catches-rises asks.epoch (record before { stream = asks.stream }) ready catches)
-            (hears-some-rises marks asks.head.body.epoch asked asks.frame noted noted' ready after hears)
+        by (inl (none, (head, is, high, some))) = some-rise (replied asks.reply) after some
+        by (inr (ready, catches, hears)) = then-rises before ready after (catches-rises asks.reply.epoch (replied asks.reply) ready catches)
+            (hears-some-rises marks asks.reply.head.body.epoch asked asks.reply.frame noted noted' ready after hears)
 
     pub asks_some_rises : AsksSome hash accepted verified exchanged marks token asked noted noted' before after → Rises before after
     asks_some_rises (inl (none, same)) = same-scene before after same
     asks_some_rises (inr asks) = on-rises asks
 
   pub stops_asking_rises : (token : List ℕ) (asked : RequestContent) (before after : Scene T) → StopsAsking hash accepted verified exchanged token asked before after → Rises before after
-  stops_asking_rises token asked before after asks = let (head, is, high, (count, stops)) = asks.stops in stops-rises count (record before { stream = asks.stream }) after stops
+  stops_asking_rises token asked before after asks = let (head, is, high, (count, stops)) = asks.stops in stops-rises count (replied asks.reply) after stops
 
   -- ---- however it ends
 

@@ -1,5 +1,5 @@
 -- The bytes of one frame.
-use Rattle.std.proofs.Common.{◌≡◌, ◌∙◌, ℕ, suc, ◌≤◌, List, [], ◌∷◌, ◌++◌, length, Option, Result, Ok, Err, ap, append-nil, arith, subst, sym}
+use Rattle.std.proofs.Common.{◌≡◌, ◌∙◌, ℕ, suc, List, [], ◌∷◌, ◌++◌, length, Option, Result, Ok, Err, ap, append-nil, arith, subst, sym}
 use Rattle.std.specs.Prelude.{IfOk}
 use Rattle.std.specs.Int.{w32, from_be_bytes}
 use Rattle.std.specs.Io.KnownBytes.{Appends, Consumes}
@@ -7,23 +7,22 @@ use Rattle.std.proofs.lemmas.Nat.{be_bytes_4}
 use Rattle.encoding.specs.Bytes.{IsBytes}
 use Rattle.encoding.specs.Endian.{big_bytes}
 use Rattle.encoding.specs.Reading.{Reading}
-use Rattle.wire.specs.Frames.{Frame, frame_bytes, frame_size, read_frame}
+use Rattle.wire.specs.Frames.{Frame, frame_bytes, frame_size, read_frame, IsFrameSize}
 use Rattle.wire.specs.Requests.{RequestContent, request_frame}
-use Rattle.wire.specs.declared.frame.TheConstants.{MAX_FRAME_LEN}
 use Rattle.wire.proofs.Frames.{frame_field}
 use Rattle.asking.specs.Exchanges.{ExchangesFrames, HoldsFrame, IsOneFrame}
 
 -- as many bytes behind a length as it says are one frame
-pub one_frame : (head rest : List ℕ) (n : ℕ) → length head ≡ 4 → IsBytes head → IsBytes rest → n ≡ from_be_bytes w32 head → 1 ≤ n → n ≤ MAX_FRAME_LEN → length rest ≡ n
+pub one_frame : (head rest : List ℕ) (n : ℕ) → length head ≡ 4 → IsBytes head → IsBytes rest → n ≡ from_be_bytes w32 head → IsFrameSize n → length rest ≡ n
     → (frame : Frame) × IsOneFrame (head ++ rest) frame
-one_frame head [] n four small low is some few long = absurd (omega (arith, some, long))
-one_frame head (kind ∷ body) n four small low is some few long =
+one_frame head [] n four small low is sized long = absurd (omega (arith, sized.0, long))
+one_frame head (kind ∷ body) n four small low is sized long =
     let frame : Frame = record { kind = kind; body = body } in
     let size : frame_size frame ≡ n = omega (arith, long) in
     let front : big_bytes 4 n ≡ head = be_bytes_4 head n four small is in
     let spelled : frame_bytes frame ++ [] ≡ head ++ (kind ∷ body) =
     append-nil (frame_bytes frame) ∙ ap (λ (k : ℕ). big_bytes 4 k ++ (kind ∷ body)) size ∙ ap (λ (xs : List ℕ). xs ++ (kind ∷ body)) front in
-    (frame, subst (λ (bytes : List ℕ). read_frame bytes ≡ Ok (frame, [])) spelled (frame_field.again frame [] (omega (arith, size, few), low 0, λ k. low (suc k))))
+    (frame, subst (λ (bytes : List ℕ). read_frame bytes ≡ Ok (frame, [])) spelled (frame_field.again frame [] (omega (arith, size, sized.1), low 0, λ k. low (suc k))))
 
 frame-or : Frame → Reading Frame → Frame
 frame-or other (Ok (frame, left)) = frame

@@ -37,6 +37,21 @@ SpeaksOf asked frame epoch =
     × ((IsAnswerTo asked responded × (epoch ≡ response_epoch responded)) ⊎ ((¬ IsAnswerTo asked responded) × (epoch ≡ 0))))
     ⊎ (((why : ReadRefusal) × ReadsResponse frame.kind frame.body (Err why)) × (epoch ≡ 0))
 
+-- The line is asked, with this token of the operator, and a frame comes back, which speaks of an epoch. The
+-- chain has a head before.
+pub record GetsReply {T : Type 0} (exchanged : T → RequestContent → Frame → T → Type 0) (token : List ℕ) (asked : RequestContent) (before : Scene T) : Type 0 where
+  pub head : SignedRoot
+  pub is : IsHead before.client.chain head
+  pub frame : Frame
+  pub stream : T
+  pub exchange : exchanged before.stream (with_token token asked) frame stream
+  pub epoch : ℕ
+  pub speaks : SpeaksOf asked frame epoch
+
+-- the scene once the frame has come
+abbrev pub replied : {T : Type 0} {exchanged : T → RequestContent → Frame → T → Type 0} {token : List ℕ} {asked : RequestContent} {before : Scene T} → GetsReply exchanged token asked before → Scene T
+replied {T} {exchanged} {token} {asked} {before} reply = record before { stream = reply.stream }
+
 -- the last of these promises is noted behind the others
 abbrev pub NotesLast : List SignedPromise → List SignedPromise → List SignedPromise → Type 0
 NotesLast promises noted noted' = (signed : SignedPromise) × (slice_get promises (length promises - 1) ≡ Some signed) × (noted' ≡ noted ++ signed ∷ [])
@@ -81,36 +96,25 @@ module _ (hash : List ℕ → List ℕ) (accepted verified : List ℕ → List �
     GoesOnAbove marks epoch before after = (head : SignedRoot) × IsHead before.client.chain head
         × (((head.body.epoch ≤ epoch) × (after ≡ before)) ⊎ ((epoch < head.body.epoch) × GoesOn hash accepted exchanged marks before after))
 
-    -- The line is asked, with this token of the operator, and a frame comes back. Then, in this order: the
-    -- chain gets as far as the reply, what the client makes of it is told and noted, and of new epochs what
-    -- monitors and promises say.
+    -- The line gets a reply. Then, in this order: the chain gets as far as the reply, what the client makes of it
+    -- is told and noted, and of new epochs what monitors and promises say.
     pub record AsksDirectory (marks : List Mark) (token : List ℕ) (asked : RequestContent) (noted noted' : List SignedPromise) (before after : Scene T) : Type 0 where
-      pub head : SignedRoot
-      pub is : IsHead before.client.chain head
-      pub frame : Frame
-      pub stream : T
-      pub exchange : exchanged before.stream (with_token token asked) frame stream
-      pub epoch : ℕ
-      pub speaks : SpeaksOf asked frame epoch
+      pub reply : GetsReply exchanged token asked before
       pub ready : Scene T
-      pub catches : CatchesUp epoch (record before { stream = stream }) ready
+      pub catches : CatchesUp reply.epoch (replied reply) ready
       pub heard : Scene T
-      pub hears : HearsOne asked frame ready heard
+      pub hears : HearsOne asked reply.frame ready heard
       pub notes : Notes asked ready.client.promises heard.client.promises noted noted'
-      pub goes : GoesOnAbove marks head.body.epoch heard after
+      pub goes : GoesOnAbove marks reply.head.body.epoch heard after
 
     -- the chain has no root of this epoch or a later one, and a frame stops the taking of roots
     abbrev pub StopsBelow : ℕ → Scene T → Scene T → Type 0
     StopsBelow epoch before after = (head : SignedRoot) × IsHead before.client.chain head × (head.body.epoch < epoch) × ((count : ℕ) × StopsAfter hash verified exchanged count before after)
 
-    -- the line is asked, and the chain does not get as far as the reply
+    -- the line gets a reply, and the chain does not get as far as it
     pub record StopsAsking (token : List ℕ) (asked : RequestContent) (before after : Scene T) : Type 0 where
-      pub frame : Frame
-      pub stream : T
-      pub exchange : exchanged before.stream (with_token token asked) frame stream
-      pub epoch : ℕ
-      pub speaks : SpeaksOf asked frame epoch
-      pub stops : StopsBelow epoch (record before { stream = stream }) after
+      pub reply : GetsReply exchanged token asked before
+      pub stops : StopsBelow reply.epoch (replied reply) after
 
     -- the chain has no root of this epoch or a later one, and some lists of roots are taken
     abbrev pub CatchesSome : ℕ → Scene T → Scene T → Type 0
@@ -130,17 +134,11 @@ module _ (hash : List ℕ → List ℕ) (accepted verified : List ℕ → List �
     HearsSome marks epoch asked frame noted noted' before after = ((noted' ≡ noted) × (after ≡ before)) ⊎ (HearsOnly asked frame noted noted' before after
         ⊎ ((heard : Scene T) × HearsOne asked frame before heard × Notes asked before.client.promises heard.client.promises noted noted' × GoesSomeAbove marks epoch heard after))
 
-    -- The line is asked, and a frame comes back. Then the steps of Asks, up to some point.
+    -- The line gets a reply. Then the steps of AsksDirectory, up to some point.
     pub record AsksOn (marks : List Mark) (token : List ℕ) (asked : RequestContent) (noted noted' : List SignedPromise) (before after : Scene T) : Type 0 where
-      pub head : SignedRoot
-      pub is : IsHead before.client.chain head
-      pub frame : Frame
-      pub stream : T
-      pub exchange : exchanged before.stream (with_token token asked) frame stream
-      pub epoch : ℕ
-      pub speaks : SpeaksOf asked frame epoch
-      pub steps : ((noted' ≡ noted) × CatchesSome epoch (record before { stream = stream }) after)
-          ⊎ ((ready : Scene T) × CatchesUp epoch (record before { stream = stream }) ready × HearsSome marks head.body.epoch asked frame noted noted' ready after)
+      pub reply : GetsReply exchanged token asked before
+      pub steps : ((noted' ≡ noted) × CatchesSome reply.epoch (replied reply) after)
+          ⊎ ((ready : Scene T) × CatchesUp reply.epoch (replied reply) ready × HearsSome marks reply.head.body.epoch asked reply.frame noted noted' ready after)
 
     -- no frame comes back, or the steps of a line are at some point
     abbrev pub AsksSome : List Mark → List ℕ → RequestContent → List SignedPromise → List SignedPromise → Scene T → Scene T → Type 0

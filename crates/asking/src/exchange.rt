@@ -14,7 +14,7 @@ use crate::AskFault;
 use std::alloc::{AllocError, Global};
 use std::io::{Read, Write};
 use textio::write_text;
-use wire::{FrameView, Front, LENGTH_SIZE, MAX_FRAME_LEN, Request, front_of};
+use wire::{FrameView, Front, LENGTH_SIZE, Request, front_of, is_frame_size};
 
 /// The frame that begins the bytes that came.
 pub(crate) fn frame_in(bytes: &[u8]) -> Result<FrameView<'_>, AskFault>
@@ -65,7 +65,7 @@ pub(crate) fn read_reply<R: Read>(alloc: Global, reader: &mut R) -> Result<Vec<u
 {
     let length = read_length(reader)?;
     let size = u32::from_be_bytes(length) as usize;
-    if size < 1 || MAX_FRAME_LEN < size {
+    if !is_frame_size(size) {
         return Err(AskFault::NoReply);
     }
     let rest = read_rest(alloc, reader, size)?;

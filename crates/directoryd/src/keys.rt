@@ -2,7 +2,6 @@
 // space and 64 hexadecimal digits; of a name that stands there twice, the first counts. An option on the command
 // line wins over the file, unless it is empty. Contracts do not know which bytes a file has.
 ghost use Rattle.std.specs.Prelude.{◌≡◌, ◌⊎◌, Decides, IfErr, IfOk, IsSome, MatchOption, MatchResult, false, option_map, string_bytes, true};
-ghost use Rattle.textio.specs.Faults.{IsDeviceFault};
 ghost use Rattle.asking.specs.AskOptions.{ask_values};
 ghost use Rattle.server.specs.DirectoryOptions.{directory_values};
 ghost use Rattle.directoryd.specs.KeyFiles.{HasKeyLines, IsKeysFault, IsKeysFile, IsKeysText, ask_with, directory_with, gives, is_key_line, key_in, name_in, option_or, text_or, value_in};

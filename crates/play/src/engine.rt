@@ -41,7 +41,7 @@ mod asking;
 mod following;
 mod handing;
 mod hearing;
-mod reading;
+mod promise_line;
 mod wanting;
 mod watching;
 

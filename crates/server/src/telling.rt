@@ -1,8 +1,8 @@
-ghost use Rattle.std.specs.Prelude.{◌≡◌, ◌≤◌, OnOk, IfErr, length};
+ghost use Rattle.std.specs.Prelude.{◌≡◌, OnOk, IfErr};
 ghost use Rattle.std.specs.Io.KnownBytes.{Appends};
 ghost use Rattle.textio.specs.Output.{WritesBeginning};
 ghost use Rattle.textio.specs.declared.program_fault.ProgramFault.TheVariants.{CannotWrite};
-ghost use Rattle.server.specs.Reopening.{cut_words, journal_line};
+ghost use Rattle.server.specs.Reopening.{journal_line};
 
 use encoding::FixedText;
 use itoa::Buffer;

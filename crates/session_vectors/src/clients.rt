@@ -48,7 +48,12 @@ where
         b"feed" => feeds::begin(case, &mut clients.feed),
         b"done" => feeds::done(case, &clients.feed),
         b"from" => match &mut clients.client {
-            Some(client) => feeds::update(case, by, &mut clients.feed, client),
+            Some(client) => {
+                let feed = &mut clients.feed;
+                feeds::update(case, |piece| {
+                    client.update_from(&mut by.hash, &by.verifier, feed, piece)
+                });
+            }
             None => case.spoil(),
         },
         b"reconcile" => {

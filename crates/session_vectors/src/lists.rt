@@ -84,7 +84,9 @@ where
     let mut feed = RootFeed::new();
     let taken = match way {
         Way::Whole => client.update(&mut by.hash, &by.verifier, list),
-        Way::Pieces(size) => in_pieces(by, &mut feed, &mut client, size, list),
+        Way::Pieces(size) => in_pieces(size, list, |piece| {
+            client.update_from(&mut by.hash, &by.verifier, &mut feed, piece)
+        }),
         Way::Two(place) => in_two(by, &mut feed, &mut client, place, list),
     };
     say_number(case, taken);

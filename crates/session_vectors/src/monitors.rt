@@ -30,7 +30,13 @@ pub(crate) fn answer(
             reconcile_both(case, &mut keyed(), client, clients.other.as_ref());
         }
         b"from" => match kept {
-            Some(monitor) => feeds::update(case, &mut keyed(), &mut clients.feed, monitor),
+            Some(monitor) => {
+                let mut by = keyed();
+                let feed = &mut clients.feed;
+                feeds::update(case, |piece| {
+                    monitor.update_from(&mut by.hash, &by.verifier, feed, piece)
+                });
+            }
             None => case.spoil(),
         },
         verb => match kept {

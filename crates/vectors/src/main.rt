@@ -40,7 +40,7 @@
 //! | | `make` | `make` |
 //! | `frames` | `Request::read`, `fits`, `write` | `request` |
 //! | | `Response::read`, `Answer::write` | `response`, `answer` |
-//! | | `Feed::new`, `feed`; `ready` and `next`, which call `front_of` | `new`; `feed` |
+//! | | `Feed::new`, `feed`; `ready` and `next`, which call `front_of`, `is_frame_size` | `new`; `feed` |
 //! | `journal` | `Journal::new`; `keep`, which calls `write_record` | `start`, `register`, `change`, `turn`, `rotate` |
 //! | | `records` | `records` |
 //! | `text` | `hex_digits`, `hex32`, `option_hex32`, `hex32_or_zeros` | `digits`, `hex32`, `option-hex`, `hex32-or-zeros` |

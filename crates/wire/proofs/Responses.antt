@@ -47,9 +47,8 @@ is_byte = tables.is_byte response_row response_kinds response_parts table refl
 abbrev pub IsNone : ℕ → List ℕ → Type 0
 IsNone kind body = IsResponseKind kind × ((responded : ResponseContent) → ¬ Responds kind body responded)
 
-pub no_response : (is : ResponseKind) (kind : ℕ) (body : List ℕ) → kind ≡ (response_row is).byte
-    → ((content : Content (response_row is).form) → ¬ Spells (spelling (response_row is).form) (Allowed (response_row is).form) body content) → IsNone kind body
-no_response = tables.no_message response_row response_kinds response_parts table
+pub no_response : (is : ResponseKind) (body : List ℕ) → ((content : Content (response_row is).form) → ¬ Spells (spelling (response_row is).form) (Allowed (response_row is).form) body content) → IsNone (response_row is).byte body
+no_response is body = tables.no_message response_row response_kinds response_parts table is (response_row is).byte body refl
 
 -- a proof that is refused is none, also where a proof stands in front
 not_spelled : (body : List ℕ) (refusal : ReplyRefusal) → ReadsReply body (Err refusal) → (x : Reply) → ¬ Spells reply_bytes IsReply body x
@@ -63,8 +62,8 @@ not_spelled body SameIndex refused x spelled = absurd refused
 not_spelled body OtherPrefix refused x spelled = absurd refused
 not_spelled body PathMismatch refused x spelled = absurd refused
 
-pub no_proof : (kind : ℕ) (body : List ℕ) (refusal : ReplyRefusal) → kind ≡ PROOF → ReadsReply body (Err refusal) → IsNone kind body
-no_proof kind body refusal is refused = no_response ProofKind kind body is (not_spelled body refusal refused)
+pub no_proof : (body : List ℕ) (refusal : ReplyRefusal) → ReadsReply body (Err refusal) → IsNone PROOF body
+no_proof body refusal refused = no_response ProofKind body (not_spelled body refusal refused)
 
-pub no_code : (kind : ℕ) (body : List ℕ) → kind ≡ REFUSED → ((code : ℕ) → body ≢ code ∷ []) → IsNone kind body
-no_code kind body is none = no_response RefusedKind kind body is (λ code spelled. none code spelled.0)
+pub no_code : (body : List ℕ) → ((code : ℕ) → body ≢ code ∷ []) → IsNone REFUSED body
+no_code body none = no_response RefusedKind body (λ code spelled. none code spelled.0)

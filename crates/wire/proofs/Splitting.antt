@@ -8,8 +8,8 @@ use Rattle.encoding.specs.Reading.{is_within, read_number}
 use Rattle.encoding.proofs.ByteLists.{IsBytes-append, IsBytes-back}
 use Rattle.encoding.proofs.Fields.{numbers_field, one_spelling, refused_read}
 use Rattle.rootchain.specs.TakingPieces.{joined}
-use Rattle.wire.specs.Frames.{Frame, frame_bytes, frame_of, read_frame, read_framed, IsFrame}
-use Rattle.wire.specs.Streams.{Remainder, Message, Rest, Failed, Whole, BadFrame, whole_messages, BeginsFrame, HasBadLength, IsFrameSize, IsSpent, SpellsMessages, Splits, TakesMessage, TellsAll, TellsMessages}
+use Rattle.wire.specs.Frames.{Frame, frame_bytes, frame_of, read_frame, read_framed, IsFrame, IsFrameSize}
+use Rattle.wire.specs.Streams.{Remainder, Message, Rest, Failed, Whole, BadFrame, whole_messages, BeginsFrame, HasBadLength, IsSpent, SpellsMessages, Splits, TakesMessage, TellsAll, TellsMessages}
 use Rattle.wire.specs.Laws.{Hears}
 use Rattle.wire.proofs.Frames.{frame_field, size_limits, size_within}
 use Rattle.wire.proofs.Faults.{frame_faults, IsBadSize}

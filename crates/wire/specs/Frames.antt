@@ -13,6 +13,10 @@ pub record Frame : Type 0 where
 abbrev pub frame_size : Frame → ℕ
 frame_size frame = 1 + length frame.body
 
+-- a kind and a body may have so many bytes
+abbrev pub IsFrameSize : ℕ → Type 0
+IsFrameSize size = (1 ≤ size) × (size ≤ MAX_FRAME_LEN)
+
 -- what stands before a body of so many bytes
 abbrev pub frame_head : ℕ → ℕ → List ℕ
 frame_head kind count = big_bytes 4 (1 + count) ++ (kind ∷ [])

@@ -1,6 +1,6 @@
 //! A stream in pieces. The buffer keeps the bytes behind the last frame that was taken: taking a frame
 //! moves only the place where the next one begins, and the bytes before it fall when the next piece comes.
-ghost use Rattle.std.specs.Prelude.{◌≡◌, ◌≢◌, ◌↔◌, ◌++◌, ◌<◌, ◌≤◌, [], ℕ, List, length, drop, take, IsTrue, IsOk, OnErr, OnOk, IsErrOf};
+ghost use Rattle.std.specs.Prelude.{◌≡◌, ◌≢◌, ◌↔◌, ◌≤◌, [], ℕ, List, length, drop, take, IsTrue, IsOk, OnErr, OnOk, IsErrOf};
 ghost use Rattle.encoding.specs.Bytes.{IsBytes};
 ghost use Rattle.wire.specs.Streams.{Remainder, Rest, Failed, missing_of, part_of, with_more, EndsOne, Waits};
 

@@ -1,5 +1,6 @@
+ghost use Rattle.std.specs.Prelude.{◌↔◌, IsTrue};
 ghost use Rattle.encoding.specs.Reading.{Gives};
-ghost use Rattle.wire.specs.Frames.{read_frame};
+ghost use Rattle.wire.specs.Frames.{read_frame, IsFrameSize};
 ghost use Rattle.wire.specs.FrameViews.{frame_seen, BeginsWith};
 
 use encoding::{Cursor, Fault};
@@ -14,13 +15,21 @@ pub struct FrameView<'a> {
     pub body: &'a [u8],
 }
 
+/// Whether the kind and the body of a frame may have so many bytes.
+#[inline(always)]
+pub fn is_frame_size(size: usize) -> bool
+    ensures { IsTrue result ↔ IsFrameSize size }
+{
+    1 <= size && size <= MAX_FRAME_LEN
+}
+
 /// The frame at the front of the bytes.
 #[tactic(auto, unfolding(crate::specs::Frames::read_frame))]
 fn read_frame<'a>(cursor: &mut Cursor<'a>) -> Result<FrameView<'a>, Fault>
     ensures { Gives frame_seen result cursor.new (read_frame cursor.old) }
 {
     let size = cursor.u32()? as usize;
-    if size < 1 || MAX_FRAME_LEN < size {
+    if !is_frame_size(size) {
         return Err(Fault::OutOfRange);
     }
     Ok(FrameView {

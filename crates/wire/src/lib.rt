@@ -27,7 +27,7 @@ mod writing;
 
 pub use answer::{Answer, MAX_ANSWER_LEN};
 pub use feed::{Feed, LENGTH_SIZE, Next};
-pub use frame::{FrameView, Front, MAX_FRAME_LEN, front_of};
+pub use frame::{FrameView, Front, MAX_FRAME_LEN, front_of, is_frame_size};
 pub use laws::{
     answers_are_read, body_spells_one_request, body_spells_one_response, cutting_does_not_matter,
     frames_are_read, kinds_have_their_bytes, limits_have_their_values, messages_are_computed,

@@ -1,5 +1,7 @@
+// Each kind is read in a function of its own: a function clears the room of all that it may hold.
 ghost use Rattle.std.specs.Prelude.{◌≡◌, ◌≢◌, ℕ, ◌∷◌, [], MatchOption};
 ghost use Rattle.wire.specs.Responses.{ReadsResponse};
+ghost use Rattle.wire.specs.declared.response.TheConstants.{PROMISED, PROOF, ROOTS, ROOT, REFUSED};
 
 use crate::ReadRefusal;
 use proofs::ReplyView;
@@ -43,28 +45,62 @@ impl<'a> Response<'a> {
         ensures { ReadsResponse kind body.entry.now result }
     {
         match kind {
-            PROMISED => match SignedPromise::read(body) {
-                Ok(promise) => Ok(Response::Promise(promise)),
-                Err(_) => Err(ReadRefusal::BadBody),
-            },
-            PROOF => match ReplyView::read(body) {
-                Ok(proof) => Ok(Response::Proof(proof)),
-                Err(_) => Err(ReadRefusal::BadBody),
-            },
-            ROOTS => match RootList::read(body) {
-                Ok(roots) => Ok(Response::Roots(roots)),
-                Err(_) => Err(ReadRefusal::BadBody),
-            },
-            ROOT => match SignedRoot::read(body) {
-                Ok(root) => Ok(Response::Root(root)),
-                Err(_) => Err(ReadRefusal::BadBody),
-            },
-            REFUSED => match only_byte(body) {
-                Some(code) => Ok(Response::Refused(code)),
-                None => Err(ReadRefusal::BadBody),
-            },
+            PROMISED => read_promise(body),
+            PROOF => read_proof(body),
+            ROOTS => read_roots(body),
+            ROOT => read_root(body),
+            REFUSED => read_code(body),
             _ => Err(ReadRefusal::BadKind),
         }
+    }
+}
+
+#[inline(never)]
+fn read_promise<'a>(body: &'a [u8]) -> Result<Response<'a>, ReadRefusal>
+    ensures { ReadsResponse PROMISED body.entry.now result }
+{
+    match SignedPromise::read(body) {
+        Ok(promise) => Ok(Response::Promise(promise)),
+        Err(_) => Err(ReadRefusal::BadBody),
+    }
+}
+
+#[inline(never)]
+fn read_proof<'a>(body: &'a [u8]) -> Result<Response<'a>, ReadRefusal>
+    ensures { ReadsResponse PROOF body.entry.now result }
+{
+    match ReplyView::read(body) {
+        Ok(proof) => Ok(Response::Proof(proof)),
+        Err(_) => Err(ReadRefusal::BadBody),
+    }
+}
+
+#[inline(never)]
+fn read_roots<'a>(body: &'a [u8]) -> Result<Response<'a>, ReadRefusal>
+    ensures { ReadsResponse ROOTS body.entry.now result }
+{
+    match RootList::read(body) {
+        Ok(roots) => Ok(Response::Roots(roots)),
+        Err(_) => Err(ReadRefusal::BadBody),
+    }
+}
+
+#[inline(never)]
+fn read_root<'a>(body: &'a [u8]) -> Result<Response<'a>, ReadRefusal>
+    ensures { ReadsResponse ROOT body.entry.now result }
+{
+    match SignedRoot::read(body) {
+        Ok(root) => Ok(Response::Root(root)),
+        Err(_) => Err(ReadRefusal::BadBody),
+    }
+}
+
+fn read_code<'a>(body: &'a [u8]) -> Result<Response<'a>, ReadRefusal>
+    ensures { ReadsResponse REFUSED body.entry.now result }
+{
+    match only_byte(body) {
+        Some(code) => Ok(Response::Refused(code)),
+        None => Err(ReadRefusal::BadBody),
     }
 }
 

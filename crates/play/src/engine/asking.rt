@@ -24,7 +24,7 @@ ghost use Rattle.play.specs.Scripts.{ask_seen, RequestFits};
 ghost use Rattle.play.specs.Watchers.{Watcher};
 
 use super::handing::hand_all;
-use super::reading::{read_response, tell_promise};
+use super::promise_line::tell_promise;
 use super::wanting::happen;
 use super::{Engine, OWN_SESSION};
 use crate::ask::{Ask, token};
@@ -74,7 +74,7 @@ pub(super) fn response_of<'a>(frame: &FrameView<'a>) -> Result<Response<'a>, All
     requires { (responded : ResponseContent) × IsReadAs (frame_seen frame.now) responded }
     ensures { (responded : ResponseContent) → IsReadAs (frame_seen frame.now) responded → IfOk result (λ response. (response_seen response ≡ responded) × (responded ≢ Refused (book_refusal_number Memory))) }
 {
-    match read_response(frame.kind, frame.body) {
+    match Response::read(frame.kind, frame.body) {
         Ok(Response::Refused(code)) if code == Refusal::Memory.number() => Err(AllocError),
         Ok(response) => Ok(response),
         Err(_) => unreachable!(),

@@ -25,11 +25,15 @@ returns-in_err-catch_up-clause-stops g c =
     λ stopped.
     let here : c.catch_up.result ≡ Err Stopped = search (rules, sym passed ∙ stopped) in
     record {
-      frame = frame_seen c.in_ok-frame.frame;
-      stream = c.request.new.stream;
-      exchange = c.in_ok-reply.ensures.sent (frame_seen c.in_ok-frame.frame) (rw c.deref.ensures.value at c.in_ok-frame.ensures.ok);
-      epoch = c.epoch_of.result;
-      speaks = c.epoch_of.ensures;
+      reply = record {
+        head = c.head-head.ensures.0;
+        is = c.head-head.ensures.1;
+        frame = frame_seen c.in_ok-frame.frame;
+        stream = c.request.new.stream;
+        exchange = c.in_ok-reply.ensures.sent (frame_seen c.in_ok-frame.frame) (rw c.deref.ensures.value at c.in_ok-frame.ensures.ok);
+        epoch = c.epoch_of.result;
+        speaks = c.epoch_of.ensures;
+      };
       stops = c.catch_up.ensures.stops here;
     }
 

@@ -2,7 +2,7 @@ use Rattle.std.proofs.Common.{ap, sym, ◌∙◌}
 use Rattle.encoding.specs.Reading.{read_behind, read_number}
 use Rattle.rootchain.specs.Promises.{promise_head}
 use Rattle.play.proofs.Promised.{epoch_read, same_epoch}
-use Rattle.play.proofs.engine.reading.promise_epoch.Goals as goal
+use Rattle.play.proofs.engine.promise_line.promise_epoch.Goals as goal
 
 pub unreachable-requires : goal.unreachable-requires
 unreachable-requires c =
