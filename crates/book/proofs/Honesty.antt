@@ -202,7 +202,7 @@ module _ (provider : Provider) where
     kept command promised s = subst (IsKept provider accepted verified key after command) (sym s.same) (record {
       asked = s.by;
       form = ((
-        (omega (arith, (is-sealed s.page s.root s.is).form.0.0), (is-sealed s.page s.root s.is).form.1, laws.digest_size (body_bytes s.root.body), laws.digest_size (provider.value s.name), s.named, s.keyed),
+        (omega (arith, (is-sealed s.page s.root s.is).form.0.0), (is-sealed s.page s.root s.is).form.1.0, laws.digest_size (body_bytes s.root.body), laws.digest_size (provider.value s.name), s.named, s.keyed),
         laws.signature_size (promise_bytes (promise provider s.root.body s.name s.binding)),
       ));
       signed = laws.signature_verifies (promise_bytes (promise provider s.root.body s.name s.binding));

@@ -94,7 +94,7 @@ module _ (provider : Provider) where
           root = refl;
           nonce = refl;
           vuf_key = refl;
-          form = ((climb.0, zeros), are.0.epoch, fits, node-size provider.hash laws.digest_size page.nonce (replicate 32 0) 256 (placement provider page.bindings) (λ more. omega arith), size, are.0.nonce, laws.vuf_key_size);
+          form = ((climb.0, zeros), (are.0.epoch, fits, node-size provider.hash laws.digest_size page.nonce (replicate 32 0) 256 (placement provider page.bindings) (λ more. omega arith), size, are.0.nonce, laws.vuf_key_size));
           signature = laws.signature_verifies (body_bytes (body_behind provider epoch before page));
           small = laws.signature_size (body_bytes (body_behind provider epoch before page));
           page = are.0;

@@ -56,7 +56,7 @@ module _ (provider : Provider) where
       where
         here : IsBody (body_behind provider epoch before page)
         here =
-            (formed.0, are.0.in_eight_bytes, fits, node-size provider.hash size page.nonce (replicate 32 0) 256 (placement provider page.bindings) (λ more. omega arith), sized_before, are.0.nonce, key_size)
+            (formed.0, (are.0.in_eight_bytes, fits, node-size provider.hash size page.nonce (replicate 32 0) 256 (placement provider page.bindings) (λ more. omega arith), sized_before, are.0.nonce, key_size))
 
   pub roots_formed : (book : Book) → IsSound (index_of provider) book → AllByRecursion (λ (root : SignedRoot). IsWellFormed root.body) (roots provider book)
   roots_formed book sound = formed 0 (replicate 32 0) (pages book) (λ none. refl) (sound_climb (index_of provider) book sound)

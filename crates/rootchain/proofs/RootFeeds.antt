@@ -356,13 +356,13 @@ from-start = refl
 
 body_size : (body : Body) → IsBody body → length (body_bytes body) ≡ 146
 body_size body is =
-    let last : Is32Bytes body.vuf_key = is.6 in
+    let last : Is32Bytes body.vuf_key = is.1.5 in
     let a = length-append body.nonce body.vuf_key in
     let b = length-append body.previous_hash (body.nonce ++ body.vuf_key) in
     let c = length-append body.root (body.previous_hash ++ (body.nonce ++ body.vuf_key)) in
     let d = length-append (big_bytes 8 body.previous_epoch) (body.root ++ (body.previous_hash ++ (body.nonce ++ body.vuf_key))) in
     let e = length-append (big_bytes 8 body.epoch) (big_bytes 8 body.previous_epoch ++ (body.root ++ (body.previous_hash ++ (body.nonce ++ body.vuf_key)))) in
-    omega (arith, a, b, c, d, e, length-bytes_high_first 8 body.previous_epoch, length-bytes_high_first 8 body.epoch, is.3.0, is.4.0, is.5.0, last.0)
+    omega (arith, a, b, c, d, e, length-bytes_high_first 8 body.previous_epoch, length-bytes_high_first 8 body.epoch, is.1.2.0, is.1.3.0, is.1.4.0, last.0)
 
 root_size : (root : SignedRoot) → IsSignedRoot root → length (signed_root_bytes root) ≡ 148 + length root.signature
 root_size root is =

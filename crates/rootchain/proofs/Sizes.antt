@@ -54,7 +54,7 @@ each_few s P most of_one (x ∷ xs) all =
 pub body_few : (body : Body) → IsBody body → AreFew 146 (body_bytes body)
 body_few body h =
     both_few 2 144 (pair_few 0x52 1 (lit≤ tt) (lit≤ tt)) (both_few 8 136 (number_few 8 body.epoch) (both_few 8 128 (number_few 8 body.previous_epoch)
-    (both_few 32 96 (hash_few body.root h.3) (both_few 32 64 (hash_few body.previous_hash h.4) (both_few 32 32 (hash_few body.nonce h.5) (hash_few body.vuf_key h.6))))))
+    (both_few 32 96 (hash_few body.root h.1.2) (both_few 32 64 (hash_few body.previous_hash h.1.3) (both_few 32 32 (hash_few body.nonce h.1.4) (hash_few body.vuf_key h.1.5))))))
 
 pub root_few : (signed : SignedRoot) → IsSignedRoot signed → AreFew 404 (signed_root_bytes signed)
 root_few signed h = both_few 146 258 (body_few signed.body h.0) (counted_few 1 256 signed.signature h.1)

@@ -27,8 +27,7 @@ IsSized body = (body.epoch < 2 ^ 64) × (body.previous_epoch < 2 ^ 64)
 
 -- what a body may hold
 abbrev pub IsBody : Body → Type 0
-IsBody body = IsWellFormed body × (body.epoch < 2 ^ 64) × (body.previous_epoch < 2 ^ 64)
-    × Is32Bytes body.root × Is32Bytes body.previous_hash × Is32Bytes body.nonce × Is32Bytes body.vuf_key
+IsBody body = IsWellFormed body × IsSized body
 
 -- ---- reading
 

@@ -52,8 +52,8 @@ body_field =
     let epoch = numbers_field 8 in
     behind body_head (IsBytes-two 0x52 1 (lit≤ tt) (lit≤ tt))
     (allowed
-    (λ b h. let p = h.0.0 in (tested_well b h.1, p.0, p.1.0, p.1.1.0, p.1.1.1.0, p.1.1.1.1.0, p.1.1.1.1.1))
-    (λ b h. (((h.1, (h.2, (h.3, (h.4, (h.5, h.6))))), refl), well_tested b h.0))
+    (λ b h. let p = h.0.0 in (tested_well b h.1, (p.0, p.1.0, p.1.1.0, p.1.1.1.0, p.1.1.1.1.0, p.1.1.1.1.1)))
+    (λ b h. (((h.1.0, (h.1.1, (h.1.2, (h.1.3, (h.1.4, h.1.5))))), refl), well_tested b h.0))
     (tested is_well_formed (renamed body_of body_parts (λ _. refl) (both epoch (both epoch (both hash (both hash (both hash hash))))))))
 
 signature_field : IsField (read_counted MIN_LEN MAX_SMALL_LEN) counted_bytes IsSmall
