@@ -47,9 +47,9 @@ within-limits map are = recursion_from_All _ map (λ k d within. ((are.entries k
 module _ (index_of : List ℕ → List ℕ) (book : Book) (sound : IsSound index_of book) where
   pub climbs : turning.IsSound book
   climbs = record {
-    climb = climb-of 0 (pages book) sound.ascend (recursion_from_All (λ (page : Page). 0 < page.epoch) (pages book) (λ k d within. (sound.pages k d within).from_one));
+    climb = climb-of 0 (pages book) sound.ascend (recursion_from_All (λ (page : Page). 0 < page.epoch) (pages book) (λ k d within. (sound.pages k d within).epoch.0));
     pages = recursion_from_All IsPage (pages book) (λ k d within. let page = sound.pages k d within in record {
-      epoch = page.in_eight_bytes;
+      epoch = page.epoch.1;
       nonce = page.nonce;
       ascends = page.bindings.ascend;
       bindings = within-limits _ page.bindings;

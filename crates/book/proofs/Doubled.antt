@@ -12,8 +12,8 @@ use Rattle.proofs.specs.Replies.{End, Other, Reply, IsReply, SpellsReply, reply_
 use Rattle.proofs.specs.declared.reply_refusal.Refusal.{Refusal}
 use Rattle.proofs.specs.declared.reply_refusal.Refusal.TheVariants.{Malformed, Trailing, OtherRoot, BadVuf, SameIndex, OtherPrefix, PathMismatch}
 use Rattle.book.specs.Books.{Binding, Page}
-use Rattle.book.specs.Fresh.{KeepsLaws}
 use Rattle.encoding.specs.Maps.{Map, at}
+use Rattle.book.specs.ProviderLaws.{KeepsLaws}
 use Rattle.book.specs.Shows.{Provider, index_of, placement, reply_end, IsReplyOf}
 use Rattle.book.proofs.Entries.{at_put_other, at_put_same, found-entry, is_name, is_no_name}
 use Rattle.book.proofs.Found.{IsPage}

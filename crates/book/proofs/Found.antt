@@ -17,9 +17,9 @@ use Rattle.proofs.specs.PathEnds.{end_of_path}
 use Rattle.proofs.specs.Replies.{Reply, IsEnd, IsReply, SpellsReply, reply_bytes}
 use Rattle.proofs.proofs.Honest.{honest-accepted}
 use Rattle.book.specs.Books.{Binding, Page}
-use Rattle.book.specs.Fresh.{KeepsLaws}
 use Rattle.book.specs.Honest.{key_at}
 use Rattle.encoding.specs.Maps.{Map, at}
+use Rattle.book.specs.ProviderLaws.{KeepsLaws}
 use Rattle.book.specs.Shows.{Provider, index_of, placement, reply_end, IsReplyOf}
 use Rattle.book.proofs.Entries.{Ascends, found-entry}
 use Rattle.book.proofs.PathEnds.{leaf_there, no_leaf_there, other_sizes}

@@ -26,9 +26,9 @@ use Rattle.book.specs.declared.reply.Reply.TheVariants as reply
 use Rattle.commands.specs.Operations.{Operation, IsCommand, Query, Lookup}
 use Rattle.book.specs.Books.{Binding, Book, Page, pages}
 use Rattle.proofs.specs.BrokenPromises.{IsBrokenPromise}
-use Rattle.book.specs.Fresh.{KeepsLaws}
 use Rattle.book.specs.Honest.{key_at, IsAbout, IsAnswer, IsDouble, IsHonestRun, IsKept, IsSaid, IsSaidAt, ListsInOrder, TellsRoot, UsersDiffer}
 use Rattle.encoding.specs.Maps.{Map, at}
+use Rattle.book.specs.ProviderLaws.{KeepsLaws}
 use Rattle.book.specs.Shows.{Provider, SignedPage, index_of, promise, roots, sealed_behind, sealed_pages, IsRootOf}
 use Rattle.book.specs.Turns.{Run}
 use Rattle.proofs.specs.Watches.{expected}
@@ -202,7 +202,7 @@ module _ (provider : Provider) where
     kept command promised s = subst (IsKept provider accepted verified key after command) (sym s.same) (record {
       asked = s.by;
       form = ((
-        (omega (arith, (is-sealed s.page s.root s.is).form.0.0), (is-sealed s.page s.root s.is).form.1.0, laws.digest_size (body_bytes s.root.body), laws.digest_size (provider.value s.name), s.named, s.keyed),
+        ((omega (arith, (is-sealed s.page s.root s.is).form.0.0), (is-sealed s.page s.root s.is).form.1.0), laws.digest_size (body_bytes s.root.body), laws.digest_size (provider.value s.name), s.named, s.keyed),
         laws.signature_size (promise_bytes (promise provider s.root.body s.name s.binding)),
       ));
       signed = laws.signature_verifies (promise_bytes (promise provider s.root.body s.name s.binding));

@@ -11,7 +11,7 @@ use Rattle.rootchain.specs.Chains.{IsChain, Links, Names, Verifies}
 use Rattle.rootchain.specs.declared.signed_root.SignedRoot.{SignedRoot}
 use Rattle.book.specs.Books.{Page}
 use Rattle.rootchain.specs.Evidence.{IsFork, IsLink, IsSkip}
-use Rattle.book.specs.Fresh.{KeepsLaws}
+use Rattle.book.specs.ProviderLaws.{KeepsLaws}
 use Rattle.book.specs.Shows.{Provider, SignedPage, body_behind, placement, sealed_behind, signed}
 use Rattle.book.proofs.Found.{IsPage}
 use Rattle.book.proofs.Members.{first-or-later, first-there, later-there, neighbours, none-there}

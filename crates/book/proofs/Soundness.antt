@@ -9,9 +9,10 @@ use Rattle.std.proofs.lemmas.List.Elements.{All-from_recursion, All-push, All-we
 use Rattle.rand_core.specs.Stream.{Stream, fill_bytes}
 use Rattle.encoding.specs.Bytes.{bytes_cmp, Is32Bytes}
 use Rattle.encoding.specs.Limits.{IsKeyData, IsName}
+use Rattle.rootchain.specs.Promises.{IsEpoch}
 use Rattle.book.specs.Steps.{next_page, with_page, with_pending}
 use Rattle.book.specs.Books.{Binding, Book, Page, pages}
-use Rattle.book.specs.Fresh.{fresh, IsEpoch}
+use Rattle.book.specs.Fresh.{fresh}
 use Rattle.encoding.specs.Maps.{Map, at, overwritten, put_at}
 use Rattle.book.specs.Sound.{AreBindings, HasNamesOf, HoldsName, IsEntry, IsPage, IsSound}
 use Rattle.book.proofs.Entries.{all_overwritten, all_put, ascends_none, ascends_overwritten, ascends_put, at_put_other, at_put_same, is_name, is_no_name, stays}
@@ -144,7 +145,7 @@ module _ (index_of : List ℕ → List ℕ) where
     pending = no-bindings;
     salt = salted;
     apart = λ one other a b same. absurd (none one a);
-    pages = All-from_recursion IsPage (first ∷ []) (record { from_one = is.0; in_eight_bytes = is.1; nonce = size; bindings = no-bindings }, tt);
+    pages = All-from_recursion IsPage (first ∷ []) (record { epoch = is; nonce = size; bindings = no-bindings }, tt);
   }
     where
       first : Page
@@ -191,7 +192,7 @@ module _ (index_of : List ℕ → List ℕ) where
       last = the-last IsPage book.earlier book.last (recursion_from_All IsPage (pages book) sound.pages)
 
       page : IsPage (next_page book epoch nonce)
-      page = record { from_one = omega (arith, above); in_eight_bytes = fits; nonce = next-sized nonce _ last.nonce sized; bindings = bindings-overwritten book.last.bindings book.pending last.bindings sound.pending }
+      page = record { epoch = (omega (arith, above), fits); nonce = next-sized nonce _ last.nonce sized; bindings = bindings-overwritten book.last.bindings book.pending last.bindings sound.pending }
 
       held : (name : List ℕ) → HoldsName (with_page book (next_page book epoch nonce)) name → HoldsName book name
       held name (inl last) = overwritten-has book.pending book.last.bindings name last

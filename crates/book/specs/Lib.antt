@@ -3,6 +3,7 @@ pub mod Folds
 pub mod Fresh
 pub mod Honest
 pub mod Keeps
+pub mod ProviderLaws
 pub mod Refusals
 pub mod Replays
 pub mod Salted

@@ -29,6 +29,10 @@ pub record Provider : Type 0 where
   pub vuf_key : List ℕ
   pub sign : List ℕ → List ℕ
 
+-- the provider of these functions, under its two public keys
+abbrev pub keyed_provider : (List ℕ → List ℕ) → (List ℕ → List ℕ → List ℕ) → List ℕ → (List ℕ → List ℕ → List ℕ) → List ℕ → Provider
+keyed_provider digest_of value_of vuf_key signature_of key = record { hash = digest_of; value = value_of vuf_key; vuf_key = vuf_key; sign = signature_of key }
+
 -- the end of a path, opened where the page has the name. A leaf of the name's index that is another
 -- name's is told as that very leaf. (In a sound book no page has two names of one index, so that the leaf
 -- of a name that the page has is its own.)

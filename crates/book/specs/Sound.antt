@@ -1,10 +1,11 @@
 -- What is true of each book of a directory.
-use Rattle.std.specs.Prelude.{◌≡◌, ◌⊎◌, ℕ, ◌<◌, ◌^◌, List, length, All, AllPairs, IsSome}
+use Rattle.std.specs.Prelude.{◌≡◌, ◌⊎◌, ℕ, ◌<◌, List, length, All, AllPairs, IsSome}
 use Rattle.std.specs.List.{AllAdjacentBelow}
 use Rattle.std.specs.List.Sorted.{IsStrictlySortedBy}
 use Rattle.std.specs.Map.{keys_of}
 use Rattle.encoding.specs.Bytes.{bytes_cmp, Is32Bytes}
 use Rattle.encoding.specs.Limits.{IsKeyData, IsName}
+use Rattle.rootchain.specs.Promises.{IsEpoch}
 use Rattle.book.specs.Books.{Binding, Book, Page, pages}
 use Rattle.encoding.specs.Maps.{Map, at}
 
@@ -20,8 +21,7 @@ pub record AreBindings (bindings : Map Binding) : Type 0 where
   pub entries : All IsEntry bindings
 
 pub record IsPage (page : Page) : Type 0 where
-  pub from_one : 0 < page.epoch
-  pub in_eight_bytes : page.epoch < 2 ^ 64
+  pub epoch : IsEpoch page.epoch
   pub nonce : Is32Bytes page.nonce
   pub bindings : AreBindings page.bindings
 

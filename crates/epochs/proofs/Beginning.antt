@@ -5,8 +5,8 @@ use Rattle.encoding.specs.Bytes.{Is32Bytes}
 use Rattle.prefixtree.specs.Contents.{Contents}
 use Rattle.prefixtree.specs.Node.{root_of}
 use Rattle.rootchain.specs.Bodies.{body_bytes}
+use Rattle.rootchain.specs.Promises.{IsEpoch}
 use Rattle.rootchain.specs.declared.body.Body.{Body}
-use Rattle.book.specs.Fresh.{IsEpoch}
 use Rattle.book.specs.Shows.{Provider, signed}
 use Rattle.epochs.specs.Parts.{Keeps, Parts}
 use Rattle.epochs.proofs.Keeping.{first_body, first_parts, keeps_fresh}

@@ -27,7 +27,7 @@ ascend-climb epoch (page ∷ pages) up above =
 
 from-one : (pages : List Page) → AllByRecursion IsPage pages → AllByRecursion (λ (page : Page). 0 < page.epoch) pages
 from-one [] are = tt
-from-one (page ∷ pages) are = (are.0.from_one, from-one pages are.1)
+from-one (page ∷ pages) are = (are.0.epoch.0, from-one pages are.1)
 
 pub sound_climb : (index_of : List ℕ → List ℕ) (book : Book) → IsSound index_of book → Climb 0 (pages book)
 sound_climb index_of book sound = ascend-climb 0 (pages book) sound.ascend (from-one (pages book) (recursion_from_All IsPage (pages book) sound.pages))
@@ -52,11 +52,11 @@ module _ (provider : Provider) where
         → AllByRecursion (λ (root : SignedRoot). IsWellFormed root.body) (map Root (sealed_behind provider epoch before pages))
         → AllByRecursion (λ (root : SignedRoot). IsBody root.body) (map Root (sealed_behind provider epoch before pages))
     sized epoch before [] fits sized_before are formed = tt
-    sized epoch before (page ∷ pages) fits sized_before are formed = (here, sized page.epoch (next_hash provider epoch before page) pages are.0.in_eight_bytes (size _) are.1 formed.1)
+    sized epoch before (page ∷ pages) fits sized_before are formed = (here, sized page.epoch (next_hash provider epoch before page) pages are.0.epoch.1 (size _) are.1 formed.1)
       where
         here : IsBody (body_behind provider epoch before page)
         here =
-            (formed.0, (are.0.in_eight_bytes, fits, node-size provider.hash size page.nonce (replicate 32 0) 256 (placement provider page.bindings) (λ more. omega arith), sized_before, are.0.nonce, key_size))
+            (formed.0, (are.0.epoch.1, fits, node-size provider.hash size page.nonce (replicate 32 0) 256 (placement provider page.bindings) (λ more. omega arith), sized_before, are.0.nonce, key_size))
 
   pub roots_formed : (book : Book) → IsSound (index_of provider) book → AllByRecursion (λ (root : SignedRoot). IsWellFormed root.body) (roots provider book)
   roots_formed book sound = formed 0 (replicate 32 0) (pages book) (λ none. refl) (sound_climb (index_of provider) book sound)

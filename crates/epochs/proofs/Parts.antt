@@ -127,7 +127,7 @@ module _ (provider : Provider) (parts : Parts) (salt : List ℕ) (left : Stream)
 
   -- the last epoch is at least 1
   pub last_from_one : 0 < (last_root parts).body.epoch
-  last_from_one = last_is_page.from_one
+  last_from_one = last_is_page.epoch.0
 
   pub waiting_is_placement : ((text : List ℕ) → Is32Bytes (provider.hash text)) → IsPlacement parts.waiting
   waiting_is_placement size = subst IsPlacement (sym keeps.waiting) (is_placement provider size (pending_of parts))

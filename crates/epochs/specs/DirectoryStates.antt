@@ -3,9 +3,8 @@
 use Rattle.std.specs.Prelude.{◌≡◌, ℕ, List}
 use Rattle.rand_core.specs.Stream.{Stream}
 use Rattle.book.specs.Books.{Binding, Book, Page}
-use Rattle.book.specs.Fresh.{keyed_provider}
 use Rattle.encoding.specs.Maps.{Map}
-use Rattle.book.specs.Shows.{Provider}
+use Rattle.book.specs.Shows.{Provider, keyed_provider}
 
 pub record DirectoryState (R : Type 0) : Type 0 where
   pub earlier : List Page

@@ -1,5 +1,6 @@
 ghost use Rattle.std.specs.Prelude.{◌≡◌, ◌+◌, ◌<◌, ◌≤◌, IfErr, IfOk};
-ghost use Rattle.book.specs.Fresh.{fresh, KeepsLaws};
+ghost use Rattle.book.specs.Fresh.{fresh};
+ghost use Rattle.book.specs.ProviderLaws.{KeepsLaws};
 ghost use Rattle.book.specs.Shows.{index_of, IsRootOf};
 ghost use Rattle.book.specs.Sound.{IsSound};
 ghost use Rattle.epochs.specs.Beginnings.{IsBeginRefusal};

@@ -4,8 +4,7 @@ use Rattle.rand_core.specs.Stream.{Stream}
 use Rattle.book.specs.declared.record.Record.{Record}
 use Rattle.book.specs.declared.reply.Reply.{Reply}
 use Rattle.commands.specs.Operations.{Operation}
-use Rattle.book.specs.Fresh.{keyed_provider}
-use Rattle.book.specs.Shows.{Provider}
+use Rattle.book.specs.Shows.{Provider, keyed_provider}
 use Rattle.book.specs.Turns.{Run}
 use Rattle.epochs.specs.DirectoryStates.{DirectoryState, book, provider, HasKeysOf}
 use Rattle.wire.specs.Streams.{Message, Whole, BadFrame}

@@ -5,9 +5,9 @@ use Rattle.rand_core.specs.Stream.{Stream}
 use Rattle.book.specs.declared.record.Record.{Record}
 use Rattle.book.specs.declared.reply.Reply.{Reply}
 use Rattle.commands.specs.Operations.{Operation}
-use Rattle.book.specs.Fresh.{KeepsLaws}
 use Rattle.book.specs.declared.directory_refusal.Refusal.TheVariants.{Memory, KeepFailed}
 use Rattle.book.specs.Honest.{IsHonestRun}
+use Rattle.book.specs.ProviderLaws.{KeepsLaws}
 use Rattle.book.specs.Refusals.{book_refusal_number}
 use Rattle.book.specs.Shows.{index_of}
 use Rattle.book.specs.Sound.{IsSound}

@@ -7,9 +7,9 @@ use Rattle.book.specs.declared.record.Record.{Record}
 use Rattle.book.specs.declared.record.Record.TheVariants.{Turned}
 use Rattle.book.specs.Books.{Book}
 use Rattle.rand_core.specs.Stream.{Stream}
-use Rattle.book.specs.Fresh.{fresh, keyed_provider}
+use Rattle.book.specs.Fresh.{fresh}
 use Rattle.book.specs.Replays.{replayed}
-use Rattle.book.specs.Shows.{index_of}
+use Rattle.book.specs.Shows.{index_of, keyed_provider}
 use Rattle.epochs.specs.DirectoryStates.{DirectoryState, provider, HasKeysOf}
 use Rattle.journal.specs.declared.open_refusal.Refusal.{Refusal}
 use Rattle.journal.specs.declared.open_refusal.Refusal.TheVariants.{BadRecord, OtherKeys, Memory}

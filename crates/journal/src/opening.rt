@@ -2,8 +2,8 @@
 // read and carried out, as long as a whole one stands at the front. What is left is a record that was cut
 // short, or a fault. Where the next four records are short bindings, their commitments are digested at once.
 ghost use Rattle.std.specs.Prelude.{◌≡◌, ◌≤◌, length, MatchResult, Some};
-ghost use Rattle.book.specs.Fresh.{fresh, keyed_provider};
-ghost use Rattle.book.specs.Shows.{index_of};
+ghost use Rattle.book.specs.Fresh.{fresh};
+ghost use Rattle.book.specs.Shows.{index_of, keyed_provider};
 ghost use Rattle.epochs.specs.DirectoryStates.{book, provider, HasKeysOf};
 ghost use Rattle.book.specs.Replays.{replayed};
 ghost use Rattle.journal.specs.Records.{later_seen, IsLater};

@@ -21,9 +21,8 @@ use Rattle.book.specs.declared.reply.Reply.{Reply}
 use Rattle.book.specs.declared.reply.Reply.TheVariants as reply
 use Rattle.book.specs.Steps.{Promised, Found, Told, Last}
 use Rattle.book.specs.Books.{Binding, Book, Page, pages}
-use Rattle.book.specs.Fresh.{keyed_provider}
 use Rattle.book.specs.Keeps.{KeepsNothing, NeverFails}
-use Rattle.book.specs.Shows.{Provider, SignedPage, body_behind, index_of, roots, sealed_behind, sealed_pages, signed, IsRootOf}
+use Rattle.book.specs.Shows.{Provider, SignedPage, body_behind, index_of, keyed_provider, roots, sealed_behind, sealed_pages, signed, IsRootOf}
 use Rattle.book.specs.Sound.{IsSound}
 use Rattle.book.specs.Turns.{Turn}
 use Rattle.book.proofs.Begun.{climbs}

@@ -10,8 +10,9 @@ use Rattle.rootchain.specs.declared.signed_root.SignedRoot.{SignedRoot}
 use Rattle.wire.specs.Streams.{Remainder, Rest}
 use Rattle.book.specs.declared.keeper.NoKeeper.{NoKeeper}
 use Rattle.book.specs.Books.{Book}
-use Rattle.book.specs.Fresh.{fresh, KeepsLaws}
+use Rattle.book.specs.Fresh.{fresh}
 use Rattle.book.specs.Keeps.{KeepsNothing, NeverFails}
+use Rattle.book.specs.ProviderLaws.{KeepsLaws}
 use Rattle.book.specs.Shows.{Provider, SignedPage, index_of, roots, IsRootOf}
 use Rattle.book.specs.Sound.{IsSound}
 use Rattle.book.proofs.Members.{first-or-later, none-there}

@@ -14,9 +14,8 @@ use Rattle.book.specs.declared.reply.Reply.{Reply}
 use Rattle.book.specs.declared.reply.Reply.TheVariants as reply
 use Rattle.book.specs.Steps.{page_range, Answer, Found, Last, Promised, Told, Answers, Outcome}
 use Rattle.book.specs.Books.{Binding, Book, Page, pages}
-use Rattle.book.specs.Fresh.{keyed_provider}
 use Rattle.book.specs.Keeps.{KeepsNothing, NeverFails}
-use Rattle.book.specs.Shows.{Provider, index_of, roots, IsRootOf}
+use Rattle.book.specs.Shows.{Provider, index_of, keyed_provider, roots, IsRootOf}
 use Rattle.book.specs.Sound.{IsSound}
 use Rattle.book.specs.Turns.{Turn}
 use Rattle.book.proofs.OneRoot.{same-roots}

@@ -24,7 +24,7 @@ use Rattle.proofs.specs.declared.statement.Statement.{Statement}
 use Rattle.proofs.proofs.Passing.{accepts-passed, one_reply, refused-accepts}
 use Rattle.book.specs.Steps.{has_its_index}
 use Rattle.book.specs.Books.{Binding, Book, Page, pages}
-use Rattle.book.specs.Fresh.{KeepsLaws}
+use Rattle.book.specs.ProviderLaws.{KeepsLaws}
 use Rattle.book.specs.Honest.{key_at}
 use Rattle.encoding.specs.Maps.{Map, at}
 use Rattle.book.specs.Shows.{Provider, index_of, sealed_pages, IsReplyOf, IsRootOf}

@@ -249,7 +249,7 @@ module _ {R : Type 0} (digest_of : List ℕ → List ℕ) (value_of signature_of
 
   -- of a key within its limits
   pub key-fits : (promised : SignedPromise) → may.was.said ≡ reply.Promised promised → IsKeyData key
-  key-fits promised is = let given = is-given promised is in subst IsKeyData given.bound given.form.0.5
+  key-fits promised is = let given = is-given promised is in subst IsKeyData given.bound given.form.0.4
 
   -- ---- each monitor of the name may expect it
 

@@ -28,7 +28,7 @@ use Rattle.book.specs.declared.reply.Reply.{Reply}
 use Rattle.book.specs.declared.reply.Reply.TheVariants as reply
 use Rattle.book.specs.Steps.{has_its_index}
 use Rattle.book.specs.Books.{Binding, Book, Page, page_at, pages}
-use Rattle.book.specs.Fresh.{KeepsLaws}
+use Rattle.book.specs.ProviderLaws.{KeepsLaws}
 use Rattle.book.specs.Honest.{key_at}
 use Rattle.encoding.specs.Maps.{Map, at}
 use Rattle.book.specs.Shows.{Provider, SignedPage, body_behind, signed, index_of, roots, sealed_behind, sealed_pages, IsReplyOf, IsRootOf}

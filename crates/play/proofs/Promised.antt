@@ -24,7 +24,7 @@ epoch_read bytes signed spells =
     let more = signed.promise.body_hash ++ (signed.promise.index ++ (counted_bytes signed.promise.name ++ counted_bytes signed.promise.key)) in
     let parts : signed_promise_bytes signed ≡ (promise_head ++ big_bytes 8 epoch) ++ (more ++ counted_bytes signed.signature)
     = ap (λ (t : List ℕ). promise_head ++ t) (append_assoc (big_bytes 8 epoch) more (counted_bytes signed.signature)) in
-    ap (read_behind promise_head (read_number 8)) (spells.0 ∙ parts) ∙ epoch_field.again epoch (more ++ counted_bytes signed.signature) spells.1.0.1
+    ap (read_behind promise_head (read_number 8)) (spells.0 ∙ parts) ∙ epoch_field.again epoch (more ++ counted_bytes signed.signature) spells.1.0.0.1
 
 first_same : {A B F : Type 0} (a c : A) (b d : B) → ◌≡◌ {A = Result (A × B) F} (Ok (a, b)) (Ok (c, d)) → a ≡ c
 first_same {A} {B} a c b d e = let both : ◌≡◌ {A = A × B} (a, b) (c, d) = cc in ap (λ (p : A × B). p.0) both

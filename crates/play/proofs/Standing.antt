@@ -4,8 +4,7 @@ use Rattle.std.specs.List.{AllZip}
 use Rattle.rand_core.specs.Stream.{Stream}
 use Rattle.wire.specs.Requests.{RequestContent}
 use Rattle.wire.specs.Streams.{Remainder}
-use Rattle.book.specs.Fresh.{keyed_provider}
-use Rattle.book.specs.Shows.{Provider, roots}
+use Rattle.book.specs.Shows.{Provider, keyed_provider, roots}
 use Rattle.epochs.specs.DirectoryStates.{HasKeysOf}
 use Rattle.hub.specs.Events.{at_session, BySession}
 use Rattle.monitor.specs.Monitors.{Monitor}

@@ -9,8 +9,7 @@ use Rattle.rand_core.specs.Stream.{Stream}
 use Rattle.rootchain.specs.Chains.{KeyedRoots}
 use Rattle.rootchain.specs.declared.signed_root.SignedRoot.{SignedRoot}
 use Rattle.book.specs.Books.{Book, Page, pages}
-use Rattle.book.specs.Fresh.{keyed_provider}
-use Rattle.book.specs.Shows.{Provider, index_of, roots}
+use Rattle.book.specs.Shows.{Provider, index_of, keyed_provider, roots}
 use Rattle.book.proofs.Members.{first-or-later, first-there, later-there, none-there}
 use Rattle.epochs.specs.DirectoryStates.{HasKeysOf}
 use Rattle.monitor.specs.Monitors.{Monitor, IsNext}

@@ -72,7 +72,7 @@ module _ (provider : Provider) where
       → IsRootOf provider after page root → IsReplyOf provider page root.body name found text → SpellsReply text spelled → spelled.body.epoch ≡ page.epoch
   found_epoch after text page name found root spelled sound rooted shows spells =
       let of_page : root.body.epoch ≡ page.epoch = rooted-epoch provider after page root rooted in
-      let fits : page.epoch < 2 ^ 64 = (All-contains IsPage (pages after) page sound (sealed-page provider 0 (replicate 32 0) (pages after) (record { page = page; root = root }) rooted)).in_eight_bytes in
+      let fits : page.epoch < 2 ^ 64 = (All-contains IsPage (pages after) page sound (sealed-page provider 0 (replicate 32 0) (pages after) (record { page = page; root = root }) rooted)).epoch.1 in
       sym (same_epoch root.body spelled.body _ _ (omega (arith, of_page, fits)) spells.1.0.1.0 (sym shows.spelled ∙ spells.0)) ∙ of_page
 
   found_text : (after : Book) (answer : Answer) (text : List ℕ) (page : Page) (name : List ℕ) (found : Option Binding) (root : SignedRoot) (spelled : Spelled) → answer ≡ Found page name found → All IsPage (pages after)

@@ -66,8 +66,8 @@ roots_few roots h =
 promise_few : (promise : Promise) → IsPromise promise → AreFew 2381 (promise_bytes promise)
 promise_few promise h =
     both_few 2 2379 (pair_few 0x50 1 (lit≤ tt) (lit≤ tt)) (both_few 8 2371 (number_few 8 promise.epoch)
-    (both_few 32 2339 (hash_few promise.body_hash h.2) (both_few 32 2307 (hash_few promise.index h.3)
-    (both_few 257 2050 (counted_few 1 255 promise.name h.4) (counted_few 1 2048 promise.key h.5)))))
+    (both_few 32 2339 (hash_few promise.body_hash h.1) (both_few 32 2307 (hash_few promise.index h.2)
+    (both_few 257 2050 (counted_few 1 255 promise.name h.3) (counted_few 1 2048 promise.key h.4)))))
 
 pub signed_promise_few : (signed : SignedPromise) → IsSignedPromise signed → AreFew 2639 (signed_promise_bytes signed)
 signed_promise_few signed h = both_few 2381 258 (promise_few signed.promise h.0) (counted_few 1 256 signed.signature h.1)

@@ -69,8 +69,8 @@ promise_field =
     let hash = bytes_field 32 in
     behind promise_head (IsBytes-two 0x50 1 (lit≤ tt) (lit≤ tt))
     (allowed
-    (λ b h. let p = h.0.0 in (ltb-true 0 b.epoch h.1, p.0, p.1.0, p.1.1.0, p.1.1.1.0, p.1.1.1.1))
-    (λ b h. (((h.1, (h.2, (h.3, (h.4, h.5)))), refl), lt-ltb 0 b.epoch h.0))
+    (λ b h. let p = h.0.0 in ((ltb-true 0 b.epoch h.1, p.0), p.1.0, p.1.1.0, p.1.1.1.0, p.1.1.1.1))
+    (λ b h. (((h.0.1, (h.1, (h.2, (h.3, h.4)))), refl), lt-ltb 0 b.epoch h.0.0))
     (tested is_at_epoch (renamed promise_of parts_of (λ _. refl) (both (numbers_field 8) (both hash (both hash (both (counted_field MIN_LEN MAX_NAME_LEN (lit≤ tt)) (counted_field MIN_LEN MAX_KEY_DATA_LEN (lit≤ tt)))))))))
   where
     parts_of : Promise → ℕ × (List ℕ × (List ℕ × (List ℕ × List ℕ)))

@@ -5,8 +5,7 @@ use Rattle.rand_chacha.specs.ChaCha.{ChaCha, of_seed}
 use Rattle.nodehash.specs.Sha256.{sha256}
 use Rattle.vrfiface.specs.StandIns.{keyed_value}
 use Rattle.sigiface.specs.StandIn.{keyed_signature}
-use Rattle.book.specs.Fresh.{keyed_provider}
-use Rattle.book.specs.Shows.{index_of}
+use Rattle.book.specs.Shows.{index_of, keyed_provider}
 use Rattle.book.specs.Salts.{chacha_salts}
 use Rattle.epochs.specs.DirectoryStates.{book, DirectoryState}
 use Rattle.journal.specs.declared.beginning.Beginning.{Beginning}

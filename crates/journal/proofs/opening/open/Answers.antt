@@ -1,8 +1,7 @@
 use Rattle.std.proofs.Common.{rules, ◌≡◌, ◌<◌, ◌^◌, length, ℕ, List, inl, sym, ap, subst, ◌∙◌, arith, Ok, Err}
 use Rattle.encoding.specs.declared.fault.Fault.TheVariants.{Trailing, OutOfRange}
 use Rattle.book.specs.Books.{Book}
-use Rattle.book.specs.Fresh.{keyed_provider}
-use Rattle.book.specs.Shows.{index_of}
+use Rattle.book.specs.Shows.{index_of, keyed_provider}
 use Rattle.epochs.specs.DirectoryStates.{book}
 use Rattle.journal.specs.Opened.{OpensUpTo}
 use Rattle.journal.specs.Records.{read_start}

@@ -1,8 +1,7 @@
 use Rattle.std.proofs.Common.{◌≡◌, List, ℕ, Ok, ap, subst, ◌∙◌}
 use Rattle.book.specs.Steps.{Promised}
-use Rattle.book.specs.Fresh.{keyed_provider}
 use Rattle.book.specs.Replays.{with_bound}
-use Rattle.book.specs.Shows.{Provider}
+use Rattle.book.specs.Shows.{Provider, keyed_provider}
 use Rattle.book.specs.Turns.{Shows}
 use Rattle.epochs.specs.Directories.{state_of}
 use Rattle.epochs.specs.DirectoryStates.{book, provider, DirectoryState}

@@ -1,5 +1,5 @@
 use Rattle.std.proofs.Common.{◌<◌, ◌∙◌, ap, arith, refl, subst, sym}
-use Rattle.book.specs.Fresh.{keyed_provider}
+use Rattle.book.specs.Shows.{keyed_provider}
 use Rattle.epochs.specs.Addresses.{AreAddresses, NamesContent}
 use Rattle.epochs.proofs.Beginning.{begun_with, keeps_begun}
 use Rattle.epochs.proofs.directory.Directory.new.Goals as goal
