@@ -1,5 +1,5 @@
 -- The command line, as clap's definitions read it.
-use Rattle.std.specs.Prelude.{◌≡◌, ℕ, List, [], ◌∷◌, Some, codes, map, true, false}
+use Rattle.std.specs.Prelude.{◌≡◌, ℕ, ◌-◌, ◌^◌, List, [], ◌∷◌, Some, codes, map, true, false}
 use Rattle.clap.specs.declared.builder.action.ArgAction.TheVariants.{SetTrue}
 use Rattle.clap.specs.declared.builder.value_parser.ValueParser.{ValueParser}
 use Rattle.clap.specs.declared.builder.value_parser.ValueParser.TheVariants.{Names, Unsigned}
@@ -33,7 +33,7 @@ nonce_rule = text_rule (codes "nonce")
 
 -- the greatest number of 64 bits
 abbrev pub greatest : ℕ
-greatest = 18446744073709551615
+greatest = 2 ^ 64 - 1
 
 -- an option whose value is a number within these limits, with a default, as a text
 abbrev pub bounded_rule : Text → ℕ → ℕ → Text → Rule
