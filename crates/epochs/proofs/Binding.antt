@@ -10,9 +10,10 @@ use Rattle.book.specs.Books.{Book}
 use Rattle.encoding.specs.Maps.{Map, at, put_at}
 use Rattle.book.specs.Replays.{with_bound}
 use Rattle.book.specs.Salted.{salted}
-use Rattle.book.specs.Shows.{Provider, index_of}
+use Rattle.book.specs.Shows.{Provider, index_of, keyed_provider}
 use Rattle.book.specs.Sound.{HoldsName}
 use Rattle.book.proofs.Joining.{first-salt}
+use Rattle.epochs.specs.DirectoryStates.{DirectoryState, HasKeysOf, provider}
 use Rattle.epochs.specs.Histories.{Version}
 use Rattle.epochs.specs.Parts.{Keeps, Parts, pending_of}
 use Rattle.epochs.specs.Versions.{AllBefore, versions_of, with_version}
@@ -83,3 +84,8 @@ pub drawn_after : (before middle : Book) (name key next : List ℕ) (rest : Stre
 drawn_after before middle name key next rest is drawn =
     ap (λ (x : List ℕ × Stream). record middle { salt = x.0; left = x.1 }) drawn
     ∙ ap (λ (book : Book). record book { salt = (fill_bytes 32 book.left).0; left = (fill_bytes 32 book.left).1 }) is
+
+-- what has the public keys of another has its provider
+pub same_provider : {R : Type 0} (digest_of : List ℕ → List ℕ) (value_of signature_of : List ℕ → List ℕ → List ℕ) (first later : DirectoryState R) → HasKeysOf first later
+    → provider digest_of value_of signature_of later ≡ provider digest_of value_of signature_of first
+same_provider digest_of value_of signature_of first later has = λ i. keyed_provider digest_of value_of (has.0 i) signature_of (has.1 i)

@@ -1,5 +1,5 @@
 //! The commitments of the next records of a replay, digested at once.
-ghost use Rattle.std.specs.Prelude.{◌≡◌, ◌+◌, ◌<◌, ◌≤◌, IfSome, map};
+ghost use Rattle.std.specs.Prelude.{◌≡◌, ◌+◌, ◌≤◌, IfSome};
 ghost use Rattle.commit.specs.Commitments.{commitment_bytes};
 ghost use Rattle.epochs.specs.declared.foreseen.TheConstants.{AT_ONCE};
 

@@ -1,5 +1,5 @@
 // Whole records are read one after another from the front, and counted; what does not read as a record ends it.
-ghost use Rattle.std.specs.Prelude.{◌≡◌, ◌≤◌, length};
+ghost use Rattle.std.specs.Prelude.{◌≤◌, length};
 ghost use Rattle.journal.specs.Counting.{Counts, HasLater};
 
 use crate::forms::{read_later, read_start};

@@ -19,7 +19,7 @@ ghost use Rattle.book.specs.Shows.{index_of as index_by, placement};
 ghost use Rattle.book.specs.Sound.{HoldsName};
 ghost use Rattle.book.specs.Turns.{IsUnkept, Shows, Turn};
 ghost use Rattle.epochs.specs.Addresses.{address_of};
-ghost use Rattle.epochs.specs.DirectoryStates.{book, provider, HasKeysOf};
+ghost use Rattle.epochs.specs.DirectoryStates.{book, provider, DirectoryState, HasKeysOf};
 ghost use Rattle.epochs.specs.KeyChanges.{IsRefusedSo};
 ghost use Rattle.epochs.specs.Replayed.{changed_digests, tree_digests};
 ghost use Rattle.epochs.specs.Replied.{last, promised};
@@ -375,8 +375,7 @@ impl<H: NodeHash, V: Vuf, S: Signer, R: Rng> Directory<H, V, S, R> {
             Ok(()) => {}
             Err(why) => return Err(why),
         }
-        self.salt = next_salt(&mut self.salts);
-        Ok(self.promised(address.index, name, key))
+        Ok(self.accepted(address.index, name, key))
     }
 
     /// Lets another key of a name wait under this salt for the next page, once its record is kept. Gives the
@@ -445,8 +444,21 @@ impl<H: NodeHash, V: Vuf, S: Signer, R: Rng> Directory<H, V, S, R> {
             Ok(index) => index,
             Err(why) => return Err(why),
         };
+        Ok(self.accepted(index, name, key))
+    }
+
+    /// The promise to bind the key, which waits under the salt, to the name. The next salt is drawn.
+    fn accepted(&mut self, index: Index, name: Name, key: KeyData) -> SignedPromise
+        requires { index ≡ index_by (provider H.digest_of V.value_of S.signature_of self.old) name }
+        ensures made { (before : DirectoryState R) → HasKeysOf before self.old
+            → book R.stream self.old ≡ with_bound (book R.stream before) name (record { key = key; salt = before.salt })
+            → (book R.stream self.new ≡ with_pending (book R.stream before) name key)
+            × Shows (provider H.digest_of V.value_of S.signature_of before) (book R.stream self.new) (Promised name (record { key = key; salt = before.salt })) (promised (Ok result)) }
+        ensures keys { HasKeysOf self.old self.new }
+        ensures work { self.new.digests ≡ self.old.digests }
+    {
         self.salt = next_salt(&mut self.salts);
-        Ok(self.promised(index, name, key))
+        self.promised(index, name, key)
     }
 
     /// The promise, over the last root, to bind the key to the name.

@@ -1,6 +1,6 @@
 // What is read stands in the page of an epoch: its root, its tree, and the versions that it shows. The book stays
 // as it is. A look-up takes no memory: its reply is returned, or written into the room of the caller.
-ghost use Rattle.std.specs.Prelude.{◌≡◌, ℕ, ◌+◌, ◌<◌, ◌≤◌, List, Option, Some, None, IfSome, IsSome, MatchOption, MatchResult, is_none, length, option_and_then, option_map, slice_get, vec_len, vec_capacity, ◌++◌, ◌∷◌, []};
+ghost use Rattle.std.specs.Prelude.{◌≡◌, ℕ, ◌+◌, ◌<◌, ◌≤◌, List, Some, IfSome, IsSome, MatchOption, MatchResult, is_none, length, option_and_then, option_map, slice_get, vec_len, vec_capacity, ◌++◌, ◌∷◌, []};
 ghost use Rattle.std.specs.List.{AllZip};
 ghost use Rattle.encoding.specs.Limits.{IsName};
 ghost use Rattle.commands.specs.Operations.{History, Lookup, Promise as PromiseOf, Query};

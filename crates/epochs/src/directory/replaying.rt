@@ -6,7 +6,7 @@ ghost use Rattle.commands.specs.declared.edit.Verb.TheVariants.{Change, Register
 ghost use Rattle.book.specs.declared.record.Record.TheVariants.{Bound, Turned};
 ghost use Rattle.book.specs.Steps.{kept_edit};
 ghost use Rattle.book.specs.Shows.{index_of as index_by};
-ghost use Rattle.epochs.specs.DirectoryStates.{book, provider, HasKeysOf};
+ghost use Rattle.epochs.specs.DirectoryStates.{provider, HasKeysOf};
 ghost use Rattle.epochs.specs.declared.foreseen.TheConstants.{AT_ONCE};
 ghost use Rattle.epochs.specs.Replayed.{address_digests, replay_digests, Replays};
 

@@ -1,4 +1,4 @@
-ghost use Rattle.std.specs.Prelude.{◌≡◌, ◌<◌, ◌^◌, ℕ, List, IfOk, IfSome, OnErr, OnOk, map, take};
+ghost use Rattle.std.specs.Prelude.{◌≡◌, ◌<◌, ◌^◌, ℕ, List, IfOk, IfSome, OnErr, map, take};
 ghost use Rattle.encoding.specs.Bytes.{Is32Bytes, IsBytes};
 ghost use Rattle.commands.specs.Operations.{asked, question, revision, IsCommand, MayChange, MayRead, Edit as EditOf, Put as PutOf, Query as QueryOf};
 ghost use Rattle.book.specs.declared.reply.Reply.{Reply};

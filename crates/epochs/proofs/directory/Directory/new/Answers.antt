@@ -19,6 +19,6 @@ invariant_of-result g c =
             waiting = c.new-4.ensures;
             body_hash = c.hash_of-body_hash.ensures.value ∙ ap g.H.NodeHash.digest_of c.write-text.ensures.value;
           })
-          (some, c.ranges.epoch.fits) (c.write-text.ensures.form (some, λ _. c.new-2.ensures)).5 c.next_salt-salt.ensures.size,
+          (some, c.ranges.epoch.fits) c.write-text.ensures.sized.4 c.next_salt-salt.ensures.size,
       subst (λ (names : NamesContent). AreAddresses by names.addresses) (sym c.new-3.ensures) tt,
     )

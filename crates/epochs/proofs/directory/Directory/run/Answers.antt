@@ -8,7 +8,8 @@ use Rattle.book.specs.Shows.{Provider, index_of}
 use Rattle.book.specs.Sound.{IsSound}
 use Rattle.book.proofs.Honesty.{honest}
 use Rattle.epochs.specs.DirectoryStates.{book, provider}
-use Rattle.epochs.proofs.Running.{run_next, run_stays, same_provider, so_anyway}
+use Rattle.epochs.proofs.Binding.{same_provider}
+use Rattle.epochs.proofs.Running.{run_next, run_stays, so_anyway}
 use Rattle.epochs.proofs.directory.Directory.run.Goals as goal
 
 pub loop-command-init : goal.loop-command-init
@@ -60,7 +61,7 @@ returns-clause-honest g c =
     (rw (take_all _ _ c.loop-command-test.false) at c.loop-command.invariant.0.0)
   where
     same : provider g.H.NodeHash.digest_of g.V.Vuf.value_of g.S.Signer.signature_of c.loop-command.self ≡ provider g.H.NodeHash.digest_of g.V.Vuf.value_of g.S.Signer.signature_of c.args.self.now
-    same = same_provider g.H.NodeHash.digest_of g.V.Vuf.value_of g.S.Signer.signature_of g.R.Rng.stream g.K.Keeper.kept g.K.Keeper.failed c.args.self.now c.loop-command.self c.loop-command.invariant.0.1
+    same = same_provider g.H.NodeHash.digest_of g.V.Vuf.value_of g.S.Signer.signature_of c.args.self.now c.loop-command.self c.loop-command.invariant.0.1
 
     sound : IsSound (index_of (provider g.H.NodeHash.digest_of g.V.Vuf.value_of g.S.Signer.signature_of c.args.self.now)) (book g.R.Rng.stream c.loop-command.self)
     sound = subst (λ (p : Provider). IsSound (index_of p) (book g.R.Rng.stream c.loop-command.self)) same c.head.ensures.sound
