@@ -20,7 +20,7 @@ pub data Front : Type 0 where
   Whole : SignedRoot → List ℕ → Front
   -- less than a root
   Part : Front
-  -- less than what would be a root, but that its signature is too long: so many bytes of it are still to come
+  -- the beginning of what would be a root if its signature were not too long: so many bytes are still to come
   TooLong : ℕ → Front
   -- bytes of a root's length that spell none
   Bad : Front
@@ -114,8 +114,8 @@ abbrev pub least_root_len : Reading ℕ → ℕ
 least_root_len (Ok (size, _)) = FIXED_LEN + size
 least_root_len (Err fault) = FIXED_LEN
 
--- how many bytes there are at least once the number of roots, or the first root, is whole; 0 where no bytes of
--- it are held
+-- how many bytes there are at least once the number of roots, or the first root, is whole; 0 where no bytes are
+-- to be held
 abbrev pub least_len : FeedState → ℕ
 least_len (Counts bytes) = 2
 least_len (Owes zero bytes) = 0

@@ -77,6 +77,7 @@ impl RootFeed {
     }
 
     /// Whether the list has come whole, and nothing after it.
+    // Clause `held` stands here, since callers learn what holds of each feed from a call alone.
     pub fn done(&self) -> bool
         ensures done { IsTrue result ↔ (self.now ≡ Done) }
         ensures held { length (held_bytes self.now) ≤ MAX_SIGNED_ROOT_LEN }
@@ -159,8 +160,8 @@ fn add_part(stage: Stage, held: &mut SignedRootText, piece: &[u8]) -> bool
     true
 }
 
-/// How many bytes there are at least once the number of roots, or the first root, is whole; 0 where no bytes of
-/// it are held.
+/// How many bytes there are at least once the number of roots, or the first root, is whole; 0 where no bytes are
+/// to be held.
 fn least_len(stage: Stage, held: &[u8]) -> usize
     requires { MayBeHeld (held_of stage held.now) }
     ensures { result ≡ least_len (held_of stage held.now) }

@@ -52,7 +52,7 @@ where
     let root = case.bytes();
     let list = case.bytes();
     let place = case.number_to(list.len());
-    if case.is_spoiled() {
+    if case.is_spoiled() || started(case, by, key, root).is_none() {
         return;
     }
     let mut heads = Vec::new(case.alloc());

@@ -1,4 +1,5 @@
-// Each kind is read in a function of its own: a function clears the room of all that it may hold.
+// Each kind is read in a function of its own, and not inlined if it holds much: a function clears the room of all
+// that it may hold.
 ghost use Rattle.std.specs.Prelude.{◌≡◌, ◌≢◌, ℕ, ◌∷◌, [], MatchOption};
 ghost use Rattle.wire.specs.Responses.{ReadsResponse};
 ghost use Rattle.wire.specs.declared.response.TheConstants.{PROMISED, PROOF, ROOTS, ROOT, REFUSED};

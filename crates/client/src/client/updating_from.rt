@@ -18,10 +18,10 @@ impl<H: NodeHash, V: VufCheck, S: Verifier> Client<H, V, S> {
     ///
     /// # Errors
     ///
-    /// `Root` with `Malformed` if the feed failed before, else `Memory` if there is no memory for all roots
-    /// that are still to come (64 until their number is known): neither the client nor the feed changes. Else the refusal of the first root
-    /// that `update` would refuse, or `Root` with `Malformed` if the bytes after the roots before are none
-    /// of a list: the client keeps these roots, and the feed has failed.
+    /// `Root` with `Malformed` if the feed failed before, else `Memory` if there is no memory for all roots that
+    /// are still to come (64 until their number is known): neither the client nor the feed changes. Else the
+    /// refusal of the first root that `update` would refuse, or `Root` with `Malformed` if the bytes after the
+    /// roots before are none of a list: the client keeps these roots, and the feed has failed.
     #[inline(always)]
     pub fn update_from(
         &mut self,

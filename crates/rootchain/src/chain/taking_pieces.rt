@@ -53,9 +53,9 @@ impl<H: NodeHash, S: Verifier> Chain<H, S> {
     /// # Errors
     ///
     /// `Malformed` if the feed failed before, else `Memory` if there is no memory for all roots that are still to
-    /// come (64 until their number is known): neither the chain nor the feed changes. Else the refusal of the first root that
-    /// `take_list` would refuse, or `Malformed` if the bytes after the roots before are none of a list: the
-    /// chain keeps these roots, and the feed has failed.
+    /// come (64 until their number is known): neither the chain nor the feed changes. Else the refusal of the
+    /// first root that `take_list` would refuse, or `Malformed` if the bytes after the roots before are none of a
+    /// list: the chain keeps these roots, and the feed has failed.
     #[inline(never)]
     pub fn take_piece(
         &mut self,
