@@ -12,6 +12,8 @@ The status is 0 if that is so.
 import re
 import sys
 
+from unlike import unlike
+
 FEW = 8
 LINE = "out of memory|"
 
@@ -45,12 +47,8 @@ def go_on(question, answer, stored):
 
 
 def main():
-    questions, answers, stored = ([line for line in open(name, encoding="ascii").read().split("\n") if line] for name in sys.argv[1:])
-    questions = [line for line in questions if not line.startswith("#")]
-    if not len(questions) == len(answers) == len(stored):
-        return 1
-    differ = [lines for lines in zip(questions, answers, stored) if lines[1] != lines[2]]
-    return 0 if len(differ) <= 1 and all(go_on(*lines) for lines in differ) else 1
+    differ = unlike(*sys.argv[1:])
+    return 0 if differ is not None and len(differ) <= 1 and all(go_on(*lines) for lines in differ) else 1
 
 
 sys.exit(main())

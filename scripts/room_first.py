@@ -9,6 +9,8 @@ and that refusal. The status is 0 if that is so. Prints the question that was an
 
 import sys
 
+from unlike import unlike
+
 LACKS = (" refused 22 out of memory ", " out of memory ")
 
 
@@ -21,12 +23,8 @@ def lacked(answer, stored):
 
 
 def main():
-    questions, answers, stored = ([line for line in open(name, encoding="ascii").read().split("\n") if line] for name in sys.argv[1:])
-    questions = [line for line in questions if not line.startswith("#")]
-    if not len(questions) == len(answers) == len(stored):
-        return 1
-    differ = [lines for lines in zip(questions, answers, stored) if lines[1] != lines[2]]
-    if len(differ) != 1 or " room" not in differ[0][0] or not lacked(*differ[0][1:]):
+    differ = unlike(*sys.argv[1:])
+    if differ is None or len(differ) != 1 or " room" not in differ[0][0] or not lacked(*differ[0][1:]):
         return 1
     print(differ[0][0])
     return 0
