@@ -13,7 +13,7 @@ use Rattle.book.specs.Sound.{IsSound}
 use Rattle.book.proofs.Honesty.{honest}
 use Rattle.book.proofs.SoundRuns.{run-sound}
 use Rattle.epochs.specs.DirectoryStates.{book, provider}
-use Rattle.epochs.proofs.Running.{same_provider}
+use Rattle.epochs.proofs.Binding.{same_provider}
 use Rattle.wire.specs.Requests as request
 use Rattle.wire.specs.Streams.{Message, Whole, BadFrame}
 use Rattle.hub.specs.Desks.{command, DeskState, DeskAnswers}
@@ -64,7 +64,7 @@ module _ {R K : Type 0} (digest_of : List ℕ → List ℕ) (value_of signature_
   desk_stays_sound before lines after well (inl salts) answered =
       let (commands, replies, shown, run, keys, token) = lines_show_run digest_of value_of signature_of stream kept failed before lines after answered in
       let by : Provider = provider digest_of value_of signature_of before.directory in
-      let same : by ≡ provider digest_of value_of signature_of after.directory = sym (same_provider digest_of value_of signature_of stream kept failed before.directory after.directory keys) in
+      let same : by ≡ provider digest_of value_of signature_of after.directory = sym (same_provider digest_of value_of signature_of before.directory after.directory keys) in
       let are : All IsCommand commands = commands_are before.token lines commands replies shown in
       let stays = run-sound by kept failed commands replies (book stream before.directory) (book stream after.directory) before.keeper after.keeper well.sound salts are run in
       record {
@@ -80,7 +80,7 @@ module _ {R K : Type 0} (digest_of : List ℕ → List ℕ) (value_of signature_
       let (commands, replies, shown, run, keys, token) = lines_show_run digest_of value_of signature_of stream kept failed before lines after answered in
       let by : Provider = provider digest_of value_of signature_of before.directory in
       let sound_after : IsSound (index_of by) (book stream after.directory) =
-      subst (λ (p : Provider). IsSound (index_of p) (book stream after.directory)) (same_provider digest_of value_of signature_of stream kept failed before.directory after.directory keys) well_after.sound
+      subst (λ (p : Provider). IsSound (index_of p) (book stream after.directory)) (same_provider digest_of value_of signature_of before.directory after.directory keys) well_after.sound
       in
       let are : All IsCommand commands = commands_are before.token lines commands replies shown in
       let seen = honest by accepted verified before.directory.signing_key well.laws kept failed (book stream before.directory) (book stream after.directory) before.keeper after.keeper commands replies well.sound sound_after are run in

@@ -28,7 +28,7 @@ use Rattle.book.proofs.Growing.{run-grows}
 use Rattle.book.proofs.Soundness.{IsBefore}
 use Rattle.book.proofs.Stepping.{finds, stepped, Does, Finds}
 use Rattle.book.proofs.Turning.{asked-page}
-use Rattle.epochs.proofs.Running.{same_provider}
+use Rattle.epochs.proofs.Binding.{same_provider}
 use Rattle.play.specs.Answering.{IsUnchecked}
 use Rattle.play.specs.Checked.{line_of_reply, HasLookedUp}
 use Rattle.play.specs.Checking.{IsShownIn}
@@ -219,7 +219,7 @@ module _ {R : Type 0} (digest_of : List ℕ → List ℕ) (value_of signature_of
           cc
 
       same : P after ≡ P before
-      same = same_provider digest_of value_of signature_of stream KeepsNothing NeverFails before.hub.service.directory after.hub.service.directory a.keys
+      same = same_provider digest_of value_of signature_of before.hub.service.directory after.hub.service.directory a.keys
 
       key-same : after.key ≡ before.key
       key-same = ap (λ (p : Parties R). p.key) a.others

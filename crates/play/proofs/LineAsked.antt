@@ -22,7 +22,7 @@ use Rattle.book.specs.Shows.{Provider, index_of, roots}
 use Rattle.book.proofs.Growing.{run-grows, HasGrown}
 use Rattle.book.proofs.Stepping.{Does}
 use Rattle.epochs.specs.DirectoryStates.{book as book_kept, provider as provider_kept, HasKeysOf}
-use Rattle.epochs.proofs.Running.{same_provider}
+use Rattle.epochs.proofs.Binding.{same_provider}
 use Rattle.play.specs.Checked.{line_of_reply, HasAskedKnowing}
 use Rattle.play.specs.Handed.{HasHanded, MayHand}
 use Rattle.play.specs.Lines.{as_lines, checked_text, upshot_text}
@@ -127,7 +127,7 @@ module _ {R : Type 0} (digest_of : List ℕ → List ℕ) (value_of signature_of
         pub same : P after ≡ P before
         same =
             ap (λ (hub : HubState (DeskState R NoKeeper)). provider_kept digest_of value_of signature_of hub.service.directory) hub_is
-            ∙ same_provider digest_of value_of signature_of stream KeepsNothing NeverFails before.hub.service.directory asked.hub.service.directory a.keys
+            ∙ same_provider digest_of value_of signature_of before.hub.service.directory asked.hub.service.directory a.keys
 
         pub keys : HasKeysOf before.hub.service.directory after.hub.service.directory
         keys = subst (λ (hub : HubState (DeskState R NoKeeper)). HasKeysOf before.hub.service.directory hub.service.directory) (sym hub_is) a.keys

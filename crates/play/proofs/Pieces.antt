@@ -11,7 +11,7 @@ use Rattle.book.specs.Keeps.{KeepsNothing, NeverFails}
 use Rattle.book.specs.Shows.{Provider, index_of, roots}
 use Rattle.book.proofs.Growing.{run-grows, HasGrown}
 use Rattle.epochs.specs.DirectoryStates.{book as book_kept, provider as provider_kept}
-use Rattle.epochs.proofs.Running.{same_provider}
+use Rattle.epochs.proofs.Binding.{same_provider}
 use Rattle.wire.specs.Streams.{Remainder, Message}
 use Rattle.hub.specs.DeskRuns.{AreResponses, ShowReplies}
 use Rattle.hub.specs.Events.{BySession, Happening, at_session}
@@ -138,7 +138,7 @@ module _ {R : Type 0} (digest_of : List ℕ → List ℕ) (value_of signature_of
       now = stand_after stand events (B after)
 
       same : P after ≡ P before
-      same = same_provider digest_of value_of signature_of stream KeepsNothing NeverFails before.hub.service.directory after.hub.service.directory h.shown.keys
+      same = same_provider digest_of value_of signature_of before.hub.service.directory after.hub.service.directory h.shown.keys
 
       key : after.key ≡ before.key
       key = ap (λ (p : Parties R). p.key) h.others

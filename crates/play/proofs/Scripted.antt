@@ -13,7 +13,7 @@ use Rattle.textio.specs.Output.{WritesBeginning, WritesBut, WritesSome}
 use Rattle.book.specs.Keeps.{KeepsNothing, NeverFails}
 use Rattle.book.specs.Shows.{Provider, index_of}
 use Rattle.epochs.specs.DirectoryStates.{provider}
-use Rattle.epochs.proofs.Running.{same_provider}
+use Rattle.epochs.proofs.Binding.{same_provider}
 use Rattle.play.specs.Ends.{CannotRead, CannotWrite, Done, OutOfMemory, Plays}
 use Rattle.play.specs.Lines.{as_lines}
 use Rattle.play.specs.Parties.{AreAt, Parties}
@@ -263,7 +263,7 @@ module _ {R : Type 0} (digest_of : List ℕ → List ℕ) (value_of signature_of
     goes_further = record {
       stand = (line_played (index_of (P first)) g.stand plays.0).1;
       at = subst (λ (p : Provider). AreAt digest_of value_of signature_of stream accepted verified after (line_played (index_of p) g.stand plays.0).1) g.same plays.2.stands;
-      same = same_provider digest_of value_of signature_of stream KeepsNothing NeverFails now.hub.service.directory after.hub.service.directory plays.3 ∙ g.same;
+      same = same_provider digest_of value_of signature_of now.hub.service.directory after.hub.service.directory plays.3 ∙ g.same;
       so = one_more (index_of (P first)) begin place g.stand line plays.0 plays.1 input old left later new waits wrote grown g.so takes is_text grows;
     }
 
