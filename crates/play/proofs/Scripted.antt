@@ -10,7 +10,6 @@ use Rattle.textio.specs.declared.program_fault.ProgramFault.TheVariants as fault
 use Rattle.textio.specs.Faults.{IsDeviceFault}
 use Rattle.textio.specs.Lines.{lines_of}
 use Rattle.textio.specs.Output.{WritesBeginning, WritesBut, WritesSome}
-use Rattle.book.specs.Keeps.{KeepsNothing, NeverFails}
 use Rattle.book.specs.Shows.{Provider, index_of}
 use Rattle.epochs.specs.DirectoryStates.{provider}
 use Rattle.epochs.proofs.Binding.{same_provider}
