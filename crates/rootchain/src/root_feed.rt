@@ -40,8 +40,8 @@ enum Stage {
     Count,
     /// So many roots.
     Roots(usize),
-    /// So many roots, and of the first, whose signature is too long, so many bytes.
-    Overlong(usize, usize),
+    /// So many roots, and of the first, whose signature is too long, so many bytes that are missing.
+    Overlong { left: usize, missing: usize },
     /// Nothing more: bytes came that no list has there, or a root was refused.
     Failed,
 }
@@ -99,7 +99,7 @@ impl RootFeed {
         match self.stage {
             Stage::Count => MAX_ROOTS,
             Stage::Roots(left) => left,
-            Stage::Overlong(left, _) => left,
+            Stage::Overlong { left, .. } => left,
             Stage::Failed => 0,
         }
     }
@@ -173,7 +173,7 @@ fn least_len(stage: Stage, held: &[u8]) -> usize
             Ok(signature_len) => FIXED_LEN + signature_len,
             Err(_) => FIXED_LEN,
         },
-        Stage::Overlong(_, _) => 0,
+        Stage::Overlong { .. } => 0,
         Stage::Failed => 0,
     }
 }
@@ -188,7 +188,7 @@ fn advance<'a>(stage: &mut Stage, held: &mut SignedRootText, piece: &'a [u8]) ->
     match *stage {
         Stage::Failed => Next::Failed,
         Stage::Roots(left) => next_of(stage, left, held, piece),
-        Stage::Overlong(left, missing) => pass(stage, left, missing, piece),
+        Stage::Overlong { left, missing } => pass(stage, left, missing, piece),
         Stage::Count => {
             let rest = fill(held, COUNT_LEN, piece);
             match read_count(&mut Cursor::new(held.bytes())) {
@@ -208,7 +208,7 @@ fn advance<'a>(stage: &mut Stage, held: &mut SignedRootText, piece: &'a [u8]) ->
     }
 }
 
-/// The next of so many roots that are still to come.
+/// The next of so many roots that are still to come. Holds what is less than a root.
 fn next_of<'a>(
     stage: &mut Stage,
     left: usize,
@@ -228,22 +228,6 @@ fn next_of<'a>(
         *stage = Stage::Failed;
         return Next::Failed;
     }
-    first_of(stage, left, held, piece)
-}
-
-/// The first of so many roots in the bytes that are held and those of the piece. Holds what is less than a
-/// root.
-fn first_of<'a>(
-    stage: &mut Stage,
-    left: usize,
-    held: &mut SignedRootText,
-    piece: &'a [u8],
-) -> Next<'a>
-    requires some { 0 < left }
-    requires held { front held.old ≡ Part }
-    ensures front { IsFront left (held.old ++ piece.entry.now) result (held_of stage.new held.new) }
-    ensures form { HasSpelledRoot result }
-{
     // A piece of `FIXED_LEN` bytes has no whole root, since a signature has at least one byte.
     if held.bytes().is_empty() && FIXED_LEN < piece.len() {
         if let Ok(root) = SignedRoot::read_from(&mut Cursor::new(piece)) {
@@ -255,7 +239,7 @@ fn first_of<'a>(
     first_held(stage, left, held, piece)
 }
 
-/// `first_of` by way of the bytes that are held.
+/// The first of so many roots, by way of the bytes that are held.
 fn first_held<'a>(
     stage: &mut Stage,
     left: usize,
@@ -300,7 +284,10 @@ fn pass<'a>(stage: &mut Stage, left: usize, missing: usize, piece: &'a [u8]) -> 
     ensures form { HasSpelledRoot result }
 {
     if piece.len() < missing {
-        *stage = Stage::Overlong(left, missing - piece.len());
+        *stage = Stage::Overlong {
+            left,
+            missing: missing - piece.len(),
+        };
         return Next::Wait;
     }
     *stage = Stage::Failed;
