@@ -1,12 +1,13 @@
 -- The messages of sessions at a desk are a run of its directory.
-use Rattle.std.proofs.Common.{◌≡◌, ℕ, List, [], ◌∷◌, Option, Some, None, Ok, Err, refl, sym, ap, subst, ◌∙◌, inl, inr}
+use Rattle.std.proofs.Common.{◌≡◌, ℕ, List, [], ◌∷◌, Option, Some, None, Ok, Err, refl, sym, subst, ◌∙◌, inl, inr}
 use Rattle.rand_core.specs.Stream.{Stream}
 use Rattle.book.specs.declared.record.Record.{Record}
 use Rattle.book.specs.declared.reply.Reply.{Reply}
 use Rattle.commands.specs.Operations.{Operation}
-use Rattle.book.specs.Shows.{Provider, keyed_provider}
+use Rattle.book.specs.Shows.{Provider}
 use Rattle.book.specs.Turns.{Run}
 use Rattle.epochs.specs.DirectoryStates.{DirectoryState, book, provider, HasKeysOf}
+use Rattle.epochs.proofs.Binding.{same_provider}
 use Rattle.wire.specs.Streams.{Message, Whole, BadFrame}
 use Rattle.hub.specs.Desks.{command, TakesTurn, DeskState, DeskAnswers}
 use Rattle.hub.specs.DeskRuns.{IsTurnedAway, Reaches, ShowReplies}
@@ -19,13 +20,6 @@ module _ {R K : Type 0} (digest_of : List ℕ → List ℕ) (value_of signature_
   Shown before lines after = (commands : List Operation) × (replies : List Reply) × ShowReplies before.token lines commands replies
       × Run (provider digest_of value_of signature_of before.directory) kept failed (book stream before.directory) before.keeper commands replies (book stream after.directory) after.keeper
       × HasKeysOf before.directory after.directory × (after.token ≡ before.token)
-
-  abbrev provider_at : DirectoryState R → Provider
-  provider_at directory = provider digest_of value_of signature_of directory
-
-  same_provider : (before after : DirectoryState R) → HasKeysOf before after → provider_at after ≡ provider_at before
-  same_provider before after (values, key) =
-      ap (λ (k : List ℕ). keyed_provider digest_of value_of k signature_of after.signing_key) values ∙ ap (λ (k : List ℕ). keyed_provider digest_of value_of before.vuf_key signature_of k) key
 
   -- a message that does not reach the directory
   away : (before middle after : DeskState R K) (line : Line) (more : List Line) (code : ℕ) → IsTurnedAway before.token line.message code → line.reply ≡ refused_frame code → middle ≡ before
@@ -45,7 +39,7 @@ module _ {R K : Type 0} (digest_of : List ℕ → List ℕ) (value_of signature_
       book stream middle.directory,
       middle.keeper,
       turn,
-      subst (λ (p : Provider). Run p kept failed (book stream middle.directory) middle.keeper commands replies (book stream after.directory) after.keeper) (same_provider before.directory middle.directory keys) run,
+      subst (λ (p : Provider). Run p kept failed (book stream middle.directory) middle.keeper commands replies (book stream after.directory) after.keeper) (same_provider digest_of value_of signature_of before.directory middle.directory keys) run,
     ),
     (keys_after.0 ∙ keys.0, keys_after.1 ∙ keys.1),
     token_after ∙ token,
