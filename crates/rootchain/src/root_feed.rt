@@ -196,10 +196,8 @@ fn advance<'a>(stage: &mut Stage, held: &mut SignedRootText, piece: &'a [u8]) ->
                     *held = SignedRootText::new();
                     next_of(stage, count, held, rest)
                 }
-                Err(fault) => {
-                    if fault == Fault::Short {
-                        return Next::Wait;
-                    }
+                Err(Fault::Short) => Next::Wait,
+                Err(_) => {
                     *stage = Stage::Failed;
                     Next::Failed
                 }

@@ -19,27 +19,27 @@ returns-in-Ok-clause-tells c =
     let tells : TellsNext (Owes c.in-Ok.count []) c.fill-rest.result.now c.next_of-in-Ok.result _ = rw c.new-in-Ok.ensures at c.next_of-in-Ok.ensures.tells in
     rw c.in-Count.is (tells-same (Counts c.args.held.now) (Owes c.in-Ok.count []) _ _ c.next_of-in-Ok.result _ (counted-as _ _ _ _ fills short c.in-Ok.count c.read_count.new.cursor told) tells)
 
-pub returns-then-eq-clause-tells : goal.returns-then-eq-clause-tells
-returns-then-eq-clause-tells c =
+pub returns-in-Err-Short-clause-tells : goal.returns-in-Err-Short-clause-tells
+returns-in-Err-Short-clause-tells c =
     let none : read_root_count c.fill-rest.new.held ≡ Err Short = search rules in
     let short : length c.args.held.now < 2 = rw c.in-Count.is at c.requires in
     let fills : Fills c.args.held.now c.args.piece.now 2 c.fill-rest.new.held c.fill-rest.result.now = record { joined = c.fill-rest.ensures.joined; full = c.fill-rest.ensures.full; most = c.fill-rest.ensures.most; stays = c.fill-rest.ensures.stays } in
     rw c.in-Count.is ((count-waits _ _ _ _ fills short none).0, λ e. cc)
 
-pub returns-then-eq-clause-held : goal.returns-then-eq-clause-held
-returns-then-eq-clause-held c =
+pub returns-in-Err-Short-clause-held : goal.returns-in-Err-Short-clause-held
+returns-in-Err-Short-clause-held c =
     let none : read_root_count c.fill-rest.new.held ≡ Err Short = search rules in
     let short : length c.args.held.now < 2 = rw c.in-Count.is at c.requires in
     let fills : Fills c.args.held.now c.args.piece.now 2 c.fill-rest.new.held c.fill-rest.result.now = record { joined = c.fill-rest.ensures.joined; full = c.fill-rest.ensures.full; most = c.fill-rest.ensures.most; stays = c.fill-rest.ensures.stays } in
     rw c.in-Count.is (count-waits _ _ _ _ fills short none).1
 
-pub returns-else-eq-clause-tells : goal.returns-else-eq-clause-tells
-returns-else-eq-clause-tells c =
-    let none : read_root_count c.fill-rest.new.held ≡ Err c.in-Err.fault = search rules in
-    let other : c.in-Err.fault ≢ Short = search rules in
+pub returns-in-Err : goal.returns-in-Err
+returns-in-Err c =
+    let none : read_root_count c.fill-rest.new.held ≡ Err c.in-Err.field-0 = search rules in
+    let other : c.in-Err.field-0 ≢ Short = search rules in
     let short : length c.args.held.now < 2 = rw c.in-Count.is at c.requires in
     let fills : Fills c.args.held.now c.args.piece.now 2 c.fill-rest.new.held c.fill-rest.result.now = record { joined = c.fill-rest.ensures.joined; full = c.fill-rest.ensures.full; most = c.fill-rest.ensures.most; stays = c.fill-rest.ensures.stays } in
-    rw c.in-Count.is (count-fails _ _ _ _ fills short c.in-Err.fault other none, refl)
+    record { tells = rw c.in-Count.is (count-fails _ _ _ _ fills short c.in-Err.field-0 other none, refl); held = tt; form = tt }
 
 pub returns-in-Overlong-clause-tells : goal.returns-in-Overlong-clause-tells
 returns-in-Overlong-clause-tells c =

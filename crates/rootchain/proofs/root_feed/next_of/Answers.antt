@@ -17,12 +17,12 @@ whole c =
 pub returns-in-Ok-clause-tells : goal.returns-in-Ok-clause-tells
 returns-in-Ok-clause-tells c =
     let some : 0 < c.args.left = search rules in
-    front-tells c.args.left c.args.held.now c.args.piece.now _ _ some (whole c)
+    front-tells c.args.left c.args.held.now c.args.piece.now (next.Root c.in-Ok.root c.split_at.result.1) (Owes (c.args.left - 1) c.args.held.now) some (whole c)
 
 pub returns-in-Ok-clause-held : goal.returns-in-Ok-clause-held
 returns-in-Ok-clause-held c =
     let some : 0 < c.args.left = search rules in
-    front-held c.args.left _ _ _ some c.requires.0 (whole c)
+    front-held c.args.left (c.args.held.now ++ c.args.piece.now) (next.Root c.in-Ok.root c.split_at.result.1) (Owes (c.args.left - 1) c.args.held.now) some c.requires.0 (whole c)
 
 pub returns-clause-tells : goal.returns-clause-tells
 returns-clause-tells c =
