@@ -1,4 +1,4 @@
-ghost use Rattle.std.specs.Prelude.{◌≡◌, ◌≢◌, ◌≤◌, ◌∷◌, ℕ, List, true, false, take, length};
+ghost use Rattle.std.specs.Prelude.{◌≡◌, ◌≤◌, ◌∷◌, ℕ, List, true, false, take, length};
 ghost use Rattle.connections.specs.Histories.{Act, At, Ordered, GoesOn, Syncs, NoneWaits, On, Comes, Reads, IsOver, IsSilent, Takes, TakesNone, Fails, Closes};
 
 use crate::Ending;

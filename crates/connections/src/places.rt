@@ -1,6 +1,6 @@
 //! All places, one after another, in each part of a round.
 
-ghost use Rattle.std.specs.Prelude.{◌≡◌, ◌⊎◌, ◌↔◌, ◌+◌, ◌^◌, ◌<◌, ◌≤◌, ℕ, None, IsTrue, IfOk, get_or, length, ⊤};
+ghost use Rattle.std.specs.Prelude.{◌≡◌, ◌⊎◌, ◌↔◌, ◌+◌, ◌^◌, ◌<◌, ◌≤◌, ℕ, None, IsTrue, IfOk, get_or, length};
 ghost use Rattle.connections.specs.Fairness.{AreAttended, AreServed, AreUsed, NoneWaited};
 ghost use Rattle.connections.specs.Fitting.{AreFree, AreUnread, IsKnownBusy, KnowsPause, Tours, size_of};
 ghost use Rattle.connections.specs.Histories.{Hearing, Telling};

@@ -2,7 +2,7 @@
 //! its disk, and then tells each. A round that did anything is followed by one that does not wait: a place may
 //! have become free, and there may be more to read.
 
-ghost use Rattle.std.specs.Prelude.{◌≡◌, ◌≢◌, ◌⊎◌, ◌↔◌, ◌+◌, ◌^◌, ◌<◌, ◌≤◌, ℕ, [], ◌∷◌, None, IsTrue, get_or, length};
+ghost use Rattle.std.specs.Prelude.{◌≡◌, ◌≢◌, ◌⊎◌, ◌↔◌, ◌+◌, ◌^◌, ◌<◌, ◌≤◌, ℕ, [], None, IsTrue, get_or, length};
 ghost use Rattle.connections.specs.Endings.{AreInside, AreWithin, HasEnded, IsStopped, most_comers};
 ghost use Rattle.connections.specs.Fairness.{AreAttended, AreUsed, IsFair, IsWhole, NoneOrdered, NoneWaited};
 ghost use Rattle.connections.specs.Fitting.{AreFree, AreUnread, Has, IsKnownBusy, Knows, MayOrder, Tours, Turns, size_of};

@@ -1,6 +1,6 @@
 //! One place: what happens to the connection there, if there is one, in each part of a round.
 
-ghost use Rattle.std.specs.Prelude.{◌≡◌, ◌↔◌, ◌+◌, ◌-◌, ◌^◌, ◌<◌, ◌≤◌, ℕ, List, [], true, false, None, Some, IsTrue, IfOk, IfErr, ⊤};
+ghost use Rattle.std.specs.Prelude.{◌≡◌, ◌+◌, ◌-◌, ◌^◌, ◌<◌, ◌≤◌, ℕ, [], true, false, None, Some, IfOk, IfErr};
 ghost use Rattle.connections.specs.Rounds.{IsUnread, was_busy};
 ghost use Rattle.connections.specs.Fairness.{IsAttended, IsNotDue, IsServed};
 ghost use Rattle.connections.specs.Fitting.{Adds, Has, HasTried, IsKnownBusy, Judged, KeepsTalk, Knows, KnowsPauseAt, ServesPlace, Stays, came_by};

@@ -1,12 +1,12 @@
 //! What is kept of an open connection. What was read is heard part by part, as long as the output is not full;
 //! the rest waits, and nothing is read before it is heard.
 
-ghost use Rattle.std.specs.Prelude.{◌≡◌, ◌≢◌, ◌⊎◌, ◌↔◌, ◌<◌, ◌≤◌, ◌++◌, ◌||◌, [], ℕ, List, length, drop, IsTrue, IfOk, IfErr, OnOk, Some, true, false};
-ghost use Rattle.connections.specs.Rounds.{InRound, gives_turn, offers, was_busy};
+ghost use Rattle.std.specs.Prelude.{◌≡◌, ◌≢◌, ◌⊎◌, ◌↔◌, ◌<◌, ◌≤◌, ◌||◌, [], ℕ, length, drop, IsTrue, IfOk, IfErr, Some, true, false};
+ghost use Rattle.connections.specs.Rounds.{InRound, offers, was_busy};
 ghost use Rattle.connections.specs.Fitting.{Adds, Attends, Hearkens, HearsFrom, IsDone, IsIdleDue, IsJudged, IsStopDue, Judged, KeepsCourse, KeepsTalk, Knows, MayHearFrom};
 ghost use Rattle.connections.specs.Histories.{History, Telling, clock, course, stage, stopped};
 ghost use Rattle.connections.specs.Pauses.{until_due, until_idle, until_stopped};
-ghost use Rattle.connections.specs.Soundness.{Here, MayBeRead};
+ghost use Rattle.connections.specs.Soundness.{Here};
 ghost use Rattle.connections.specs.Telling.{lost_by};
 ghost use Rattle.connections.specs.declared.loop_limits.TheConstants.{FULL_OUTPUT};
 

@@ -6,7 +6,7 @@ use Rattle.book.specs.declared.reply.Reply.{Reply}
 use Rattle.commands.specs.Operations.{Operation}
 use Rattle.book.specs.Shows.{Provider}
 use Rattle.book.specs.Turns.{Run}
-use Rattle.epochs.specs.DirectoryStates.{DirectoryState, book, provider, HasKeysOf}
+use Rattle.epochs.specs.DirectoryStates.{book, provider, HasKeysOf}
 use Rattle.epochs.proofs.Binding.{same_provider}
 use Rattle.wire.specs.Streams.{Message, Whole, BadFrame}
 use Rattle.hub.specs.Desks.{command, TakesTurn, DeskState, DeskAnswers}

@@ -1,4 +1,4 @@
-ghost use Rattle.std.specs.Prelude.{◌≡◌, ◌≢◌, ◌↔◌, ◌++◌, length, Err, IfErr, None};
+ghost use Rattle.std.specs.Prelude.{◌≡◌, ◌≢◌, ◌↔◌, Err, IfErr, None};
 ghost use Rattle.items.specs.TreeOptions.{tree_values};
 ghost use Rattle.items.specs.Items.{placement_of};
 ghost use Rattle.textio.specs.Output.{Ends};

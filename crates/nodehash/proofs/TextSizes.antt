@@ -2,7 +2,7 @@
 use Rattle.std.proofs.Common.{◌≡◌, ℕ, ◌+◌, List, [], ◌∷◌, ◌++◌, length, length-append, refl, ap, ◌∙◌, arith}
 use Rattle.encoding.specs.Bits.{cut}
 use Rattle.encoding.proofs.Agreement.{length-cut}
-use Rattle.nodehash.specs.NodeTexts.{level_bytes, empty_bytes, leaf_bytes, interior_bytes, IsEmptyText, IsLeafText, IsInteriorText}
+use Rattle.nodehash.specs.NodeTexts.{level_bytes, IsEmptyText, IsLeafText, IsInteriorText}
 
 length-level : (level : ℕ) → length (level_bytes level) ≡ 4
 length-level level = refl

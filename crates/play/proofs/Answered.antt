@@ -10,7 +10,6 @@ use Rattle.commands.specs.Operations as ask
 use Rattle.wire.specs.Requests.{RequestContent, IsAsked}
 use Rattle.wire.specs.Requests as request
 use Rattle.wire.specs.Responses as response
-use Rattle.wire.specs.Responses.{ResponseContent}
 use Rattle.wire.specs.declared.response.TheConstants.{PROOF}
 use Rattle.hub.specs.Desks.{command, or_not_operator, reply_frame}
 use Rattle.book.specs.declared.reply.Reply.{Reply}

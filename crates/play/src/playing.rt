@@ -1,7 +1,7 @@
 // Lines are taken one by one and played, and what they print is kept together. It is written before a read that
 // may wait, once it is long, and at the end or at a fault.
 
-ghost use Rattle.std.specs.Prelude.{◌≡◌, [], IfErr, IfOk, IsNone, List, OnOk};
+ghost use Rattle.std.specs.Prelude.{◌≡◌, [], IfErr, IfOk, IsNone, OnOk};
 ghost use Rattle.std.specs.Io.KnownBytes.{IsAtEnd, Keeps};
 ghost use Rattle.textio.specs.Faults.{IsDeviceFault};
 ghost use Rattle.textio.specs.Lines.{lines_of};

@@ -8,7 +8,6 @@ ghost use Rattle.prefixtree.specs.declared.path.TheConstants.{MAX_SIBLINGS};
 ghost use Rattle.proofs.specs.Accepts.{Accepts, HasIndex};
 ghost use Rattle.proofs.specs.Comparisons.{texts_of, Answers, AreOpposed, Compares, HaveOneIndex, IsOneBindingOr};
 ghost use Rattle.proofs.specs.Replies.{AreSiblings};
-ghost use Rattle.proofs.specs.Views.{key_stated};
 ghost use Rattle.proofs.specs.WayTexts.{way_texts, AreFirstToDiffer};
 
 use crate::{Accepted, Refusal, accept};

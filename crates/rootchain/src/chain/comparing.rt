@@ -1,7 +1,7 @@
 //! Two chains of one key, compared from the top down over the epochs that both have. The last body that
 //! both have decides what is returned: below it, two bodies of one hash, a collision; above it, two roots
 //! that are evidence. Without an epoch that both have, the lower head and the upper first root decide.
-ghost use Rattle.std.specs.Prelude.{◌≡◌, ◌≢◌, ◌+◌, ◌≤◌, ◌<◌, ◌⊎◌, ◌↔◌, ℕ, MatchOption, IfSome, IfNone, All, length};
+ghost use Rattle.std.specs.Prelude.{◌≡◌, ◌≢◌, ◌+◌, ◌≤◌, ◌<◌, ◌⊎◌, ◌↔◌, ℕ, IfSome, IfNone, All, length};
 ghost use Rattle.rootchain.specs.Bodies.{body_bytes, IsSized};
 ghost use Rattle.rootchain.specs.Chains.{Ascend, IsChain, IsHead};
 ghost use Rattle.rootchain.specs.Comparisons.{told_by_place, AreAlikeAt, AreOneAt, ChainsAgree, CollisionHolds, ComparedHolds, EvidenceIs, IsCollided, IsCommon, IsCompared, IsComparedWithin, IsHashNeeded, IsOfBoth};
