@@ -11,6 +11,12 @@ from sessions import SIGNING_KEY, Client, RootFeed
 SUBJECTS, subject = subjects()
 
 
+def begin(q, first):
+    """A client that has this root begins a list."""
+    q.ask("client start", SIGNING_KEY, written(first))
+    q.ask("client feed")
+
+
 @subject("in a few lines: three Heads in one piece, and a list of roots in pieces")
 def of_few_lines(q, rng):
     q.ask("hub new", 1, ZERO32)
@@ -19,8 +25,7 @@ def of_few_lines(q, rng):
     q.ask("hub bytes", 1, b"")
     a, b, c = KEYED.pages([3, 7, 9])
     lets(q, a=a, b=b, c=c)
-    q.ask("client start", SIGNING_KEY, written(a))
-    q.ask("client feed")
+    begin(q, a)
     q.ask("client from", 100, roots(a, b, c))
     q.ask("client head")
     q.ask("client done")
@@ -34,10 +39,6 @@ def of_pieces(q, rng):
     size = len(written(a))
     q.let("list", whole)
 
-    def begin(client="client"):
-        q.ask(f"{client} start", SIGNING_KEY, written(a))
-        q.ask(f"{client} feed")
-
     def end(client="client"):
         q.ask(f"{client} head")
         q.ask(f"{client} done")
@@ -45,7 +46,7 @@ def of_pieces(q, rng):
     q.ask("client from", 1, whole)
     q.ask("client done")
     q.note("One byte a piece, and then one byte more.")
-    begin()
+    begin(q, a)
     q.ask("client from", 1, whole)
     end()
     q.ask("client from", 0, b"")
@@ -54,7 +55,7 @@ def of_pieces(q, rng):
     q.ask("client from", 0, b"")
     q.note("The last root has another signature.")
     forged = whole[:-1] + bytes([whole[-1] ^ 1])
-    begin()
+    begin(q, a)
     q.ask("client from", 1, forged)
     end()
     for piece in [b"", b"\0", whole]:
@@ -64,7 +65,7 @@ def of_pieces(q, rng):
     end()
     q.note("In pieces of other sizes.")
     for cut in [0, 2, 3, 64, 146, 147, 148, 149, size - 1, size, size + 1, size + 2, 404, 4096]:
-        begin()
+        begin(q, a)
         q.ask("client from", cut, whole)
         end()
         q.ask("client from", cut, whole[:1])
@@ -76,7 +77,7 @@ def of_pieces(q, rng):
         q.ask(f"{client} from", 100, roots(x, y))
         end(client)
     q.note("In two pieces: the roots that the first makes whole are taken.")
-    begin()
+    begin(q, a)
     for place in [0, 1, 2, 3, 147, 148, 149, 150, 151, size + 1, size + 2, size + 3, 2 * size + 1, 2 * size + 2, len(whole) - 1, len(whole)]:
         q.ask("client feed")
         q.ask("client from", 0, whole[:place])
@@ -86,19 +87,19 @@ def of_pieces(q, rng):
         q.ask("client start", SIGNING_KEY, written(a))
     q.note("Lists of no root, of 64 equal ones and of 65.")
     for data in [roots(), u16(64) + written(b) * 64, u16(65) + written(b) * 65, u16(65), u16(2**16 - 1), b"\1", b"\1\0"]:
-        begin()
+        begin(q, a)
         q.ask("client from", 0, data)
         end()
         q.ask("client from", 0, b"")
     q.note("A root is looked at once it is whole; a signature of no byte, or of more than 256, is none.")
     for data in [b"S" + written(b)[1:], written(b)[:1] + b"\2" + written(b)[2:], written(b)[:2] + u64(0) + written(b)[10:]]:
-        begin()
+        begin(q, a)
         q.ask("client from", 0, u16(2) + written(a) + data[:-1])
         q.ask("client from", 0, data[-1:])
         end()
     for length in [0, 1, 255, 256, 257, 2**16 - 1]:
         data = written(b)[:146] + u16(length) + bytes(length)
-        begin()
+        begin(q, a)
         for part in [u16(2) + written(a) + data[:147], data[147:148], data[148:-1], data[max(148, len(data) - 1) :]]:
             q.ask("client from", 0, part)
         end()
@@ -109,12 +110,12 @@ def of_pieces(q, rng):
         (c, b), (b, a, b, c, a), (b, KEYED.page(8, a)), (b, KEYED.page(9, b, signing_key=OTHER_KEY), c),
     ]:
         for cut in [1, 0]:
-            begin()
+            begin(q, a)
             q.ask("client from", cut, roots(*pages))
             end()
             q.ask("client from", cut, b"\0")
     q.note("A monitor passes a piece on.")
-    begin()
+    begin(q, a)
     q.ask("monitor from", 1, whole)
     q.ask("monitor new", b"a", "none")
     q.ask("monitor from", 7, whole[:-1])
@@ -160,10 +161,6 @@ def of_too_long_signatures(q, rng):
     a, b, c = KEYED.pages([3, 7, 9])
     lets(q, a=a, b=b, c=c)
 
-    def begin():
-        q.ask("client start", SIGNING_KEY, written(a))
-        q.ask("client feed")
-
     def take(cut, data):
         q.ask("client from", cut, data)
         q.ask("client head")
@@ -175,36 +172,36 @@ def of_too_long_signatures(q, rng):
             front = u16(len(before) + 2) + b"".join(written(page) for page in before)
             whole = front + bad
             for data in [whole, whole + written(c)]:
-                begin()
+                begin(q, a)
                 take(0, data)
                 q.ask("client from", 0, b"")
-            begin()
+            begin(q, a)
             for piece in [whole[:-1], b"", whole[-1:], whole[:1], b""]:
                 take(0, piece)
             q.note("As the last byte comes, others behind it are looked at no more.")
-            begin()
+            begin(q, a)
             take(0, whole[:-1])
             take(0, whole[-1:] + written(c))
             q.note("In pieces up to the length, behind it, and of other sizes.")
             for place in [len(front), len(front) + 147, len(front) + 148, len(front) + 149, len(front) + 404, len(front) + 405]:
-                begin()
+                begin(q, a)
                 for piece in [whole[:place], whole[place:-1], whole[-1:], whole[:1]]:
                     take(0, piece)
             for cut in [64, 404, 4096] + [1] * (length == 257):
                 for data in [whole[:-1], whole]:
-                    begin()
+                    begin(q, a)
                     take(cut, data)
                 q.ask("client from", cut, b"\0")
     q.note("The body is no body either; and the list ends with that root, or has no such root.")
     for data in [b"S" + written(b)[1:146], written(b)[:2] + u64(0) + written(b)[10:146], b"\xff" * 146]:
         bad = data + u16(300) + bytes(300)
         for count, pieces in [(2, [bad[:-1], bad[-1:]]), (1, [bad])]:
-            begin()
+            begin(q, a)
             q.ask("client from", 0, u16(count) + written(b))
             for piece in pieces:
                 take(0, piece)
     q.note("A monitor passes it on.")
-    begin()
+    begin(q, a)
     q.ask("monitor new", b"a", "none")
     bad = written(c)[:146] + u16(257) + bytes(257)
     for piece in [u16(2) + written(b) + bad[:-1], bad[-1:], b""]:
