@@ -25,25 +25,33 @@ pub(crate) type KeyedClients = Clients<Sha256Hash, KeyedVuf>;
 pub(crate) type SummedClients = Clients<SumHash, PlainVuf>;
 
 pub(crate) fn answer_keyed(case: &mut Case<'_>, clients: &mut KeyedClients) {
-    answer(case, &mut keyed(), clients);
+    match case.word() {
+        b"ways" => lists::ways(case),
+        b"room" => lists::room(case),
+        b"room-more" => lists::room_more(case),
+        b"room-whole" => lists::room_whole(case),
+        verb => answer(case, &mut keyed(), verb, clients),
+    }
 }
 
 pub(crate) fn answer_summed(case: &mut Case<'_>, clients: &mut SummedClients) {
-    answer(case, &mut summed(), clients);
+    let verb = case.word();
+    answer(case, &mut summed(), verb, clients);
 }
 
-fn answer<H, V>(case: &mut Case<'_>, by: &mut Functions<H, V>, clients: &mut Clients<H, V>)
+fn answer<H, V>(
+    case: &mut Case<'_>,
+    by: &mut Functions<H, V>,
+    verb: &[u8],
+    clients: &mut Clients<H, V>,
+)
 where
     H: NodeHash + Drop,
     V: VufCheck + Drop,
 {
-    match case.word() {
+    match verb {
         b"start" => start(case, by, &mut clients.client),
         b"any" => any(case, by),
-        b"ways" => lists::ways(case, by),
-        b"room" => lists::room(case, by),
-        b"room-more" => lists::room_more(case, by),
-        b"room-whole" => lists::room_whole(case, by),
         b"put-aside" => put_aside(case, clients),
         b"feed" => feeds::begin(case, &mut clients.feed),
         b"done" => feeds::done(case, &clients.feed),

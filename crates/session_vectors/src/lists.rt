@@ -2,13 +2,13 @@
 
 use crate::clients::{Kept, refuse};
 use crate::feeds::in_pieces;
-use crate::stand_ins::Functions;
+use crate::stand_ins::{Keyed, keyed};
 use client::{Client, Refusal};
 use encoding::Hash32;
-use nodehash::NodeHash;
+use nodehash::Sha256Hash;
 use questions::Case;
 use rootchain::RootFeed;
-use vrfiface::VufCheck;
+use vrfiface::KeyedVuf;
 
 /// How a list comes to a client.
 #[derive(Clone, Copy, Debug)]
@@ -21,263 +21,172 @@ enum Way {
     Two(usize),
 }
 
-/// The client that starts at a root, or none and the refusal.
-fn started<H, V>(
-    case: &mut Case<'_>,
-    by: &Functions<H, V>,
-    key: Hash32,
-    root: &[u8],
-) -> Option<Kept<H, V>>
-where
-    H: NodeHash + Drop,
-    V: VufCheck + Drop,
-{
-    match Client::start(case.alloc(), &by.verifier, key, root) {
-        Ok(client) => Some(client),
-        Err(why) => {
-            refuse(case, why);
-            None
+/// A client, and the functions under which it takes lists.
+#[derive(Drop)]
+struct Taker {
+    by: Keyed,
+    client: Kept<Sha256Hash, KeyedVuf>,
+}
+
+impl Taker {
+    /// The client that starts at a root, or none and the refusal.
+    fn start(case: &mut Case<'_>, key: Hash32, root: &[u8]) -> Option<Taker> {
+        let by = keyed();
+        match Client::start(case.alloc(), &by.verifier, key, root) {
+            Ok(client) => Some(Taker { by, client }),
+            Err(why) => {
+                refuse(case, why);
+                None
+            }
+        }
+    }
+
+    fn take_piece(&mut self, feed: &mut RootFeed, piece: &[u8]) -> Result<(), Refusal> {
+        self.client
+            .update_from(&mut self.by.hash, &self.by.verifier, feed, piece)
+    }
+
+    /// Takes a list, up to the first piece that is refused.
+    fn take(&mut self, feed: &mut RootFeed, way: Way, list: &[u8]) -> Result<(), Refusal> {
+        match way {
+            Way::Whole => self
+                .client
+                .update(&mut self.by.hash, &self.by.verifier, list),
+            Way::Pieces(size) => in_pieces(size, list, |piece| self.take_piece(feed, piece)),
+            Way::Two(place) => {
+                let (front, rest) = list.split_at(place.min(list.len()));
+                self.take_piece(feed, front)?;
+                self.take_piece(feed, rest)
+            }
+        }
+    }
+
+    /// Tells the head, and whether the list has come whole.
+    fn say_state(&self, case: &mut Case<'_>, feed: &RootFeed) {
+        case.say_bytes(self.client.chain().head().write().bytes());
+        case.say_truth(feed.done());
+    }
+
+    /// Tells what a call answered, and what it left. Returns whether it had memory.
+    fn tell(&self, case: &mut Case<'_>, feed: &RootFeed, taken: Result<(), Refusal>) -> bool {
+        let had_memory = !matches!(&taken, Err(Refusal::Memory));
+        match taken {
+            Ok(()) => case.say("ok"),
+            Err(why) => case.refuse(why.number(), why),
+        }
+        self.say_state(case, feed);
+        had_memory
+    }
+
+    /// Tells what a list or a piece comes to, once more where memory runs out for it.
+    fn ask_twice(&mut self, case: &mut Case<'_>, feed: &mut RootFeed, way: Way, list: &[u8]) {
+        self.say_state(case, feed);
+        let first = self.take(feed, way, list);
+        if self.tell(case, feed, first) {
+            return;
+        }
+        let second = self.take(feed, way, list);
+        if !self.tell(case, feed, second) {
+            case.lack_memory();
+        }
+    }
+
+    /// Tells whether the list has come whole, or what an empty piece is answered: the feed waits, or has failed.
+    fn say_end(&mut self, case: &mut Case<'_>, feed: &mut RootFeed) {
+        if feed.done() {
+            return case.say("done");
+        }
+        match self.take_piece(feed, &[]) {
+            Ok(()) => case.say("waits"),
+            Err(Refusal::Memory) => case.lack_memory(),
+            Err(_) => case.say("failed"),
+        }
+    }
+
+    /// Takes a list, and tells the answer, the epoch of the head then, and of pieces what the feed has come to.
+    fn tell_way(&mut self, case: &mut Case<'_>, way: Way, list: &[u8]) {
+        let mut feed = RootFeed::new();
+        match self.take(&mut feed, way, list) {
+            Ok(()) => case.say("ok"),
+            Err(Refusal::Memory) => case.lack_memory(),
+            Err(why) => case.say_shown(why.number()),
+        }
+        case.say_shown(self.client.chain().head().body.epoch);
+        if !matches!(way, Way::Whole) {
+            self.say_end(case, &mut feed);
         }
     }
 }
 
 /// `ways KEY ROOT LIST PLACE`: four clients start at the root. The list comes to one of them whole, and to the
 /// others in one piece, one byte a piece, and in two pieces, of which the first ends at the place.
-pub(crate) fn ways<H, V>(case: &mut Case<'_>, by: &mut Functions<H, V>)
-where
-    H: NodeHash + Drop,
-    V: VufCheck + Drop,
-{
+pub(crate) fn ways(case: &mut Case<'_>) {
     let key = case.hash();
     let root = case.bytes();
     let list = case.bytes();
     let place = case.number_to(list.len());
-    if case.is_spoiled() || started(case, by, key, root).is_none() {
+    if case.is_spoiled() {
         return;
     }
     let mut heads = Vec::new(case.alloc());
-    take(case, by, key, root, list, Way::Whole, &mut heads);
-    take(case, by, key, root, list, Way::Pieces(0), &mut heads);
-    take(case, by, key, root, list, Way::Pieces(1), &mut heads);
-    take(case, by, key, root, list, Way::Two(place), &mut heads);
+    for way in [Way::Whole, Way::Pieces(0), Way::Pieces(1), Way::Two(place)] {
+        let Some(mut taker) = Taker::start(case, key, root) else {
+            return;
+        };
+        taker.tell_way(case, way, list);
+        let head = taker.client.chain().head().write();
+        if heads.extend_from_slice(head.bytes()).is_err() {
+            case.lack_memory();
+        }
+    }
     case.say_bytes(&heads);
-}
-
-/// Tells what a client answers, and the epoch of its head then. Of `update_from`, tells also what the feed has
-/// come to. Appends the head.
-fn take<H, V>(
-    case: &mut Case<'_>,
-    by: &mut Functions<H, V>,
-    key: Hash32,
-    root: &[u8],
-    list: &[u8],
-    way: Way,
-    heads: &mut Vec<u8>,
-)
-where
-    H: NodeHash + Drop,
-    V: VufCheck + Drop,
-{
-    let Some(mut client) = started(case, by, key, root) else {
-        return;
-    };
-    let mut feed = RootFeed::new();
-    let taken = match way {
-        Way::Whole => client.update(&mut by.hash, &by.verifier, list),
-        Way::Pieces(size) => in_pieces(size, list, |piece| {
-            client.update_from(&mut by.hash, &by.verifier, &mut feed, piece)
-        }),
-        Way::Two(place) => in_two(by, &mut feed, &mut client, place, list),
-    };
-    say_number(case, taken);
-    case.say_shown(client.chain().head().body.epoch);
-    match way {
-        Way::Whole => {}
-        Way::Pieces(_) | Way::Two(_) => say_end(case, by, &mut feed, &mut client),
-    }
-    if heads
-        .extend_from_slice(client.chain().head().write().bytes())
-        .is_err()
-    {
-        case.lack_memory();
-    }
-}
-
-/// Hands a list to the client in two pieces, up to the first that is refused.
-fn in_two<H, V>(
-    by: &mut Functions<H, V>,
-    feed: &mut RootFeed,
-    client: &mut Kept<H, V>,
-    place: usize,
-    list: &[u8],
-) -> Result<(), Refusal>
-where
-    H: NodeHash + Drop,
-    V: VufCheck + Drop,
-{
-    let (front, rest) = list.split_at(place.min(list.len()));
-    client.update_from(&mut by.hash, &by.verifier, feed, front)?;
-    client.update_from(&mut by.hash, &by.verifier, feed, rest)
-}
-
-/// `ok`, or the number of the refusal.
-fn say_number(case: &mut Case<'_>, taken: Result<(), Refusal>) {
-    match taken {
-        Ok(()) => case.say("ok"),
-        Err(Refusal::Memory) => case.lack_memory(),
-        Err(why) => case.say_shown(why.number()),
-    }
-}
-
-/// Whether the list has come whole, or what an empty piece is answered: the feed waits, or has failed.
-fn say_end<H, V>(
-    case: &mut Case<'_>,
-    by: &mut Functions<H, V>,
-    feed: &mut RootFeed,
-    client: &mut Kept<H, V>,
-)
-where
-    H: NodeHash + Drop,
-    V: VufCheck + Drop,
-{
-    if feed.done() {
-        return case.say("done");
-    }
-    match client.update_from(&mut by.hash, &by.verifier, feed, &[]) {
-        Ok(()) => case.say("waits"),
-        Err(Refusal::Memory) => case.lack_memory(),
-        Err(_) => case.say("failed"),
-    }
 }
 
 /// `room KEY ROOT PIECE..`: the last piece of a list goes to a client, and those before it to another one. Where
 /// memory runs out for it, the client gets it once more.
-pub(crate) fn room<H, V>(case: &mut Case<'_>, by: &mut Functions<H, V>)
-where
-    H: NodeHash + Drop,
-    V: VufCheck + Drop,
-{
+pub(crate) fn room(case: &mut Case<'_>) {
     let key = case.hash();
     let root = case.bytes();
-    let Some(mut other) = started(case, by, key, root) else {
+    let Some(mut other) = Taker::start(case, key, root) else {
         return;
     };
-    let Some(mut client) = started(case, by, key, root) else {
+    let Some(mut taker) = Taker::start(case, key, root) else {
         return;
     };
     let mut feed = RootFeed::new();
     for _ in 1..case.left() {
-        let piece = case.bytes();
-        if let Err(Refusal::Memory) = other.update_from(
-            &mut by.hash,
-            &by.verifier,
-            &mut feed,
-            piece,
-        ) {
+        if let Err(Refusal::Memory) = other.take_piece(&mut feed, case.bytes()) {
             return case.lack_memory();
         }
     }
-    ask_twice(case, by, &mut client, &mut feed);
+    let last = case.bytes();
+    taker.ask_twice(case, &mut feed, Way::Pieces(0), last);
 }
 
 /// `room-more KEY ROOT LIST PIECE`: a client takes a list in one piece, and then the first piece of another one.
 /// Where memory runs out for that, it gets it once more.
-pub(crate) fn room_more<H, V>(case: &mut Case<'_>, by: &mut Functions<H, V>)
-where
-    H: NodeHash + Drop,
-    V: VufCheck + Drop,
-{
-    let key = case.hash();
-    let root = case.bytes();
-    let list = case.bytes();
-    let Some(mut client) = started(case, by, key, root) else {
+pub(crate) fn room_more(case: &mut Case<'_>) {
+    let Some((mut taker, list)) = begin(case) else {
         return;
     };
-    let mut before = RootFeed::new();
-    if let Err(Refusal::Memory) = client.update_from(
-        &mut by.hash,
-        &by.verifier,
-        &mut before,
-        list,
-    ) {
+    if let Err(Refusal::Memory) = taker.take_piece(&mut RootFeed::new(), list) {
         return case.lack_memory();
     }
-    ask_twice(case, by, &mut client, &mut RootFeed::new());
-}
-
-/// Tells what the next word, as a piece, comes to, once more where memory runs out for it.
-fn ask_twice<H, V>(
-    case: &mut Case<'_>,
-    by: &mut Functions<H, V>,
-    client: &mut Kept<H, V>,
-    feed: &mut RootFeed,
-)
-where
-    H: NodeHash + Drop,
-    V: VufCheck + Drop,
-{
     let piece = case.bytes();
-    say_state(case, client, feed);
-    let first = client.update_from(&mut by.hash, &by.verifier, feed, piece);
-    if tell(case, first, client, feed) {
-        return;
-    }
-    let second = client.update_from(&mut by.hash, &by.verifier, feed, piece);
-    if !tell(case, second, client, feed) {
-        case.lack_memory();
-    }
+    taker.ask_twice(case, &mut RootFeed::new(), Way::Pieces(0), piece);
 }
 
 /// `room-whole KEY ROOT LIST`: the list goes to a client whole, once more where memory runs out.
-pub(crate) fn room_whole<H, V>(case: &mut Case<'_>, by: &mut Functions<H, V>)
-where
-    H: NodeHash + Drop,
-    V: VufCheck + Drop,
-{
+pub(crate) fn room_whole(case: &mut Case<'_>) {
+    if let Some((mut taker, list)) = begin(case) {
+        taker.ask_twice(case, &mut RootFeed::new(), Way::Whole, list);
+    }
+}
+
+/// The client that starts at `KEY ROOT`, and the list in the next word.
+fn begin<'a>(case: &mut Case<'a>) -> Option<(Taker, &'a [u8])> {
     let key = case.hash();
     let root = case.bytes();
     let list = case.bytes();
-    let Some(mut client) = started(case, by, key, root) else {
-        return;
-    };
-    let feed = RootFeed::new();
-    say_state(case, &client, &feed);
-    let first = client.update(&mut by.hash, &by.verifier, list);
-    if tell(case, first, &client, &feed) {
-        return;
-    }
-    let second = client.update(&mut by.hash, &by.verifier, list);
-    if !tell(case, second, &client, &feed) {
-        case.lack_memory();
-    }
-}
-
-/// The head, and whether the list has come whole.
-fn say_state<H, V>(case: &mut Case<'_>, client: &Kept<H, V>, feed: &RootFeed)
-where
-    H: NodeHash + Drop,
-    V: VufCheck + Drop,
-{
-    case.say_bytes(client.chain().head().write().bytes());
-    case.say_truth(feed.done());
-}
-
-/// Tells what a call answered, and what it left. Returns whether it had memory.
-fn tell<H, V>(
-    case: &mut Case<'_>,
-    done: Result<(), Refusal>,
-    client: &Kept<H, V>,
-    feed: &RootFeed,
-) -> bool
-where
-    H: NodeHash + Drop,
-    V: VufCheck + Drop,
-{
-    let had_memory = !matches!(&done, Err(Refusal::Memory));
-    match done {
-        Ok(()) => case.say("ok"),
-        Err(why) => case.refuse(why.number(), why),
-    }
-    say_state(case, client, feed);
-    had_memory
+    Some((Taker::start(case, key, root)?, list))
 }
