@@ -12,7 +12,7 @@ SUBJECTS, subject = subjects()
 
 
 def begin(q, first):
-    """A client that has this root begins a list."""
+    """A client that starts at this root begins a list."""
     q.ask("client start", SIGNING_KEY, written(first))
     q.ask("client feed")
 
@@ -142,8 +142,7 @@ def of_longest_lists(q, rng):
     more = u16(65) + most[2:] + written(pages[65])
     for data in [most, u16(64) + written(pages[0]) * 64, most + b"\0", forged, roots(*pages[1:64], fork), more, u16(65)]:
         for cut in [0, 4096, 64, 1]:
-            q.ask("client start", SIGNING_KEY, written(pages[0]))
-            q.ask("client feed")
+            begin(q, pages[0])
             q.ask("client from", cut, data)
             q.ask("client head")
             q.ask("client done")
@@ -248,6 +247,7 @@ def of_altered_lists(q, rng):
     words = "01*32 $list/2/182"
     for line in ["ways", f"ways {words} 0000 3", "room", f"room {words}", f"room-more {words} -", f"room-whole {words}"]:
         q.lines.append(f"client {line}")
+    q.lines.append(f"client-sum ways {words} 0000 3")
 
 
 def new_client(start):

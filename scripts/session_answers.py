@@ -1,8 +1,9 @@
 """The answers of the program `session_vectors` by the reference model.
 
 Words and answers are those of answers.py; directories and hubs of `run` and `hub new` have the keys of a script,
-and the token 04 32 times. A subject that ends in `-sum` has the same verbs by the sum of bytes,
-where the value of a name is the name. A verb on a value that is not there yet is `bad question`.
+and the token 04 32 times. A subject that ends in `-sum` has the same verbs by the sum of bytes, where the value of a
+name is the name; only the verbs on clients of their own are not there. A verb on a value that is not there yet is
+`bad question`.
 """
 
 from answers import (
@@ -340,6 +341,8 @@ class SessionAnswers(Lines):
 
     def started(self, w):
         """What starts clients of their own at `KEY ROOT`."""
+        if self.values is self.summed:
+            raise BadQuestion
         key, root = w.hash(), w.bytes()
         return lambda: Client(key, root, self.values.digest, self.values.vuf)
 

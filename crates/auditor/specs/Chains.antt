@@ -1,19 +1,17 @@
 -- The chains that an auditor holds, each at the public key of its provider.
 use Rattle.std.specs.Prelude.{◌≡◌, ◌≢◌, ℕ, List, Option, Some, All}
-use Rattle.std.specs.BTreeMap.{is_at}
 use Rattle.std.specs.List.{AllByRecursion}
-use Rattle.std.specs.Map.{lookup}
+use Rattle.encoding.specs.Maps.{Map, at}
 use Rattle.rootchain.specs.Chains.{KeyedRoots}
 use Rattle.rootchain.specs.SignedRoots.{IsSignedRoot}
-use Rattle.encoding.specs.Bytes.{bytes_cmp}
 
 -- keys and their chains, in order of the keys' bytes
 abbrev pub Chains : Type 0
-Chains = List (List ℕ × KeyedRoots)
+Chains = Map KeyedRoots
 
 -- the chain of a provider, if there is one
 abbrev pub chain_of : Chains → List ℕ → Option KeyedRoots
-chain_of chains key = lookup (is_at (bytes_cmp key)) chains
+chain_of chains key = at chains key
 
 -- this chain is now that of the provider, and those of all others are as before
 pub record NowHas (before : Chains) (key : List ℕ) (chain : KeyedRoots) (after : Chains) : Type 0 where

@@ -1,9 +1,10 @@
 -- What comes of a list of roots in pieces: each root is taken once it is whole (after CONIKS, section 4).
-use Rattle.std.specs.Prelude.{◌≡◌, ◌≢◌, ℕ, List, [], ◌∷◌, Result, Ok, Err}
+use Rattle.std.specs.Prelude.{◌≡◌, ◌≢◌, ℕ, List, [], ◌∷◌, map, Result, Ok, Err}
+use Rattle.encoding.specs.Bytes.{joined}
 use Rattle.rootchain.specs.Chains.{KeyedRoots}
 use Rattle.rootchain.specs.RootFeeds.{FeedState, Counts}
 use Rattle.rootchain.specs.RootLists.{SpellsRoots}
-use Rattle.rootchain.specs.TakingPieces.{first_refusal, joined, TakesPiece, TakesUpTo}
+use Rattle.rootchain.specs.TakingPieces.{first_refusal, TakesPiece, TakesPieces, TakesUpTo}
 use Rattle.rootchain.specs.declared.signed_root.SignedRoot.{SignedRoot}
 use Rattle.rootchain.specs.declared.piece_refusal.PieceRefusal.{PieceRefusal}
 use Rattle.rootchain.specs.declared.piece_refusal.PieceRefusal.TheVariants as piece
@@ -18,6 +19,11 @@ abbrev pub piece_told_as : PieceRefusal → Refusal
 piece_told_as piece.Malformed = Root root.Malformed
 piece_told_as (piece.Root why) = told_as why
 piece_told_as piece.Memory = Memory
+
+-- and its answer
+abbrev pub answer_told_as : Result Unit PieceRefusal → Result Unit Refusal
+answer_told_as (Ok done) = Ok done
+answer_told_as (Err why) = Err (piece_told_as why)
 
 abbrev pub with_chain : Client → KeyedRoots → Client
 with_chain client chain = record client { chain = chain }
@@ -49,3 +55,10 @@ module _ (hash : List ℕ → List ℕ) (verified : List ℕ → List ℕ → Li
   UpdatesComeToOne = (before : Client) (pieces : List (List ℕ)) (answers : List (Result Unit Refusal)) (after : Client) (held' : FeedState)
       → UpdatesInPieces before (Counts []) pieces answers after held'
       → UpdatesFrom before (Counts []) (joined pieces) (first_refusal answers) after held' × (first_refusal answers ≢ Err Memory)
+
+  -- Pieces come to what they come to for the client's chain, with the client's numbers for its refusals, so that
+  -- each law on these holds.
+  abbrev pub UpdatesAsItsChain : Type 0
+  UpdatesAsItsChain = (before : Client) (held : FeedState) (pieces : List (List ℕ)) (answers : List (Result Unit Refusal)) (after : Client) (held' : FeedState)
+      → UpdatesInPieces before held pieces answers after held'
+      → (own : List (Result Unit PieceRefusal)) × (answers ≡ map answer_told_as own) × TakesPieces hash verified before.chain held pieces own after.chain held' × (after ≡ with_chain before after.chain)

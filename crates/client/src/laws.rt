@@ -1,6 +1,6 @@
 ghost use Rattle.client.specs.Agreements.{IsReconciled};
 ghost use Rattle.client.specs.Clients.{Client};
-ghost use Rattle.client.specs.UpdatingFrom.{UpdatesComeToOne, UpdatesMayBeCut};
+ghost use Rattle.client.specs.UpdatingFrom.{UpdatesAsItsChain, UpdatesComeToOne, UpdatesMayBeCut};
 ghost use Rattle.client.specs.declared.outcome.Outcome.TheVariants.{TwoValues};
 
 use nodehash::NodeHash;
@@ -22,4 +22,10 @@ pub fn cuts_of_a_list_do_not_matter<H: NodeHash, S: Verifier>()
 /// runs out: to the same first refusal, client and feed.
 pub fn pieces_come_to_one<H: NodeHash, S: Verifier>()
     ensures { UpdatesComeToOne H.digest_of S.verified }
+{}
+
+/// Pieces for `Client::update_from` come to what they come to for the client's chain, with the client's numbers for
+/// its refusals: so the laws of `rootchain` on pieces hold for it.
+pub fn pieces_come_to_the_chain<H: NodeHash, S: Verifier>()
+    ensures { UpdatesAsItsChain H.digest_of S.verified }
 {}

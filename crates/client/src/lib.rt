@@ -28,6 +28,9 @@ mod roots;
 pub use client::Client;
 pub use client_refusal::{Refusal, RootRefusal};
 pub use due::Due;
-pub use laws::{cuts_of_a_list_do_not_matter, pieces_come_to_one, two_values_are_never_told};
+pub use laws::{
+    cuts_of_a_list_do_not_matter, pieces_come_to_one, pieces_come_to_the_chain,
+    two_values_are_never_told,
+};
 pub use outcome::Outcome;
 pub use reconciling::reconcile;

@@ -7,7 +7,7 @@ use Rattle.std.specs.Prelude.{◌==◌, is_some, nat_le}
 use Rattle.std.specs.Option.{option_map}
 use Rattle.std.specs.Ordering.{nat_cmp}
 use Rattle.std.specs.BTreeMap.{is_at}
-use Rattle.rootchain.specs.TakingPieces.{joined}
+use Rattle.encoding.specs.Bytes.{joined}
 use Rattle.wire.specs.Frames.{Frame}
 use Rattle.wire.specs.Streams.{Remainder, Message, Rest, messages, with_more}
 use Rattle.wire.proofs.Streams.{with_more-append}

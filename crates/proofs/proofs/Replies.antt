@@ -5,7 +5,7 @@ use Rattle.std.specs.Simd.{first_chunks}
 use Rattle.std.proofs.lemmas.Bool.{and_parts, leb-true, le-leb, ne_eqb}
 use Rattle.encoding.specs.declared.fault.Fault.{Fault}
 use Rattle.encoding.specs.declared.fault.Fault.TheVariants.{OutOfRange}
-use Rattle.encoding.specs.Bytes.{HasBytes, IsBytes, Is32Bytes}
+use Rattle.encoding.specs.Bytes.{HasBytes, IsBytes, Is32Bytes, joined}
 use Rattle.encoding.specs.Endian.{big_bytes}
 use Rattle.encoding.specs.Fields.{IsField}
 use Rattle.encoding.specs.Forms.{counted_bytes}
@@ -15,7 +15,7 @@ use Rattle.encoding.proofs.Fields.{whole-read, whole-refused, allowed_field, byt
 use Rattle.encoding.proofs.FieldsOf.{both}
 use Rattle.rootchain.specs.declared.body.Body.{Body}
 use Rattle.rootchain.specs.Readable.{body_field}
-use Rattle.proofs.specs.Replies.{End, Present, Empty, Other, Reply, reply_end_bytes, end_kind, end_parts, joined_bytes, reply_bytes, sibling_bytes, AreSiblings, IsEnd, IsReply, SpellsReply}
+use Rattle.proofs.specs.Replies.{End, Present, Empty, Other, Reply, reply_end_bytes, end_kind, end_parts, reply_bytes, sibling_bytes, AreSiblings, IsEnd, IsReply, SpellsReply}
 use Rattle.proofs.specs.Refusals.{BeginsWithReply}
 use Rattle.proofs.specs.Reading.{read_end, read_end_of, read_other, read_present, read_reply, read_siblings, reply_of}
 use Rattle.proofs.proofs.Chunks.{chunks-hashes, chunks-joined, joined-chunks, joined-hashes, length-chunks}
@@ -141,19 +141,19 @@ end_field =
 -- ---- siblings
 
 abbrev AreJoined : ℕ → List (List ℕ) → Type 0
-AreJoined count hashes = HasBytes (32 * count) (joined_bytes hashes) × (first_chunks 32 count (joined_bytes hashes) ≡ hashes)
+AreJoined count hashes = HasBytes (32 * count) (joined hashes) × (first_chunks 32 count (joined hashes) ≡ hashes)
 
 -- so many hashes
 abbrev AreCounted : ℕ → List (List ℕ) → Type 0
 AreCounted count hashes = AllByRecursion Is32Bytes hashes × (length hashes ≡ count)
 
-hashes_field : (count : ℕ) → IsField (read_as (first_chunks 32 count) (read_bytes (32 * count))) joined_bytes (AreCounted count)
+hashes_field : (count : ℕ) → IsField (read_as (first_chunks 32 count) (read_bytes (32 * count))) joined (AreCounted count)
 hashes_field count =
-    allowed_field _ joined_bytes (AreJoined count) (AreCounted count) to back
-    (renamed_field (first_chunks 32 count) joined_bytes (read_bytes (32 * count)) (λ bytes. bytes) (HasBytes (32 * count)) (λ bytes h. joined-chunks count bytes h.0) (bytes_field (32 * count)))
+    allowed_field _ joined (AreJoined count) (AreCounted count) to back
+    (renamed_field (first_chunks 32 count) joined (read_bytes (32 * count)) (λ bytes. bytes) (HasBytes (32 * count)) (λ bytes h. joined-chunks count bytes h.0) (bytes_field (32 * count)))
   where
     to : (hashes : List (List ℕ)) → AreJoined count hashes → AreCounted count hashes
-    to hashes h = subst (AreCounted count) h.1 (chunks-hashes count (joined_bytes hashes) h.0, length-chunks count (joined_bytes hashes))
+    to hashes h = subst (AreCounted count) h.1 (chunks-hashes count (joined hashes) h.0, length-chunks count (joined hashes))
 
     back : (hashes : List (List ℕ)) → AreCounted count hashes → AreJoined count hashes
     back hashes h = subst (λ (n : ℕ). AreJoined n hashes) h.1 (joined-hashes hashes h.0, chunks-joined hashes h.0)
@@ -167,7 +167,7 @@ siblings_field =
     allowed_field _ sibling_bytes (λ siblings. IsCount (length siblings) × AllByRecursion Is32Bytes siblings) AreSiblings
     (λ siblings h. (few (length siblings) h.0.1, h.1))
     (λ siblings h. ((omega (arith, h.0), rw (le-leb 0 (length siblings) (omega arith), le-leb (length siblings) 256 h.0) refl), h.1))
-    (then_field length (read_where (is_within 0 256) (read_number 2)) _ (big_bytes 2) joined_bytes IsCount (AllByRecursion Is32Bytes)
+    (then_field length (read_where (is_within 0 256) (read_number 2)) _ (big_bytes 2) joined IsCount (AllByRecursion Is32Bytes)
     (tested_field (is_within 0 256) (read_number 2) (big_bytes 2) (λ n. n < 256 ^ 2) (numbers_field 2))
     (λ count _. hashes_field count))
   where

@@ -1,8 +1,8 @@
 -- What a reply to a look-up says, and its one spelling (after CONIKS, sections 3 and 4; the bytes are this
 -- directory's own).
 use Rattle.std.specs.Prelude.{◌≡◌, ℕ, ◌≤◌, List, [], ◌∷◌, ◌++◌, length, ⊤}
-use Rattle.std.specs.List.{flat_map, AllByRecursion}
-use Rattle.encoding.specs.Bytes.{Is32Bytes}
+use Rattle.std.specs.List.{AllByRecursion}
+use Rattle.encoding.specs.Bytes.{Is32Bytes, joined}
 use Rattle.encoding.specs.Endian.{big_bytes}
 use Rattle.encoding.specs.Forms.{counted_bytes}
 use Rattle.encoding.specs.Limits.{IsKeyData, IsSmall}
@@ -40,13 +40,9 @@ end_parts (Other index commitment) = index ++ commitment
 abbrev pub reply_end_bytes : End → List ℕ
 reply_end_bytes end = (end_kind end ∷ []) ++ end_parts end
 
--- the bytes of all of them, one after the other
-abbrev pub joined_bytes : List (List ℕ) → List ℕ
-joined_bytes = flat_map (λ bytes. bytes)
-
 -- their number in two bytes, then their bytes
 abbrev pub sibling_bytes : List (List ℕ) → List ℕ
-sibling_bytes siblings = big_bytes 2 (length siblings) ++ joined_bytes siblings
+sibling_bytes siblings = big_bytes 2 (length siblings) ++ joined siblings
 
 -- the body, the value behind its length, the end, and the number of the siblings
 abbrev pub front_bytes : Body → List ℕ → End → ℕ → List ℕ

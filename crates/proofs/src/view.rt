@@ -2,12 +2,13 @@
 //! where the value, the end of the way and the siblings lie: it copies none of these, and the calls return
 //! them as they lie. Only their form is tested here; whether they fit together is for `checking` to say.
 ghost use Rattle.std.specs.Prelude.{◌≡◌};
+ghost use Rattle.encoding.specs.Bytes.{joined};
 ghost use Rattle.encoding.specs.Limits.{IsKeyData};
 ghost use Rattle.encoding.specs.Reading.{Gives};
 ghost use Rattle.proofs.specs.Accepts.{stated};
 ghost use Rattle.proofs.specs.Reading.{read_end, read_reply, read_siblings};
 ghost use Rattle.proofs.specs.Refusals.{ReadsReply};
-ghost use Rattle.proofs.specs.Replies.{joined_bytes, IsEnd, IsReply};
+ghost use Rattle.proofs.specs.Replies.{IsEnd, IsReply};
 ghost use Rattle.proofs.specs.Views.{end_seen, key_stated, reply_seen};
 
 use crate::kind_bytes::{EMPTY, OTHER, PRESENT};
@@ -110,7 +111,7 @@ impl<'a> ReplyView<'a> {
 
     /// The siblings from the root down, 32 bytes each, joined.
     pub fn siblings(&self) -> &'a [u8]
-        ensures { result.now ≡ joined_bytes self.now.siblings }
+        ensures { result.now ≡ joined self.now.siblings }
     {
         self.parts.siblings.as_flattened()
     }

@@ -1,17 +1,19 @@
 -- Where the bytes of a list are cut does not matter: a feed tells the roots that the list has.
-use Rattle.std.proofs.Common.{◌≡◌, ◌≢◌, ◌⊎◌, ℕ, zero, suc, ◌+◌, ◌-◌, ◌^◌, ◌<◌, ◌≤◌, Bool, true, false, cond, leb, ltb, List, [], ◌∷◌, ◌++◌, length, take, drop, Result, Ok, Err, refl, sym, ap, subst, ◌∙◌, append_assoc, length-append, inl, inr, arith}
+use Rattle.std.proofs.Common.{◌≡◌, ◌≢◌, ◌⊎◌, ℕ, zero, suc, ◌+◌, ◌-◌, ◌*◌, ◌^◌, ◌<◌, ◌≤◌, Bool, true, false, cond, leb, ltb, List, [], ◌∷◌, ◌++◌, length, take, drop, Result, Ok, Err, refl, sym, ap, subst, ◌∙◌, append_assoc, length-append, inl, inr, arith}
 use Rattle.std.proofs.lemmas.Bool.{and_parts, cases_lt, le-leb, leb-true, ltb-false, ltb-true, le-ltb, lt-ltb}
-use Rattle.std.proofs.lemmas.List.{append-nil, take_at, drop_at, take-append-le, drop-append-le, length-drop}
+use Rattle.std.proofs.lemmas.List.{append-nil, take_at, drop_at, take-append-le, drop-append-le, length-drop, take-append-drop}
 use Rattle.std.specs.Prelude.{nat_lt, if◌then◌else◌}
 use Rattle.std.specs.List.{flat_map, AllByRecursion}
 use Rattle.byteorder.specs.Endian.{big_bytes, big_number}
 use Rattle.byteorder.specs.Numbers.{length-bytes_high_first}
 use Rattle.encoding.specs.declared.fault.Fault.{Fault}
-use Rattle.encoding.specs.declared.fault.Fault.TheVariants.{Short, OutOfRange}
-use Rattle.encoding.specs.Bytes.{Is32Bytes}
+use Rattle.encoding.specs.declared.fault.Fault.TheVariants.{Short, Trailing, OutOfRange}
+use Rattle.encoding.specs.Bytes.{Is32Bytes, IsBytes}
+use Rattle.encoding.specs.Fields.{Begins}
 use Rattle.encoding.specs.Forms.{counted_bytes}
 use Rattle.encoding.specs.Reading.{◌>>=◌, is_within, read_bytes, read_number, whole_of, Reading}
-use Rattle.encoding.proofs.Fields.{bind_ok, numbers_field, ok_is, short_ok}
+use Rattle.encoding.proofs.ByteLists.{IsBytes-back, IsBytes-take}
+use Rattle.encoding.proofs.Fields.{bind_ok, numbers_field, ok_is, short_ok, whole-read}
 use Rattle.rootchain.specs.declared.body.Body.{Body}
 use Rattle.rootchain.specs.declared.signed_root.SignedRoot.{SignedRoot}
 use Rattle.rootchain.specs.declared.root_feed.Next.{Next}
@@ -24,6 +26,7 @@ use Rattle.rootchain.specs.RootLists.{read_root_count, SpellsRoots}
 use Rattle.rootchain.specs.SignedRoots.{read_signed_root, signed_root_bytes, IsSignedRoot}
 use Rattle.rootchain.specs.RootFeeds.{front, front_read, front_sized, held_bytes, least_len, least_root_len, passed, read_signature_len, told, told_by, told_counted, told_from, too_long, Front, FeedState, Bad, Counts, Done, Failed, MayBeHeld, Overlong, Owes, Part, TooLong, Whole}
 use Rattle.rootchain.specs.Readable.{signed_root_field}
+use Rattle.rootchain.specs.TakingPieces.{HasWholeRoots}
 use Rattle.rootchain.proofs.RootLists.{count_field}
 
 -- ---- what was read is read also where more bytes follow
@@ -618,3 +621,257 @@ pub passed-held : (left missing : ℕ) (piece : List ℕ) (next : Next) (stage :
 passed-held left missing piece (next.Root root rest) stage kept few tells = absurd tells
 passed-held left missing piece next.Wait stage kept few tells = subst MayBeHeld (sym (ap (λ (s : Stage). held_of s kept) tells.1)) (few, omega (arith, tells.0))
 passed-held left missing piece next.Failed stage kept few tells = subst MayBeHeld (sym (ap (λ (s : Stage). held_of s kept) tells.1)) tt
+
+-- ---- what is told is spelled
+
+len_below : (bytes : List ℕ) (size : ℕ) (rest : List ℕ) → IsBytes bytes → read_signature_len bytes ≡ Ok (size, rest) → size < 256 ^ 2
+unfolding read_signature_len
+len_below bytes size rest small e =
+    let u = bind_ok (read_bytes 146 bytes) (λ k. read_number 2 k.1) (size, rest) e in
+    let body = bytes_long 146 bytes u.0 u.1 in
+    let left : drop 146 bytes ≡ u.0.1 = sym (ap (λ (z : List ℕ × List ℕ). z.1) body.1) in
+    let bytes_left : IsBytes u.0.1 = subst IsBytes left (IsBytes-back (take 146 bytes) (drop 146 bytes) (rw (take-append-drop 146 bytes) small)) in
+    ((numbers_field 2).spelled u.0.1 (size, rest) bytes_left u.2).1
+
+whole_is : (root found : SignedRoot) (rest left : List ℕ) → Whole found left ≡ Whole root rest → (found ≡ root) × (left ≡ rest)
+whole_is root found rest left e = (ap first e, ap after e)
+  where
+    first : Front → SignedRoot
+    first (Whole one more) = one
+    first Part = root
+    first (TooLong missing) = root
+    first Bad = root
+
+    after : Front → List ℕ
+    after (Whole one more) = more
+    after Part = rest
+    after (TooLong missing) = rest
+    after Bad = rest
+
+read_is : {A : Type 0} (reading : Reading A) (x : A) → whole_of reading ≡ Ok x → reading ≡ Ok (x, [])
+read_is {A} (Ok (y, [])) x e = ap (λ (z : A). Ok (z, [])) (ok_is y x e)
+read_is {A} (Ok (y, byte ∷ rest)) x e = absurd cc
+read_is {A} (Err fault) x e = absurd cc
+
+-- what stands first is a root's spelling, and the bytes after it
+front-is : (bytes : List ℕ) (root : SignedRoot) (rest : List ℕ) → IsBytes bytes → front bytes ≡ Whole root rest
+    → (bytes ≡ signed_root_bytes root ++ rest) × IsSignedRoot root
+front-is bytes root rest small e = by_len (read_signature_len bytes) refl
+  where
+    Found : Type 0
+    Found = (bytes ≡ signed_root_bytes root ++ rest) × IsSignedRoot root
+
+    by_read : (size : ℕ) (r : Result SignedRoot Fault) → whole_of (read_signed_root (take (148 + size) bytes)) ≡ r → front_read r (drop (148 + size) bytes) ≡ Whole root rest → Found
+    by_read size (Err fault) read is = absurd cc
+    by_read size (Ok found) read is =
+        let same = whole_is root found rest (drop (148 + size) bytes) is in
+        let spelled = whole-read read_signed_root signed_root_bytes IsSignedRoot signed_root_field (take (148 + size) bytes) found (IsBytes-take (148 + size) bytes small) (read_is _ found read) in (
+          sym (take-append-drop (148 + size) bytes) ∙ ap (λ (front : List ℕ). front ++ drop (148 + size) bytes) (spelled.0 ∙ ap signed_root_bytes same.0)
+              ∙ ap (λ (left : List ℕ). signed_root_bytes root ++ left) same.1,
+          subst IsSignedRoot same.0 spelled.1,
+        )
+
+    by_len : (r : Reading ℕ) → read_signature_len bytes ≡ r → Found
+    by_len (Err fault) len = absurd (none (sym (front-short bytes fault len) ∙ e))
+      where
+        none : Part ≡ Whole root rest → ⊥
+        none e = cc
+    by_len (Ok (size, left)) len = elim (cases_lt 256 size) [
+      | inl large ↦ elim (long-is (148 + size) bytes) [
+        | inl short ↦ absurd (missing (sym short.1 ∙ sym (front-long bytes size left len large) ∙ e))
+        | inr all ↦ absurd (bad (sym all.1 ∙ sym (front-long bytes size left len large) ∙ e))
+      ]
+      | inr few ↦ elim (cases_lt (length bytes) (148 + size)) [
+        | inl short ↦ absurd (none (sym (front-part bytes size left len few short) ∙ e))
+        | inr long ↦ by_read size (whole_of (read_signed_root (take (148 + size) bytes))) refl (sym (front-root bytes size left len few long) ∙ e)
+      ]
+    ]
+      where
+        none : Part ≡ Whole root rest → ⊥
+        none e = cc
+
+        missing : {n : ℕ} → TooLong n ≡ Whole root rest → ⊥
+        missing e = cc
+
+        bad : Bad ≡ Whole root rest → ⊥
+        bad e = cc
+
+-- so many roots are spelled where the feed is done
+roots-are : (left : ℕ) (bytes : List ℕ) → IsBytes bytes → (told left bytes).1 ≡ Done
+    → (bytes ≡ flat_map signed_root_bytes (told left bytes).0) × (length (told left bytes).0 ≡ left) × AllByRecursion IsSignedRoot (told left bytes).0
+roots-are zero [] small done = (refl, refl, tt)
+roots-are zero (byte ∷ bytes) small done = absurd cc
+roots-are (suc left) bytes small done = by_front (λ rest. roots-are left rest) (front bytes) refl
+  where
+    told_of : Front → List SignedRoot × FeedState
+    told_of f = told_by f (suc left) bytes (told left)
+
+    Are : List SignedRoot × FeedState → Type 0
+    Are t = (bytes ≡ flat_map signed_root_bytes t.0) × (length t.0 ≡ suc left) × AllByRecursion IsSignedRoot t.0
+
+    Later : Type 0
+    Later = (rest : List ℕ) → IsBytes rest → (told left rest).1 ≡ Done → (rest ≡ flat_map signed_root_bytes (told left rest).0) × (length (told left rest).0 ≡ left) × AllByRecursion IsSignedRoot (told left rest).0
+
+    by_front : Later → (f : Front) → front bytes ≡ f → Are (told_of (front bytes))
+    by_front later Part e = absurd (never (sym (ap (λ (f : Front). (told_of f).1) e) ∙ done))
+      where
+        never : Owes (suc left) bytes ≡ Done → ⊥
+        never e = cc
+    by_front later (TooLong missing) e = absurd (never (sym (ap (λ (f : Front). (told_of f).1) e) ∙ done))
+      where
+        never : Overlong (suc left) missing ≡ Done → ⊥
+        never e = cc
+    by_front later Bad e = absurd (never (sym (ap (λ (f : Front). (told_of f).1) e) ∙ done))
+      where
+        never : Failed ≡ Done → ⊥
+        never e = cc
+    by_front later (Whole root rest) e =
+        let is = front-is bytes root rest small e in
+        let more = later rest (IsBytes-back (signed_root_bytes root) rest (subst IsBytes is.0 small)) (sym (ap (λ (f : Front). (told_of f).1) e) ∙ done) in
+        subst (λ (f : Front). Are (told_of f)) (sym e) (is.0 ∙ ap (λ (left : List ℕ). signed_root_bytes root ++ left) more.0, ap suc more.1, (is.1, more.2))
+
+-- a feed that is done was given a list
+pub list-is : (bytes : List ℕ) → IsBytes bytes → (told_from (Counts []) bytes).1 ≡ Done → SpellsRoots bytes (told_from (Counts []) bytes).0
+list-is bytes small done = by_count (read_root_count bytes) refl
+  where
+    by_count : (r : Reading ℕ) → read_root_count bytes ≡ r → SpellsRoots bytes (told_counted (read_root_count bytes) bytes).0
+    by_count (Ok (count, rest)) e =
+        let few = (count_more bytes count rest e).1 in
+        let is = (count_field.spelled bytes (count, rest) small e).0 in
+        let are = roots-are count rest (IsBytes-back (big_bytes 2 count) rest (subst IsBytes is small)) (sym (ap (λ (r : Reading ℕ). (told_counted r bytes).1) e) ∙ done) in
+        subst (λ (r : Reading ℕ). SpellsRoots bytes (told_counted r bytes).0) (sym e)
+        (is ∙ ap (λ (left : List ℕ). big_bytes 2 count ++ left) are.0 ∙ ap (λ (n : ℕ). big_bytes 2 n ++ flat_map signed_root_bytes (told count rest).0) (sym are.1), (subst (λ (n : ℕ). n ≤ 64) (sym are.1) few, are.2))
+    by_count (Err fault) e = absurd (never fault (sym (ap (λ (r : Reading ℕ). (told_counted r bytes).1) e) ∙ done))
+      where
+        never : (fault : Fault) → (told_counted (Err fault) bytes).1 ≡ Done → ⊥
+        never Short e = cc
+        never Trailing e = cc
+        never OutOfRange e = cc
+
+-- no more is told where no root stands first
+none-told : (left : ℕ) (rest : List ℕ) → IsBytes rest → ¬ Begins signed_root_bytes IsSignedRoot rest → (told left rest).0 ≡ []
+none-told zero [] small none = refl
+none-told zero (byte ∷ rest) small none = refl
+none-told (suc left) rest small none = by_front (front rest) refl
+  where
+    told_of : Front → List SignedRoot
+    told_of f = (told_by f (suc left) rest (told left)).0
+
+    by_front : (f : Front) → front rest ≡ f → told_of (front rest) ≡ []
+    by_front Part e = ap told_of e
+    by_front (TooLong missing) e = ap told_of e
+    by_front Bad e = ap told_of e
+    by_front (Whole root more) e = let is = front-is rest root more small e in absurd (none (root, more, is.0, is.1))
+
+-- how a list goes on behind some roots: these are all, or no root stands first in the bytes behind them
+abbrev Ends : ℕ → List SignedRoot → List ℕ → Type 0
+Ends count roots rest = (length roots ≡ count) ⊎ ((length roots < count) × ¬ Begins signed_root_bytes IsSignedRoot rest)
+
+ends-later : (count : ℕ) (root : SignedRoot) (roots : List SignedRoot) (rest : List ℕ) → Ends (suc count) (root ∷ roots) rest → Ends count roots rest
+ends-later count root roots rest (inl all) = inl (omega (arith, all))
+ends-later count root roots rest (inr less) = inr (omega (arith, less.0), less.1)
+
+ends-not : (root : SignedRoot) (roots : List SignedRoot) (rest : List ℕ) → Ends zero (root ∷ roots) rest → ⊥
+ends-not root roots rest (inl all) = omega (arith, all)
+ends-not root roots rest (inr less) = omega (arith, less.0)
+
+-- the roots that are spelled are told, and no other
+roots-told : (roots : List SignedRoot) (count : ℕ) (rest : List ℕ) → IsBytes rest → AllByRecursion IsSignedRoot roots → Ends count roots rest
+    → (told count (flat_map signed_root_bytes roots ++ rest)).0 ≡ roots
+roots-told [] zero [] small each ends = refl
+roots-told [] zero (byte ∷ rest) small each ends = refl
+roots-told [] (suc count) rest small each (inl all) = absurd (omega (arith, all))
+roots-told [] (suc count) rest small each (inr less) = none-told (suc count) rest small less.1
+roots-told (root ∷ roots) zero rest small each ends = absurd (ends-not root roots rest ends)
+roots-told (root ∷ roots) (suc count) rest small each ends =
+    let more = flat_map signed_root_bytes roots ++ rest in
+    let parted : flat_map signed_root_bytes (root ∷ roots) ++ rest ≡ signed_root_bytes root ++ more = append_assoc (signed_root_bytes root) (flat_map signed_root_bytes roots) rest in
+    ap (λ (bytes : List ℕ). (told (suc count) bytes).0) parted
+    ∙ ap (λ (f : Front). (told_by f (suc count) (signed_root_bytes root ++ more) (told count)).0) (front-spelled root more each.0)
+    ∙ ap (λ (rs : List SignedRoot). root ∷ rs) (roots-told roots count rest small each.1 (ends-later count root roots rest ends))
+
+pub whole-told : (count : ℕ) (roots : List SignedRoot) (rest bytes : List ℕ) → IsBytes bytes → HasWholeRoots count roots rest bytes → (told_from (Counts []) bytes).0 ≡ roots
+whole-told count roots rest bytes small (few, each, is, ends) =
+    let all = flat_map signed_root_bytes roots ++ rest in
+    let left_small : IsBytes rest = IsBytes-back (flat_map signed_root_bytes roots) rest (IsBytes-back (big_bytes 2 count) all (subst IsBytes is small)) in
+    let read : read_root_count bytes ≡ Ok (count, all) = ap read_root_count is ∙ count_field.again count all (omega (arith, few), rw (le-leb 0 count (omega arith), le-leb count 64 few) refl) in
+    ap (λ (r : Reading ℕ). (told_counted r bytes).0) read ∙ roots-told roots count rest left_small each ends
+
+-- ---- bytes that no list has there
+
+pub behind-fails : (bytes : List ℕ) (roots : List SignedRoot) (byte : ℕ) (more : List ℕ) → SpellsRoots bytes roots → (told_from (Counts []) (bytes ++ (byte ∷ more))).1 ≡ Failed
+behind-fails bytes roots byte more is =
+    ap (λ (t : List SignedRoot × FeedState). t.1) (from-more (Counts []) bytes (byte ∷ more))
+    ∙ ap (λ (t : List SignedRoot × FeedState). (told_from t.1 (byte ∷ more)).1) (list-spelled bytes roots is)
+
+not_leb : (count : ℕ) (b : Bool) → 64 < count → leb count 64 ≡ b → leb count 64 ≡ false
+not_leb count true many e = absurd (omega (arith, many, leb-true count 64 e))
+not_leb count false many e = e
+
+too-many-read : (count : ℕ) (bytes more : List ℕ) → 64 < count → count < 2 ^ 16 → bytes ≡ big_bytes 2 count ++ more → read_root_count bytes ≡ Err OutOfRange
+unfolding read_root_count
+too-many-read count bytes more many small is =
+    let read : read_number 2 bytes ≡ Ok (count, more) = ap (read_number 2) is ∙ (numbers_field 2).again count more (omega (arith, small)) in
+    rw (read, le-leb 0 count (omega arith), not_leb count (leb count 64) many refl) refl
+
+pub too-many-fail : (count : ℕ) (bytes more : List ℕ) → 64 < count → count < 2 ^ 16 → bytes ≡ big_bytes 2 count ++ more → told_from (Counts []) bytes ≡ ([], Failed)
+too-many-fail count bytes more many small is = ap (λ (r : Reading ℕ). told_counted r bytes) (too-many-read count bytes more many small is)
+
+-- ---- bytes that are not refused are few
+
+roots-few : (left : ℕ) (bytes : List ℕ) → IsBytes bytes → (told left bytes).1 ≢ Failed → length bytes ≤ 404 * left + 65683
+roots-few zero [] small some = omega arith
+roots-few zero (byte ∷ bytes) small some = absurd (some refl)
+roots-few (suc left) bytes small some = by_front (λ rest. roots-few left rest) (front bytes) refl
+  where
+    told_of : Front → List SignedRoot × FeedState
+    told_of f = told_by f (suc left) bytes (told left)
+
+    by_front : ((rest : List ℕ) → IsBytes rest → (told left rest).1 ≢ Failed → length rest ≤ 404 * left + 65683) → (f : Front) → front bytes ≡ f → length bytes ≤ 404 * suc left + 65683
+    by_front later Part e = by_len (read_signature_len bytes) refl
+      where
+        by_len : (r : Reading ℕ) → read_signature_len bytes ≡ r → length bytes ≤ 404 * suc left + 65683
+        by_len (Err fault) len = omega (arith, len_none bytes fault len)
+        by_len (Ok (size, rest)) len = let few = len-few bytes size rest len e in omega (arith, few, part-is bytes size rest len few e)
+    by_front later (TooLong missing) e = by_len (read_signature_len bytes) refl
+      where
+        by_len : (r : Reading ℕ) → read_signature_len bytes ≡ r → length bytes ≤ 404 * suc left + 65683
+        by_len (Err fault) len = omega (arith, len_none bytes fault len)
+        by_len (Ok (size, rest)) len =
+            let few = len_below bytes size rest small len in
+            elim (cases_lt (length bytes) (148 + size)) [
+              | inl short ↦ omega (arith, few, short)
+              | inr long ↦ absurd (no_more size rest len long)
+            ]
+          where
+            no_more : (size : ℕ) (rest : List ℕ) → read_signature_len bytes ≡ Ok (size, rest) → 148 + size ≤ length bytes → ⊥
+            no_more size rest len long = elim (cases_lt 256 size) [
+              | inl large ↦ apart (sym (front-long bytes size rest len large ∙ rw (le-ltb (length bytes) (148 + size) long) refl) ∙ e)
+              | inr few ↦ by_read (whole_of (read_signed_root (take (148 + size) bytes))) (sym (front-root bytes size rest len few long) ∙ e)
+            ]
+              where
+                apart : Bad ≡ TooLong missing → ⊥
+                apart e = cc
+
+                by_read : (r : Result SignedRoot Fault) → front_read r (drop (148 + size) bytes) ≡ TooLong missing → ⊥
+                by_read (Ok root) e = cc
+                by_read (Err fault) e = cc
+    by_front later Bad e = absurd (some (ap (λ (f : Front). (told_of f).1) e))
+    by_front later (Whole root rest) e =
+        let is = front-is bytes root rest small e in
+        let more = later rest (IsBytes-back (signed_root_bytes root) rest (subst IsBytes is.0 small)) (λ failed. some (ap (λ (f : Front). (told_of f).1) e ∙ failed)) in
+        omega (arith, more, root_size root is.1, is.1.1.1, length-append (signed_root_bytes root) rest, ap (λ (z : List ℕ). length z) is.0)
+
+pub list-few : (bytes : List ℕ) → IsBytes bytes → (told_from (Counts []) bytes).1 ≢ Failed → length bytes ≤ 91541
+list-few bytes small some = by_count (read_root_count bytes) refl
+  where
+    by_count : (r : Reading ℕ) → read_root_count bytes ≡ r → length bytes ≤ 91541
+    by_count (Ok (count, rest)) e =
+        let few = (count_more bytes count rest e).1 in
+        let is = (count_field.spelled bytes (count, rest) small e).0 in
+        let more = roots-few count rest (IsBytes-back (big_bytes 2 count) rest (subst IsBytes is small)) (λ failed. some (ap (λ (r : Reading ℕ). (told_counted r bytes).1) e ∙ failed)) in
+        omega (arith, few, more, length-bytes_high_first 2 count, length-append (big_bytes 2 count) rest, ap (λ (z : List ℕ). length z) is)
+    by_count (Err fault) e = elim (count_fault bytes fault e) [
+      | inl less ↦ omega (arith, less.0)
+      | inr large ↦ absurd (some (ap (λ (r : Reading ℕ). (told_counted r bytes).1) (e ∙ ap refused large.1)))
+    ]

@@ -1,5 +1,6 @@
 -- What comes of a piece, and of one piece after another.
-use Rattle.std.proofs.Common.{◌≡◌, ◌≢◌, ℕ, List, [], ◌∷◌, ◌++◌, Result, Ok, Err, refl, sym, ap, subst, ◌∙◌, append_assoc, arith, length, length-append, inl, inr, IfErr}
+use Rattle.std.proofs.Common.{◌≡◌, ◌≢◌, ◌⊎◌, ℕ, List, [], ◌∷◌, ◌++◌, Result, Ok, Err, refl, sym, ap, subst, ◌∙◌, append_assoc, arith, length, length-append, inl, inr, IfErr}
+use Rattle.encoding.specs.Bytes.{joined}
 use Rattle.rootchain.specs.declared.signed_root.SignedRoot.{SignedRoot}
 use Rattle.rootchain.specs.declared.list_refusal.ListRefusal.{ListRefusal}
 use Rattle.rootchain.specs.declared.list_refusal.ListRefusal.TheVariants as list
@@ -8,8 +9,8 @@ use Rattle.rootchain.specs.declared.piece_refusal.PieceRefusal.TheVariants.{Malf
 use Rattle.rootchain.specs.Chains.{IsChain, KeyedRoots}
 use Rattle.rootchain.specs.RootFeeds.{told_from, FeedState, Counts, Done, Failed}
 use Rattle.rootchain.specs.TakingLists.{with_roots, StopsAt, Takes}
-use Rattle.rootchain.specs.TakingPieces.{first_refusal, joined, of_piece, CuttingDoesNotMatter, PieceRefusalHolds, PiecesComeToOne, TakesPiece, TakesPieces, TakesTold, TakesUpTo}
-use Rattle.rootchain.proofs.RootFeeds.{from-more, from-nothing, from-start, list-spelled}
+use Rattle.rootchain.specs.TakingPieces.{first_refusal, of_piece, CuttingDoesNotMatter, DoneIsAList, FailsAtTooMany, FailsBehindAList, MalformedBeginsNoList, PieceRefusalHolds, PiecesComeToOne, TakesFewBytes, TakesPiece, TakesPieces, TakesTold, TakesUpTo, TakesWholeRoots}
+use Rattle.rootchain.proofs.RootFeeds.{behind-fails, from-more, from-nothing, from-start, list-few, list-is, list-spelled, too-many-fail, whole-told}
 use Rattle.rootchain.proofs.TakingLists.{grows-nothing, stop-holds, takes-chain, takes-grows}
 
 module _ (hash : List ℕ → List ℕ) (verified : List ℕ → List ℕ → List ℕ → Type 0) where
@@ -147,6 +148,82 @@ module _ (hash : List ℕ → List ℕ) (verified : List ℕ → List ℕ → Li
       up-to chain roots (first_refusal answers) after held'
       (subst (λ (t : List SignedRoot × FeedState). Comes chain t (first_refusal answers) after held') (list-spelled (joined pieces) roots spelled)
       (pieces-come pieces answers chain (Counts []) after held' from-start begun calls))
+
+  -- ---- what the bytes are
+
+  done-comes : (chain : KeyedRoots) (t : List SignedRoot × FeedState) (answer : Result Unit PieceRefusal) (after : KeyedRoots) → Comes chain t answer after Done → Takes hash verified chain t.0 after × (t.1 ≡ Done)
+  done-comes chain t (Ok _) after comes = (comes.0, sym comes.1)
+  done-comes chain t (Err Malformed) after comes = absurd (never comes.2)
+    where
+      never : Done ≡ Failed → ⊥
+      never e = cc
+  done-comes chain t (Err (Root why)) after comes = absurd (never comes.2)
+    where
+      never : Done ≡ Failed → ⊥
+      never e = cc
+  done-comes chain t (Err Memory) after comes = absurd comes
+
+  pub done-list : DoneIsAList hash verified
+  done-list chain pieces answers after small calls =
+      let t = told_from (Counts []) (joined pieces) in
+      let is = done-comes chain t (first_refusal answers) after (pieces-come pieces answers chain (Counts []) after Done from-start begun calls) in
+      (t.0, list-is (joined pieces) small is.1, is.0)
+
+  pub malformed-none : MalformedBeginsNoList hash verified
+  malformed-none chain pieces answers after held' calls malformed more roots spelled =
+      let t = told_from (Counts []) (joined pieces) in
+      let comes = subst (λ (answer : Result Unit PieceRefusal). Comes chain t answer after held') malformed (pieces-come pieces answers chain (Counts []) after held' from-start begun calls) in
+      let done = ap (λ (z : List SignedRoot × FeedState). z.1) (list-spelled (joined pieces ++ more) roots spelled) in
+      let later = ap (λ (z : List SignedRoot × FeedState). z.1) (from-more (Counts []) (joined pieces) more) in
+      never (sym done ∙ later ∙ ap (λ (h : FeedState). (told_from h more).1) comes.1)
+    where
+      never : Done ≡ Failed → ⊥
+      never e = cc
+
+  some-taken : (chain : KeyedRoots) (roots : List SignedRoot) (last : FeedState) (answer : Result Unit PieceRefusal) (after : KeyedRoots) (held' : FeedState) → Comes chain (roots, last) answer after held'
+      → Takes hash verified chain roots after ⊎ ((why : ListRefusal) × StopsAt hash verified chain roots why after × (why ≢ list.Memory) × (held' ≡ Failed))
+  some-taken chain roots last (Ok _) after held' comes = inl comes.0
+  some-taken chain roots last (Err Malformed) after held' comes = inl comes.0
+  some-taken chain roots last (Err (Root why)) after held' comes = inr (why, comes.0, comes.1, comes.2)
+  some-taken chain roots last (Err Memory) after held' comes = absurd comes
+
+  pub whole-roots : TakesWholeRoots hash verified
+  whole-roots chain count roots rest pieces answers after held' small has calls =
+      let t = told_from (Counts []) (joined pieces) in
+      let same : t ≡ (roots, t.1) = ap (λ (rs : List SignedRoot). (rs, t.1)) (whole-told count roots rest (joined pieces) small has) in
+      some-taken chain roots t.1 (first_refusal answers) after held'
+      (subst (λ (u : List SignedRoot × FeedState). Comes chain u (first_refusal answers) after held') same (pieces-come pieces answers chain (Counts []) after held' from-start begun calls))
+
+  fails : (chain : KeyedRoots) (t : List SignedRoot × FeedState) (answer : Result Unit PieceRefusal) (after : KeyedRoots) (held' : FeedState) → Comes chain t answer after held' → t.1 ≡ Failed → held' ≡ Failed
+  fails chain t (Ok _) after held' comes failed = comes.1 ∙ failed
+  fails chain t (Err Malformed) after held' comes failed = comes.2
+  fails chain t (Err (Root why)) after held' comes failed = comes.2
+  fails chain t (Err Memory) after held' comes failed = absurd comes
+
+  pub behind-a-list : FailsBehindAList hash verified
+  behind-a-list chain bytes roots byte more pieces answers after held' spelled is calls =
+      let t = told_from (Counts []) (joined pieces) in
+      let failed : t.1 ≡ Failed = ap (λ (z : List ℕ). (told_from (Counts []) z).1) is ∙ behind-fails bytes roots byte more spelled in
+      fails chain t (first_refusal answers) after held' (pieces-come pieces answers chain (Counts []) after held' from-start begun calls) failed
+
+  none-taken : (chain : KeyedRoots) (answer : Result Unit PieceRefusal) (after : KeyedRoots) (held' : FeedState) → Comes chain ([], Failed) answer after held'
+      → (answer ≡ Err Malformed) × (after ≡ chain) × (held' ≡ Failed)
+  none-taken chain (Ok _) after held' comes = absurd (comes.2 comes.1)
+  none-taken chain (Err Malformed) after held' comes = (refl, comes.0, comes.2)
+  none-taken chain (Err (Root why)) after held' comes = absurd (no-stop chain why after comes.0)
+  none-taken chain (Err Memory) after held' comes = absurd comes
+
+  pub too-many : FailsAtTooMany hash verified
+  too-many chain count more pieces answers after held' many small is calls =
+      none-taken chain (first_refusal answers) after held'
+      (subst (λ (t : List SignedRoot × FeedState). Comes chain t (first_refusal answers) after held') (too-many-fail count (joined pieces) more many small is)
+      (pieces-come pieces answers chain (Counts []) after held' from-start begun calls))
+
+  pub taken-few : TakesFewBytes hash verified
+  taken-few chain pieces answers after held' small calls taken =
+      let t = told_from (Counts []) (joined pieces) in
+      let comes = subst (λ (answer : Result Unit PieceRefusal). Comes chain t answer after held') taken (pieces-come pieces answers chain (Counts []) after held' from-start begun calls) in
+      omega (arith, list-few (joined pieces) small (λ failed. comes.2 (comes.1 ∙ failed)))
 
   -- ---- a chain stays one
 

@@ -5,12 +5,12 @@ use Rattle.encoding.specs.declared.fault.Fault.{Fault}
 use Rattle.encoding.specs.declared.fault.Fault.TheVariants.{Short, Trailing, OutOfRange}
 use Rattle.encoding.specs.Reading.{Reading, read_bytes, read_number, read_then, whole_of}
 use Rattle.encoding.specs.declared.small.TheConstants.{MAX_SMALL_LEN}
-use Rattle.rootchain.specs.declared.root_list.TheConstants.{MAX_ROOTS}
+use Rattle.rootchain.specs.declared.root_list.TheConstants.{COUNT_LEN, MAX_ROOTS}
 use Rattle.rootchain.specs.declared.signed_root.SignedRoot.{SignedRoot}
 use Rattle.rootchain.specs.RootLists.{read_root_count}
 use Rattle.rootchain.specs.SignedRoots.{read_signed_root}
 use Rattle.rootchain.specs.declared.body.TheConstants.{BODY_LEN}
-use Rattle.rootchain.specs.declared.root_feed.TheConstants.{FIXED_LEN}
+use Rattle.rootchain.specs.declared.signed_root.TheConstants.{FIXED_LEN}
 
 -- ---- the first root
 
@@ -117,7 +117,7 @@ least_root_len (Err fault) = FIXED_LEN
 -- how many bytes there are at least once the number of roots, or the first root, is whole; 0 where no bytes are
 -- to be held
 abbrev pub least_len : FeedState → ℕ
-least_len (Counts bytes) = 2
+least_len (Counts bytes) = COUNT_LEN
 least_len (Owes zero bytes) = 0
 least_len (Owes (suc left) bytes) = least_root_len (read_signature_len bytes)
 least_len (Overlong left missing) = 0
@@ -125,7 +125,7 @@ least_len Failed = 0
 
 -- what may be held: less than the number, or less than a root
 abbrev pub MayBeHeld : FeedState → Type 0
-MayBeHeld (Counts bytes) = length bytes < 2
+MayBeHeld (Counts bytes) = length bytes < COUNT_LEN
 MayBeHeld (Owes left bytes) = (left ≤ MAX_ROOTS) × (front bytes ≡ Part) × (left ≡ 0 → bytes ≡ [])
 MayBeHeld (Overlong left missing) = (left ≤ MAX_ROOTS) × (0 < missing)
 MayBeHeld Failed = Unit

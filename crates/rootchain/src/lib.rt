@@ -40,9 +40,10 @@ pub use compare::Compare;
 pub use evidence::RootEvidence;
 pub use laws::{
     body_is_read, chain_is_no_evidence, comparison_is_unique, cuts_of_a_list_do_not_matter,
-    epochs_ascend, length_has_its_value, limit_has_its_value, pieces_come_to_one,
-    place_tells_evidence, promise_is_read, root_list_is_read, signed_promise_is_read,
-    signed_root_is_read,
+    done_is_a_list, epochs_ascend, length_has_its_value, limit_has_its_value,
+    malformed_begins_no_list, other_bytes_are_refused, pieces_come_to_one, place_tells_evidence,
+    promise_is_read, root_list_is_read, signed_promise_is_read, signed_root_is_read,
+    taken_bytes_are_few, whole_roots_are_taken,
 };
 pub use list_refusal::ListRefusal;
 pub use piece_refusal::PieceRefusal;

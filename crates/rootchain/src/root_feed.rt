@@ -11,16 +11,10 @@ ghost use Rattle.rootchain.specs.declared.signed_root.TheConstants.{MAX_SIGNED_R
 
 use crate::SignedRoot;
 use crate::body::BODY_LEN;
-use crate::root_list::{MAX_ROOTS, read_count};
-use crate::signed_root::SignedRootText;
+use crate::root_list::{COUNT_LEN, MAX_ROOTS, read_count};
+use crate::signed_root::{FIXED_LEN, SignedRootText};
 use encoding::{Cursor, Fault, Form, MAX_SMALL_LEN};
 use std::marker::Model;
-
-/// How many bytes the number of roots has.
-const COUNT_LEN: usize = 2;
-
-/// How many bytes a body and the length of the signature behind it have.
-const FIXED_LEN: usize = BODY_LEN + 2;
 
 /// What a feed has next.
 #[derive(Debug, Drop)]
@@ -226,7 +220,7 @@ fn next_of<'a>(
         *stage = Stage::Failed;
         return Next::Failed;
     }
-    // A piece of `FIXED_LEN` bytes has no whole root, since a signature has at least one byte.
+    // A piece of at most `FIXED_LEN` bytes has no whole root, since a signature has at least one byte.
     if held.bytes().is_empty() && FIXED_LEN < piece.len() {
         if let Ok(root) = SignedRoot::read_from(&mut Cursor::new(piece)) {
             let rest = piece.split_at(root.written_len()).1;

@@ -17,6 +17,9 @@ use std::marker::Model;
 /// The most roots that a list has.
 pub const MAX_ROOTS: usize = 64;
 
+/// How many bytes the number of roots has.
+pub(crate) const COUNT_LEN: usize = 2;
+
 /// How many bytes the longest list has: the number of its roots in two bytes, and 64 roots of 404.
 pub const MAX_LIST_LEN: usize = 25858;
 
@@ -117,7 +120,7 @@ pub fn list_len(roots: &[SignedRoot]) -> usize
     ensures value { result ≡ length (root_list_bytes roots.now) }
     ensures most { result ≤ MAX_LIST_LEN }
 {
-    let mut len = 2;
+    let mut len = COUNT_LEN;
     for root in roots {
         len += root.written_len();
     }
@@ -134,7 +137,7 @@ pub fn write_list(roots: &[SignedRoot], output: &mut Vec<u8>) -> Result<(), Allo
     ensures capacity { vec_capacity output.old ≤ vec_capacity output.new }
 {
     output.reserve(list_len(roots))?;
-    let mut count = [0; 2];
+    let mut count = [0; COUNT_LEN];
     BigEndian::write_u16(&mut count, roots.len() as u16);
     output.extend_from_slice(&count)?;
     for root in roots {

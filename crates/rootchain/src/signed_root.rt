@@ -18,6 +18,9 @@ use sigiface::Verifier;
 /// behind its length.
 pub const MAX_SIGNED_ROOT_LEN: usize = 404;
 
+/// How many bytes a body and the length of the signature behind it have.
+pub(crate) const FIXED_LEN: usize = BODY_LEN + 2;
+
 /// The bytes of a signed root.
 pub type SignedRootText = FixedText<MAX_SIGNED_ROOT_LEN>;
 
@@ -60,7 +63,7 @@ impl SignedRoot {
         self.body.previous_hash.bytes();
         self.body.nonce.bytes();
         self.body.vuf_key.bytes();
-        BODY_LEN + 2 + self.signature.bytes().len()
+        FIXED_LEN + self.signature.bytes().len()
     }
 
     /// A copy of the signed root.

@@ -70,7 +70,7 @@ where
         b"reconcile-self" => {
             reconcile_both(case, by, clients.client.as_ref(), clients.client.as_ref());
         }
-        verb => match &mut clients.client {
+        _ => match &mut clients.client {
             Some(client) => answer_on(case, by, verb, client),
             None => case.spoil(),
         },

@@ -1,4 +1,4 @@
-//! Of `client`: clients that are there for one question alone take one list of roots, whole or in pieces.
+//! Of `client`: clients that are there for one question alone take lists of roots, whole or in pieces.
 
 use crate::clients::{Kept, refuse};
 use crate::feeds::in_pieces;
@@ -78,8 +78,8 @@ impl Taker {
         had_memory
     }
 
-    /// Tells what a list or a piece comes to, once more where memory runs out for it.
-    fn ask_twice(&mut self, case: &mut Case<'_>, feed: &mut RootFeed, way: Way, list: &[u8]) {
+    /// Tells the state, then what a list or a piece comes to, and once more where memory runs out for it.
+    fn ask(&mut self, case: &mut Case<'_>, feed: &mut RootFeed, way: Way, list: &[u8]) {
         self.say_state(case, feed);
         let first = self.take(feed, way, list);
         if self.tell(case, feed, first) {
@@ -160,7 +160,7 @@ pub(crate) fn room(case: &mut Case<'_>) {
         }
     }
     let last = case.bytes();
-    taker.ask_twice(case, &mut feed, Way::Pieces(0), last);
+    taker.ask(case, &mut feed, Way::Pieces(0), last);
 }
 
 /// `room-more KEY ROOT LIST PIECE`: a client takes a list in one piece, and then the first piece of another one.
@@ -173,13 +173,13 @@ pub(crate) fn room_more(case: &mut Case<'_>) {
         return case.lack_memory();
     }
     let piece = case.bytes();
-    taker.ask_twice(case, &mut RootFeed::new(), Way::Pieces(0), piece);
+    taker.ask(case, &mut RootFeed::new(), Way::Pieces(0), piece);
 }
 
 /// `room-whole KEY ROOT LIST`: the list goes to a client whole, once more where memory runs out.
 pub(crate) fn room_whole(case: &mut Case<'_>) {
     if let Some((mut taker, list)) = begin(case) {
-        taker.ask_twice(case, &mut RootFeed::new(), Way::Whole, list);
+        taker.ask(case, &mut RootFeed::new(), Way::Whole, list);
     }
 }
 

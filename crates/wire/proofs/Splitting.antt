@@ -2,12 +2,11 @@
 use Rattle.std.proofs.Common.{◌≡◌, ℕ, ◌-◌, ◌<◌, ◌≤◌, Bool, true, false, ltb, List, [], ◌∷◌, ◌++◌, length, take, drop, flat_map, Ok, Err, refl, sym, ap, subst, ◌∙◌, append_assoc, arith, inl, inr, ◌⊎◌}
 use Rattle.std.proofs.lemmas.Bool.{le-ltb, lt-ltb, ltb-false, ltb-true}
 use Rattle.encoding.specs.declared.fault.Fault.TheVariants.{Short, OutOfRange}
-use Rattle.encoding.specs.Bytes.{IsBytes}
+use Rattle.encoding.specs.Bytes.{IsBytes, joined}
 use Rattle.encoding.specs.Endian.{big_bytes, big_number}
 use Rattle.encoding.specs.Reading.{is_within, read_number}
 use Rattle.encoding.proofs.ByteLists.{IsBytes-append, IsBytes-back}
 use Rattle.encoding.proofs.Fields.{numbers_field, one_spelling, refused_read}
-use Rattle.rootchain.specs.TakingPieces.{joined}
 use Rattle.wire.specs.Frames.{Frame, frame_bytes, frame_of, read_frame, read_framed, IsFrame, IsFrameSize}
 use Rattle.wire.specs.Streams.{Remainder, Message, Rest, Failed, Whole, BadFrame, whole_messages, BeginsFrame, HasBadLength, IsSpent, SpellsMessages, Splits, TakesMessage, TellsAll, TellsMessages}
 use Rattle.wire.specs.Laws.{Hears}

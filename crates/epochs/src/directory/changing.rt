@@ -347,7 +347,7 @@ impl<H: NodeHash, V: Vuf, S: Signer, R: Rng> Directory<H, V, S, R> {
         Ok(())
     }
 
-    /// Lets the key wait for the next page, once its record is kept. Takes one digest.
+    /// Lets the key wait for the next page, once its record is kept. Takes at most one digest.
     fn accept<K: Keeper>(
         &mut self,
         keeper: &mut K,
@@ -420,7 +420,7 @@ impl<H: NodeHash, V: Vuf, S: Signer, R: Rng> Directory<H, V, S, R> {
         )
     }
 
-    /// Lets another key of a name wait for the next page, once its record is kept. Takes one digest.
+    /// Lets another key of a name wait for the next page, once its record is kept. Takes at most one digest.
     fn accept_held<K: Keeper>(
         &mut self,
         keeper: &mut K,

@@ -1,9 +1,10 @@
 use Rattle.std.proofs.Common.{◌≡◌, ℕ, ◌+◌, List, Option, length, length-append, append_assoc, ◌++◌, ap, arith, refl, sym, ◌∙◌}
 use Rattle.std.specs.Option.{option_map}
+use Rattle.encoding.specs.Bytes.{joined}
 use Rattle.prefixtree.specs.Paths.{agreeing, end_of}
 use Rattle.prefixtree.specs.declared.path.End.{End as PathEnd}
 use Rattle.prefixtree.proofs.Unique.{one-level}
-use Rattle.proofs.specs.Replies.{End, front_bytes, joined_bytes, reply_bytes}
+use Rattle.proofs.specs.Replies.{End, front_bytes, reply_bytes}
 use Rattle.proofs.proofs.Fronts.{front_reply}
 use Rattle.book.specs.Books.{Binding}
 use Rattle.book.specs.Shows.{reply_end}
@@ -42,8 +43,8 @@ returns-clause-reads g c =
     let spelled = λ (at : PathEnd). reply_bytes (record { body = c.index.result.now.body; value = sought.address.value; end = reply_end index found at; siblings = siblings }) in
     let text : List ℕ = spelled end in
     let whole : c.write_siblings.new.output.items ≡ c.args.output.now.items ++ text =
-    c.write_siblings.ensures.path.3 ∙ ap (λ (front : List ℕ). front ++ joined_bytes siblings) front
-    ∙ append_assoc c.args.output.now.items _ (joined_bytes siblings)
+    c.write_siblings.ensures.path.3 ∙ ap (λ (front : List ℕ). front ++ joined siblings) front
+    ∙ append_assoc c.args.output.now.items _ (joined siblings)
     ∙ ap (λ (reply : List ℕ). c.args.output.now.items ++ reply)
     (front_reply c.index.result.now.body sought.address.value (reply_end index found c.path_end-level.result.1) siblings c.path_end-level.result.0 long ∙ ap spelled same_end) in
     let size : length c.write_siblings.new.output.items ≡ length c.args.output.now.items + length text = ap length whole ∙ length-append c.args.output.now.items text in (
