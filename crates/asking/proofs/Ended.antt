@@ -94,6 +94,11 @@ pub reaches_so : {T E : Type 0} (result : Result (Unit {0}) E) (Reaches : Scene 
 reaches_so (Ok done) Reaches told old new said reaches leaves = tt
 reaches_so (Err why) Reaches told old new said (reached, is, same) leaves = (reached, is, subst (λ (r : Report). HoldsBack new said r old) same leaves)
 
+-- the same, whether it stops or not
+pub reaches_whole : {T : Type 0} (Reaches : Scene T → Type 0) (told : Report) (old new : Option (List ℕ)) (said : Said) → (reached : Scene T) × Reaches reached × (told ≡ reached.told)
+    → HoldsBack new said told old → (reached : Scene T) × Reaches reached × HoldsBack new said reached.told old
+reaches_whole Reaches told old new said (reached, is, same) leaves = (reached, is, subst (λ (r : Report). HoldsBack new said r old) same leaves)
+
 -- ---- the status
 
 pub stopped_low : (before after : ℕ) → after ≡ before → after < 3 → stopped_status before ≡ 1

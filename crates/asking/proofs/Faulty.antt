@@ -4,6 +4,7 @@ use Rattle.std.specs.Prelude.{◌∷◌, IfErr, IfSome, option_map, ⊤}
 use Rattle.std.proofs.KnownBytes.{Appends-nil, Appends-trans}
 use Rattle.textio.specs.declared.program_fault.ProgramFault.{ProgramFault}
 use Rattle.textio.specs.declared.program_fault.ProgramFault.TheVariants.{BadHex, BadItem, IndexRepeated, NotACommand, NotEvidence, BadRecord, OtherKeys, CannotRead, CannotWrite, CannotListen, OutOfMemory}
+use Rattle.files.specs.Faults.{IsSystemFault}
 use Rattle.textio.specs.Faults.{IsDeviceFault}
 use Rattle.textio.specs.Lines.{lines_of}
 use Rattle.wire.specs.Frames.{Frame}
@@ -23,27 +24,41 @@ use Rattle.asking.proofs.Ran.{asks_input, asks_words, none_before}
 
 -- ---- which faults there are
 
-device-with : (HasState ReadsInput : Type 0) (IsUnasked : ℕ → Type 0) (fault : ProgramFault) → HasState → IsDeviceFault fault → IsFaultWith HasState ReadsInput IsUnasked fault
-device-with HasState ReadsInput IsUnasked BadHex has device = device
-device-with HasState ReadsInput IsUnasked (BadItem line) has device = absurd device
-device-with HasState ReadsInput IsUnasked (IndexRepeated line) has device = device
-device-with HasState ReadsInput IsUnasked (NotACommand line) has device = absurd device
-device-with HasState ReadsInput IsUnasked NotEvidence has device = device
-device-with HasState ReadsInput IsUnasked BadRecord has device = device
-device-with HasState ReadsInput IsUnasked OtherKeys has device = device
-device-with HasState ReadsInput IsUnasked CannotRead has device = inl has
-device-with HasState ReadsInput IsUnasked CannotWrite has device = absurd device
-device-with HasState ReadsInput IsUnasked CannotListen has device = device
-device-with HasState ReadsInput IsUnasked OutOfMemory has device = device
+system-with : (HasState ReadsInput : Type 0) (IsUnasked : ℕ → Type 0) (fault : ProgramFault) → HasState → IsSystemFault fault → IsFaultWith HasState ReadsInput IsUnasked fault
+system-with HasState ReadsInput IsUnasked BadHex has system = system
+system-with HasState ReadsInput IsUnasked (BadItem line) has system = absurd system
+system-with HasState ReadsInput IsUnasked (IndexRepeated line) has system = system
+system-with HasState ReadsInput IsUnasked (NotACommand line) has system = absurd system
+system-with HasState ReadsInput IsUnasked NotEvidence has system = system
+system-with HasState ReadsInput IsUnasked BadRecord has system = system
+system-with HasState ReadsInput IsUnasked OtherKeys has system = system
+system-with HasState ReadsInput IsUnasked CannotRead has system = inl has
+system-with HasState ReadsInput IsUnasked CannotWrite has system = system
+system-with HasState ReadsInput IsUnasked CannotListen has system = system
+system-with HasState ReadsInput IsUnasked OutOfMemory has system = system
 
 pub saving_with : (HasState ReadsInput : Type 0) (IsUnasked : ℕ → Type 0) (fault : ProgramFault) → IsFaultOfSaving fault → IsFaultWith HasState ReadsInput IsUnasked fault
 saving_with HasState ReadsInput IsUnasked fault (inl is) = subst (λ (f : ProgramFault). IsFaultWith HasState ReadsInput IsUnasked f) (sym is) tt
 saving_with HasState ReadsInput IsUnasked fault (inr is) = subst (λ (f : ProgramFault). IsFaultWith HasState ReadsInput IsUnasked f) (sym is) tt
 
 pub beginning_with : (HasState ReadsInput : Type 0) (IsUnasked : ℕ → Type 0) (fault : ProgramFault) → (HasState × IsFaultOfState fault) ⊎ (fault ≡ OutOfMemory) → IsFaultWith HasState ReadsInput IsUnasked fault
-beginning_with HasState ReadsInput IsUnasked fault (inl (has, inl device)) = device-with HasState ReadsInput IsUnasked fault has device
+beginning_with HasState ReadsInput IsUnasked fault (inl (has, inl system)) = system-with HasState ReadsInput IsUnasked fault has system
 beginning_with HasState ReadsInput IsUnasked fault (inl (has, inr (line, is))) = subst (λ (f : ProgramFault). IsFaultWith HasState ReadsInput IsUnasked f) (sym is) has
 beginning_with HasState ReadsInput IsUnasked fault (inr is) = subst (λ (f : ProgramFault). IsFaultWith HasState ReadsInput IsUnasked f) (sym is) tt
+
+-- a read or memory failed, or a write
+pub device_system : (fault : ProgramFault) → IsDeviceFault fault → IsSystemFault fault
+device_system BadHex device = device
+device_system (BadItem line) device = absurd device
+device_system (IndexRepeated line) device = device
+device_system (NotACommand line) device = absurd device
+device_system NotEvidence device = device
+device_system BadRecord device = device
+device_system OtherKeys device = device
+device_system CannotRead device = device
+device_system CannotWrite device = absurd device
+device_system CannotListen device = device
+device_system OutOfMemory device = device
 
 either : {A B C D : Type 0} → (A → C) → (B → D) → A ⊎ B → C ⊎ D
 either left right (inl a) = inl (left a)

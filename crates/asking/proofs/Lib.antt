@@ -6,6 +6,7 @@ pub mod Going
 pub mod Halted
 pub mod Heard
 pub mod Joined
+pub mod Left
 pub mod Listed
 pub mod Placed
 pub mod Ran

@@ -2,7 +2,7 @@
 use Rattle.std.specs.Prelude.{◌≡◌, ◌⊎◌, ℕ, ◌+◌, List, [], ◌∷◌, Option, Some, None, IfSome, ⊤}
 use Rattle.textio.specs.declared.program_fault.ProgramFault.{ProgramFault}
 use Rattle.textio.specs.declared.program_fault.ProgramFault.TheVariants.{BadHex, BadItem, IndexRepeated, NotACommand, NotEvidence, BadRecord, OtherKeys, CannotRead, CannotWrite, CannotListen, OutOfMemory}
-use Rattle.textio.specs.Faults.{IsDeviceFault}
+use Rattle.files.specs.Faults.{IsSystemFault}
 use Rattle.play.specs.Scripts.{ScriptLine, Pass, Ask, Watch, Piece, End, line_of}
 use Rattle.asking.specs.AskOptions.{AskOptions}
 use Rattle.asking.specs.Runs.{lines_asked}
@@ -50,9 +50,9 @@ IsFaultWith HasState ReadsInput IsUnasked OutOfMemory = ⊤
 abbrev pub IsRunFault : AskOptions → Option (List ℕ) → ProgramFault → Type 0
 IsRunFault options input = IsFaultWith (¬ (options.state ≡ None)) (AsksInput options.words) (λ number. IfSome (lines_asked options.words input) (λ lines. IsFirstUnasked 1 lines number))
 
--- a line of a state is not as a run wrote it, or a read or memory failed
+-- a line of a state is not as a run wrote it, or a read, a write or memory failed
 abbrev pub IsFaultOfState : ProgramFault → Type 0
-IsFaultOfState fault = IsDeviceFault fault ⊎ ((line : ℕ) × (fault ≡ BadItem line))
+IsFaultOfState fault = IsSystemFault fault ⊎ ((line : ℕ) × (fault ≡ BadItem line))
 
 -- a write or memory failed
 abbrev pub IsFaultOfSaving : ProgramFault → Type 0

@@ -166,7 +166,7 @@ where
         }
     }
 
-    /// Begins with the chain of the state, or with the directory's head, and asks what an order asks.
+    /// Asks what an order asks, and leaves the files of the state without lines that no longer hold.
     pub(crate) fn ask<T, R, W, E, H, V, S>(
         &mut self,
         stream: &mut T,
@@ -195,6 +195,39 @@ where
         ensures grows { Grows (W.contents writer.old) (W.contents writer.new) }
         ensures rises { (self.old).said.status ≤ (self.new).said.status }
     {
+        let asked = self.ask_all(stream, checks, keys, order, reader, writer, errors);
+        self.leave(asked)
+    }
+
+    /// Begins with the chain of the state, or with the directory's head, and asks what an order asks.
+    fn ask_all<T, R, W, E, H, V, S>(
+        &mut self,
+        stream: &mut T,
+        checks: Checks<H, V, S>,
+        keys: &AskKeys,
+        order: AskOrder<'_>,
+        reader: &mut R,
+        writer: &mut W,
+        errors: &mut E,
+    ) -> Result<(), RunFault>
+    where
+        T: Read + Write,
+        R: BufRead,
+        W: Write,
+        E: Write,
+        H: NodeHash + Drop,
+        V: VufCheck + Drop,
+        S: Verifier + Drop,
+        ensures runs { OnOk result (report_of (self.old).said ≡ emptied 0 → RunsWhole H.digest_of V.accepted S.verified (ExchangesFrames T.contents T.remaining) keys.now.signing_key keys.now.token (ask_values order.entry)
+            ((self.old).state ≡ None) stream.old stream.new (R.remaining reader.old) (self.new).said.status (W.contents writer.old) (W.contents writer.new)) }
+        ensures faults { IfErr result (StopsOr (IsFaultWith (¬ ((self.old).state ≡ None)) (AsksInput (ask_values order.entry).words)
+            (λ number. IfSome (lines_asked (ask_values order.entry).words (R.remaining reader.old)) (λ lines. IsFirstUnasked 1 lines number)))) }
+        ensures part { report_of (self.old).said ≡ emptied 0 → EndsEarly H.digest_of V.accepted S.verified (ExchangesFrames T.contents T.remaining) keys.now.signing_key keys.now.token (ask_values order.entry)
+            ((self.old).state ≡ None) stream.old (R.remaining reader.old) (W.contents writer.old) (HoldsBack (W.contents writer.new) (self.new).said) }
+        ensures unread { ¬ AsksInput (ask_values order.entry).words → reader.new ≡ reader.old }
+        ensures grows { Grows (W.contents writer.old) (W.contents writer.new) }
+        ensures rises { (self.old).said.status ≤ (self.new).said.status }
+    {
         let mut asker = self.begin(stream, checks, keys)?;
         self.prepare(&mut asker, stream, writer, errors)?;
         match order.command {
@@ -204,6 +237,22 @@ where
             }
             None => self.ask_lines(&mut asker, stream, reader, writer, errors),
         }
+    }
+
+    /// Leaves the files of the state without lines that no longer hold. Returns what came of the questions, or the fault
+    /// of this if all was asked.
+    fn leave(&mut self, asked: Result<(), RunFault>) -> Result<(), RunFault>
+        ensures ok { OnOk result (asked ≡ Ok tt) }
+        ensures err { IfErr result (λ fault. (asked ≡ Err fault) ⊎ ((asked ≡ Ok tt) × StopsOr IsFaultOfSaving fault)) }
+        ensures said { (self.new).said ≡ (self.old).said }
+    {
+        let Some(state) = self.state.as_ref() else {
+            return asked;
+        };
+        let left = state.finish(self.alloc, self.files);
+        asked?;
+        left?;
+        Ok(())
     }
 
     /// What asks: with the chain of the state, or else from the directory's head on.
@@ -247,10 +296,17 @@ where
         ensures sound { IfOk result (λ loaded. IfOk loaded (λ asker. IsSoundFor H.digest_of V.accepted S.verified keys.now.signing_key asker.client)) }
         ensures kept { IfOk result (λ loaded. IfOk loaded (λ asker. KeepsAll asker.client asker.earlier.items)) }
         ensures err { IfErr result IsFaultOfState }
-        ensures said { (self.new).said ≡ (self.old).said }
+        ensures said { report_of (self.new).said ≡ report_of (self.old).said }
     {
         match self.state.as_mut() {
-            Some(state) => state.load(self.alloc, self.files, checks, keys.signing_key, keys.token),
+            Some(state) => state.load(
+                self.alloc,
+                self.files,
+                checks,
+                keys.signing_key,
+                keys.token,
+                &mut self.said,
+            ),
             None => Ok(Err(checks)),
         }
     }
@@ -336,8 +392,8 @@ where
         S: Verifier + Drop,
         ensures asks { OnOk result (IfSome (R.remaining reader.old) (λ input. AsksLines H.digest_of V.accepted S.verified (ExchangesFrames T.contents T.remaining) (background_of asker.old) (lines_of input)
             (scene asker.old (self.old).said stream.old) (W.contents writer.old) (W.contents writer.new) (scene asker.new (self.new).said stream.new))) }
-        ensures part { OnErr result (IfSome (R.remaining reader.old) (λ input. (told : Report) × (now : Option (List ℕ)) × AsksPart H.digest_of V.accepted S.verified (ExchangesFrames T.contents T.remaining) (background_of asker.old) (lines_of input)
-            (scene asker.old (self.old).said stream.old) told (W.contents writer.old) now × HoldsBack (W.contents writer.new) (self.new).said told now)) }
+        ensures part { IfSome (R.remaining reader.old) (λ input. (told : Report) × (now : Option (List ℕ)) × AsksPart H.digest_of V.accepted S.verified (ExchangesFrames T.contents T.remaining) (background_of asker.old) (lines_of input)
+            (scene asker.old (self.old).said stream.old) told (W.contents writer.old) now × HoldsBack (W.contents writer.new) (self.new).said told now) }
         ensures faults { IfErr result (StopsOr (IsFaultWith ⊥ ⊤ (λ number. IfSome (R.remaining reader.old) (λ input. IsFirstUnasked 1 (lines_of input) number)))) }
         ensures grows { Grows (W.contents writer.old) (W.contents writer.new) }
         ensures rises { (self.old).said.status ≤ (self.new).said.status }
@@ -372,8 +428,8 @@ where
         S: Verifier + Drop,
         ensures asks { OnOk result (Writes (AsksLine H.digest_of V.accepted S.verified (ExchangesFrames T.contents T.remaining) (background_of asker.old) line.now)
             (scene asker.old (self.old).said stream.old) (W.contents writer.old) (W.contents writer.new) (scene asker.new (self.new).said stream.new)) }
-        ensures part { OnErr result ((reached : Scene T) × AsksSomeLine H.digest_of V.accepted S.verified (ExchangesFrames T.contents T.remaining) (background_of asker.old) line.now (scene asker.old (self.old).said stream.old) reached
-            × HoldsBack (W.contents writer.new) (self.new).said reached.told (W.contents writer.old)) }
+        ensures part { (reached : Scene T) × AsksSomeLine H.digest_of V.accepted S.verified (ExchangesFrames T.contents T.remaining) (background_of asker.old) line.now (scene asker.old (self.old).said stream.old) reached
+            × HoldsBack (W.contents writer.new) (self.new).said reached.told (W.contents writer.old) }
         ensures stays { background_of asker.new ≡ background_of asker.old }
         ensures faults { IfErr result (StopsOr (λ fault. IsFaultOfSaving fault ⊎ ((fault ≡ NotACommand number) × CannotBeAsked (line_of line.now)))) }
         ensures grows { Grows (W.contents writer.old) (W.contents writer.new) }
@@ -407,13 +463,13 @@ where
         S: Verifier + Drop,
         ensures asked { OnOk result (asked ≡ Ok tt) }
         ensures writes { OnOk result (Appends (W.contents writer.old) (W.contents writer.new) (self.old).said.text.items × (report_of (self.new).said ≡ emptied (self.old).said.status)) }
-        ensures leaves { OnErr result (HoldsBack (W.contents writer.new) (self.new).said (report_of (self.old).said) (W.contents writer.old)) }
+        ensures leaves { HoldsBack (W.contents writer.new) (self.new).said (report_of (self.old).said) (W.contents writer.old) }
         ensures faults { IfErr result (StopsOr IsFaultOfSaving) }
         ensures grows { Grows (W.contents writer.old) (W.contents writer.new) }
         ensures status { (self.new).said.status ≡ (self.old).said.status }
     {
         if let Some(state) = self.state.as_mut() {
-            state.add(self.alloc, self.files, asker)?;
+            state.add(self.files, asker)?;
         }
         if asked == Err(AskFault::Stopped) {
             tell_epoch(
@@ -425,7 +481,7 @@ where
         self.write(writer, errors)?;
         if asked != Err(AskFault::OutOfMemory) {
             if let Some(state) = self.state.as_mut() {
-                state.save(self.alloc, self.files, asker)?;
+                state.save(self.files, asker)?;
             }
         }
         asked?;

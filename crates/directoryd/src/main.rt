@@ -7,6 +7,7 @@ mod keyed;
 mod keys;
 mod order;
 mod refusing;
+mod streams;
 
 pub use asking::ask;
 pub use audits::{audit, evidence_json, judge_at, judge_file, read_evidence};
@@ -18,7 +19,12 @@ pub use server::{listen, serve, serve_directory};
 use std::env;
 use std::io::{self, BufReader};
 use std::process::ExitCode;
+use streams::hold_streams;
 pub use textio::ProgramFault;
+use textio::write_text;
+
+/// The status of a program that could not begin.
+const FAILURE: u8 = 1;
 
 /// The words of the command line, the program's name first.
 fn words(rt: &HostRuntime) -> io::Result<Vec<String>> {
@@ -26,6 +32,10 @@ fn words(rt: &HostRuntime) -> io::Result<Vec<String>> {
 }
 
 fn main(rt: HostRuntime) -> ExitCode {
+    let Ok(_held) = hold_streams(&rt) else {
+        let _told = write_text(&mut rt.stderr(), b"cannot open /dev/null\n");
+        return ExitCode::from(FAILURE);
+    };
     let ending = end(
         rt.alloc(),
         &rt,

@@ -119,20 +119,6 @@ of_refusal refusal.BadRecord = BadRecord
 of_refusal refusal.OtherKeys = OtherKeys
 of_refusal refusal.Memory = OutOfMemory
 
--- a read, a write or memory failed
-abbrev pub IsSystemFault : ProgramFault → Type 0
-IsSystemFault BadHex = ⊥
-IsSystemFault (BadItem line) = ⊥
-IsSystemFault (IndexRepeated line) = ⊥
-IsSystemFault (NotACommand line) = ⊥
-IsSystemFault NotEvidence = ⊥
-IsSystemFault BadRecord = ⊥
-IsSystemFault OtherKeys = ⊥
-IsSystemFault CannotRead = ⊤
-IsSystemFault CannotWrite = ⊤
-IsSystemFault CannotListen = ⊥
-IsSystemFault OutOfMemory = ⊤
-
 -- why a file is not opened: its bytes are refused, or have other keys, or the system failed
 abbrev pub IsUnopened : DirectoryKeys → Option (List ℕ) → ProgramFault → Type 0
 IsUnopened keys known BadRecord = (bytes : List ℕ) × FileHolds known bytes × IsBadFile keys bytes

@@ -5,7 +5,8 @@ ghost use Rattle.std.specs.Io.KnownBytes.{Keeps};
 ghost use Rattle.book.specs.Salts.{chacha_salts};
 ghost use Rattle.journal.specs.Opened.{IsOpenRefusal, Opens};
 ghost use Rattle.journal.specs.Records.{start_bytes};
-ghost use Rattle.server.specs.Reopening.{at_stream, beginning_with, index_by, of_refusal, HasRead, HasReopened, HasStarted, IsSystemFault, IsUnopened, StartsLess, StaysAt};
+ghost use Rattle.files.specs.Faults.{IsSystemFault};
+ghost use Rattle.server.specs.Reopening.{at_stream, beginning_with, index_by, of_refusal, HasRead, HasReopened, HasStarted, IsUnopened, StartsLess, StaysAt};
 
 use crate::JournalFile;
 use crate::keys::{Keys, ServedDirectory};

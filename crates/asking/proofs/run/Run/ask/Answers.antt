@@ -1,124 +1,20 @@
-use Rattle.std.proofs.Common.{◌≡◌, ◌⊎◌, ◌∷◌, [], Err, None, refl, rules}
-use Rattle.std.specs.Prelude.{List, ℕ, IfSome, Ok, Option}
-use Rattle.textio.specs.declared.program_fault.ProgramFault.TheVariants.{OutOfMemory}
+use Rattle.std.proofs.Common.{◌≡◌, None}
+use Rattle.std.specs.Prelude.{IfSome}
 use Rattle.asking.specs.AskOptions.{ask_values}
-use Rattle.asking.specs.Ending.{AsksPart, HoldsBack}
-use Rattle.asking.specs.Exchanges.{ExchangesFrames}
-use Rattle.asking.specs.Reports.{report_of, Report}
-use Rattle.asking.specs.RunFaults.{AsksInput, IsFaultOfSaving, IsFaultOfState, IsFaultWith, IsFirstUnasked}
-use Rattle.asking.specs.Runs.{AsksLines, background_of, lines_asked, words_line}
-use Rattle.asking.specs.Scenes.{scene}
-use Rattle.asking.specs.declared.ask_fault.RunFault.{RunFault}
-use Rattle.asking.proofs.Ended.{early_asking, early_none, early_preparing, err_so, err_then, line_not, part_once}
-use Rattle.asking.proofs.Faulty.{beginning_with, grows_not, grows_on, input_fault, reads_input, saving_with, stops_more, words_fault}
-use Rattle.asking.proofs.Ran.{asks_input, asks_words, begins_run, leads_once, ok_then, whole}
+use Rattle.asking.specs.RunFaults.{AsksInput, IsFaultWith, IsFirstUnasked}
+use Rattle.asking.specs.Runs.{lines_asked}
+use Rattle.asking.proofs.Ended.{err_so}
+use Rattle.asking.proofs.Faulty.{saving_with}
+use Rattle.asking.proofs.Left.{asked_left, faults_left}
 use Rattle.asking.proofs.run.Run.ask.Goals as goal
 
-pub returns-in-Some-clause-runs : goal.returns-in-Some-clause-runs
-returns-in-Some-clause-runs g c =
-    let start = scene c.in_ok-asker.asker c.begin.new.self.said c.begin.new.stream in
-    let ready = scene c.prepare.new.asker c.prepare.new.self.said c.prepare.new.stream in
-    let last = scene c.ask_line.new.asker c.ask_line.new.self.said c.ask_line.new.stream in
-    let line = rw (c.deref.ensures.value, c.in_ok-line-in-Some.ensures) at c.ask_line.ensures.asks in
-    let once = leads_once g.H.NodeHash.digest_of g.V.VufCheck.accepted g.S.Verifier.verified (ExchangesFrames g.T.Write.contents g.T.Read.remaining) (background_of c.prepare.new.asker) ready last
-    (g.W.Write.contents c.prepare.new.writer) (g.W.Write.contents c.ask_line.new.writer) (words_line (ask_values c.args.order).words) in
-    let asks = asks_words (λ lines. AsksLines g.H.NodeHash.digest_of g.V.VufCheck.accepted g.S.Verifier.verified (ExchangesFrames g.T.Write.contents g.T.Read.remaining) (background_of c.prepare.new.asker) lines ready
-    (g.W.Write.contents c.prepare.new.writer) (g.W.Write.contents c.ask_line.new.writer) last) c.ask_line.result (g.R.Read.remaining c.args.reader.now) c.args.order c.in-Some.field-0 c.in-Some.is
-    (ok_then {Q = AsksLines g.H.NodeHash.digest_of g.V.VufCheck.accepted g.S.Verifier.verified (ExchangesFrames g.T.Write.contents g.T.Read.remaining) (background_of c.prepare.new.asker) (words_line (ask_values c.args.order).words ∷ []) ready
-    (g.W.Write.contents c.prepare.new.writer) (g.W.Write.contents c.ask_line.new.writer) last} c.ask_line.result line once) in
-    whole g.H.NodeHash.digest_of g.V.VufCheck.accepted g.S.Verifier.verified (ExchangesFrames g.T.Write.contents g.T.Read.remaining) c.args.keys.now.signing_key c.args.keys.now.token (ask_values c.args.order) (c.args.self.now.state ≡ None)
-    c.ask_line.result (background_of c.in_ok-asker.asker) (background_of c.prepare.new.asker) c.args.stream.now start ready last (g.R.Read.remaining c.args.reader.now) (g.W.Write.contents c.args.writer.now)
-    (g.W.Write.contents c.prepare.new.writer) (g.W.Write.contents c.ask_line.new.writer) (report_of c.args.self.now.said)
-    (begins_run g.H.NodeHash.digest_of g.V.VufCheck.accepted g.S.Verifier.verified (ExchangesFrames g.T.Write.contents g.T.Read.remaining) c.args.keys.now.signing_key c.args.keys.now.token (c.args.self.now.state ≡ None) (background_of c.in_ok-asker.asker) c.args.stream.now start (report_of c.args.self.now.said)
-    c.in_ok-asker.ensures.said c.in_ok-asker.ensures.begins c.in_ok-asker.ensures.knows)
-    c.in_ok-prepare.ensures.prepares c.in_ok-prepare.ensures.stays asks
-
 pub returns-clause-runs : goal.returns-clause-runs
-returns-clause-runs g c =
-    let start = scene c.in_ok-asker.asker c.begin.new.self.said c.begin.new.stream in
-    let ready = scene c.prepare.new.asker c.prepare.new.self.said c.prepare.new.stream in
-    let last = scene c.ask_lines.new.asker c.ask_lines.new.self.said c.ask_lines.new.stream in
-    let asks = asks_input (λ lines. AsksLines g.H.NodeHash.digest_of g.V.VufCheck.accepted g.S.Verifier.verified (ExchangesFrames g.T.Write.contents g.T.Read.remaining) (background_of c.prepare.new.asker) lines ready
-    (g.W.Write.contents c.prepare.new.writer) (g.W.Write.contents c.ask_lines.new.writer) last) c.ask_lines.result (g.R.Read.remaining c.args.reader.now) c.args.order c.in-None.is c.ask_lines.ensures.asks in
-    whole g.H.NodeHash.digest_of g.V.VufCheck.accepted g.S.Verifier.verified (ExchangesFrames g.T.Write.contents g.T.Read.remaining) c.args.keys.now.signing_key c.args.keys.now.token (ask_values c.args.order) (c.args.self.now.state ≡ None)
-    c.ask_lines.result (background_of c.in_ok-asker.asker) (background_of c.prepare.new.asker) c.args.stream.now start ready last (g.R.Read.remaining c.args.reader.now) (g.W.Write.contents c.args.writer.now)
-    (g.W.Write.contents c.prepare.new.writer) (g.W.Write.contents c.ask_lines.new.writer) (report_of c.args.self.now.said)
-    (begins_run g.H.NodeHash.digest_of g.V.VufCheck.accepted g.S.Verifier.verified (ExchangesFrames g.T.Write.contents g.T.Read.remaining) c.args.keys.now.signing_key c.args.keys.now.token (c.args.self.now.state ≡ None) (background_of c.in_ok-asker.asker) c.args.stream.now start (report_of c.args.self.now.said)
-    c.in_ok-asker.ensures.said c.in_ok-asker.ensures.begins c.in_ok-asker.ensures.knows)
-    c.in_ok-prepare.ensures.prepares c.in_ok-prepare.ensures.stays asks
-
-pub returns-in_err-asker-clause-faults : goal.returns-in_err-asker-clause-faults
-returns-in_err-asker-clause-faults g c =
-    let passed : c.from_residual.result ≡ Err c.in_err-asker.field-0.0 = search rules in
-    rw passed (stops_more {A = Unit {0}} (λ fault. ((¬ (c.args.self.now.state ≡ None)) × IsFaultOfState fault) ⊎ (fault ≡ OutOfMemory))
-    (IsFaultWith (¬ (c.args.self.now.state ≡ None)) (AsksInput (ask_values c.args.order).words) (λ number. IfSome (lines_asked (ask_values c.args.order).words (g.R.Read.remaining c.args.reader.now)) (λ lines. IsFirstUnasked 1 lines number)))
-    (Err c.in_err-asker.field-0.0) (beginning_with _ _ _) c.in_err-asker.ensures.faults)
-
-pub returns-in_err-prepare-clause-faults : goal.returns-in_err-prepare-clause-faults
-returns-in_err-prepare-clause-faults g c =
-    let passed : c.from_residual-in_err-prepare.result ≡ Err c.in_err-prepare.field-0.0 = search rules in
-    rw passed (stops_more {A = Unit {0}} IsFaultOfSaving
-    (IsFaultWith (¬ (c.args.self.now.state ≡ None)) (AsksInput (ask_values c.args.order).words) (λ number. IfSome (lines_asked (ask_values c.args.order).words (g.R.Read.remaining c.args.reader.now)) (λ lines. IsFirstUnasked 1 lines number)))
-    (Err c.in_err-prepare.field-0.0) (saving_with _ _ _) c.in_err-prepare.ensures.faults)
-
-pub returns-in-Some-clause-faults : goal.returns-in-Some-clause-faults
-returns-in-Some-clause-faults g c =
-    words_fault (¬ (c.args.self.now.state ≡ None)) c.ask_line.result (g.R.Read.remaining c.args.reader.now) c.args.order c.in-Some.field-0 c.in-Some.is
-    (rw (c.deref.ensures.value, c.in_ok-line-in-Some.ensures) at c.ask_line.ensures.faults)
+returns-clause-runs g c = rw c.leave.ensures.said (asked_left c.ask_all-asked.result c.leave.result c.leave.ensures.ok c.ask_all-asked.ensures.runs)
 
 pub returns-clause-faults : goal.returns-clause-faults
-returns-clause-faults g c = input_fault (¬ (c.args.self.now.state ≡ None)) c.ask_lines.result (g.R.Read.remaining c.args.reader.now) c.args.order c.in-None.is c.ask_lines.ensures.faults
-
-pub returns-clause-unread : goal.returns-clause-unread
-returns-clause-unread g c = λ words. absurd (words (reads_input c.args.order c.in-None.is))
-
-pub returns-in-Some-clause-grows : goal.returns-in-Some-clause-grows
-returns-in-Some-clause-grows g c = grows_on (g.W.Write.contents c.args.writer.now) (g.W.Write.contents c.prepare.new.writer) (g.W.Write.contents c.ask_line.new.writer) c.prepare.ensures.grows c.ask_line.ensures.grows
-
-pub returns-clause-grows : goal.returns-clause-grows
-returns-clause-grows g c = grows_on (g.W.Write.contents c.args.writer.now) (g.W.Write.contents c.prepare.new.writer) (g.W.Write.contents c.ask_lines.new.writer) c.prepare.ensures.grows c.ask_lines.ensures.grows
-
-pub returns-in_err-asker-clause-grows : goal.returns-in_err-asker-clause-grows
-returns-in_err-asker-clause-grows g c = grows_not (g.W.Write.contents c.args.writer.now)
-
-pub returns-in_err-asker-clause-part : goal.returns-in_err-asker-clause-part
-returns-in_err-asker-clause-part g c = err_so _ (early_none g.H.NodeHash.digest_of g.V.VufCheck.accepted g.S.Verifier.verified (ExchangesFrames g.T.Write.contents g.T.Read.remaining) c.args.keys.now.signing_key c.args.keys.now.token (ask_values c.args.order) (c.args.self.now.state ≡ None) c.args.stream.now (g.R.Read.remaining c.args.reader.now) (g.W.Write.contents c.args.writer.now) (report_of c.args.self.now.said) c.begin.new.self.said c.in_err-asker.ensures.none)
-
-pub returns-in_err-prepare-clause-part : goal.returns-in_err-prepare-clause-part
-returns-in_err-prepare-clause-part g c =
-    let start = scene c.in_ok-asker.asker c.begin.new.self.said c.begin.new.stream in
-    err_so _ (early_preparing g.H.NodeHash.digest_of g.V.VufCheck.accepted g.S.Verifier.verified (ExchangesFrames g.T.Write.contents g.T.Read.remaining) c.args.keys.now.signing_key c.args.keys.now.token (ask_values c.args.order) (c.args.self.now.state ≡ None) c.args.stream.now (g.R.Read.remaining c.args.reader.now) (g.W.Write.contents c.args.writer.now) (background_of c.in_ok-asker.asker) start (g.W.Write.contents c.prepare.new.writer) c.prepare.new.self.said
-    (report_of c.args.self.now.said) (begins_run g.H.NodeHash.digest_of g.V.VufCheck.accepted g.S.Verifier.verified (ExchangesFrames g.T.Write.contents g.T.Read.remaining) c.args.keys.now.signing_key c.args.keys.now.token (c.args.self.now.state ≡ None) (background_of c.in_ok-asker.asker) c.args.stream.now start (report_of c.args.self.now.said)
-    c.in_ok-asker.ensures.said c.in_ok-asker.ensures.begins c.in_ok-asker.ensures.knows) c.in_err-prepare.ensures.part)
-
-pub returns-in_err-line-in-Some-clause-part : goal.returns-in_err-line-in-Some-clause-part
-returns-in_err-line-in-Some-clause-part g c =
-    let start = scene c.in_ok-asker.asker c.begin.new.self.said c.begin.new.stream in
-    let ready = scene c.prepare.new.asker c.prepare.new.self.said c.prepare.new.stream in
-    err_so _ (early_asking g.H.NodeHash.digest_of g.V.VufCheck.accepted g.S.Verifier.verified (ExchangesFrames g.T.Write.contents g.T.Read.remaining) c.args.keys.now.signing_key c.args.keys.now.token (ask_values c.args.order) (c.args.self.now.state ≡ None) c.args.stream.now (g.R.Read.remaining c.args.reader.now) (g.W.Write.contents c.args.writer.now) (background_of c.in_ok-asker.asker) start (g.W.Write.contents c.prepare.new.writer) c.prepare.new.self.said
-    (report_of c.args.self.now.said) (begins_run g.H.NodeHash.digest_of g.V.VufCheck.accepted g.S.Verifier.verified (ExchangesFrames g.T.Write.contents g.T.Read.remaining) c.args.keys.now.signing_key c.args.keys.now.token (c.args.self.now.state ≡ None) (background_of c.in_ok-asker.asker) c.args.stream.now start (report_of c.args.self.now.said)
-    c.in_ok-asker.ensures.said c.in_ok-asker.ensures.begins c.in_ok-asker.ensures.knows) (background_of c.prepare.new.asker) ready (g.W.Write.contents c.prepare.new.writer) c.in_ok-prepare.ensures.prepares c.in_ok-prepare.ensures.stays
-    (asks_words {E = RunFault} (λ lines. (told : Report) × (next : Option (List ℕ)) × AsksPart g.H.NodeHash.digest_of g.V.VufCheck.accepted g.S.Verifier.verified (ExchangesFrames g.T.Write.contents g.T.Read.remaining) (background_of c.prepare.new.asker) lines ready told (g.W.Write.contents c.prepare.new.writer) next
-    × HoldsBack (g.W.Write.contents c.prepare.new.writer) c.prepare.new.self.said told next) (Ok tt) (g.R.Read.remaining c.args.reader.now) c.args.order c.in-Some.field-0 c.in-Some.is
-    (part_once g.H.NodeHash.digest_of g.V.VufCheck.accepted g.S.Verifier.verified (ExchangesFrames g.T.Write.contents g.T.Read.remaining) (background_of c.prepare.new.asker) (words_line (ask_values c.args.order).words) ready (g.W.Write.contents c.prepare.new.writer) (g.W.Write.contents c.prepare.new.writer) c.prepare.new.self.said (line_not g.H.NodeHash.digest_of g.V.VufCheck.accepted g.S.Verifier.verified (ExchangesFrames g.T.Write.contents g.T.Read.remaining) (background_of c.prepare.new.asker) (words_line (ask_values c.args.order).words) ready (g.W.Write.contents c.prepare.new.writer) c.prepare.new.self.said refl))))
-
-pub returns-in-Some-clause-part : goal.returns-in-Some-clause-part
-returns-in-Some-clause-part g c =
-    let start = scene c.in_ok-asker.asker c.begin.new.self.said c.begin.new.stream in
-    let ready = scene c.prepare.new.asker c.prepare.new.self.said c.prepare.new.stream in
-    err_then c.ask_line.result (rw (c.deref.ensures.value, c.in_ok-line-in-Some.ensures) at c.ask_line.ensures.part) (λ found. early_asking g.H.NodeHash.digest_of g.V.VufCheck.accepted g.S.Verifier.verified (ExchangesFrames g.T.Write.contents g.T.Read.remaining) c.args.keys.now.signing_key c.args.keys.now.token (ask_values c.args.order) (c.args.self.now.state ≡ None) c.args.stream.now (g.R.Read.remaining c.args.reader.now) (g.W.Write.contents c.args.writer.now) (background_of c.in_ok-asker.asker) start (g.W.Write.contents c.ask_line.new.writer) c.ask_line.new.self.said
-    (report_of c.args.self.now.said) (begins_run g.H.NodeHash.digest_of g.V.VufCheck.accepted g.S.Verifier.verified (ExchangesFrames g.T.Write.contents g.T.Read.remaining) c.args.keys.now.signing_key c.args.keys.now.token (c.args.self.now.state ≡ None) (background_of c.in_ok-asker.asker) c.args.stream.now start (report_of c.args.self.now.said)
-    c.in_ok-asker.ensures.said c.in_ok-asker.ensures.begins c.in_ok-asker.ensures.knows) (background_of c.prepare.new.asker) ready (g.W.Write.contents c.prepare.new.writer) c.in_ok-prepare.ensures.prepares c.in_ok-prepare.ensures.stays
-    (asks_words {E = RunFault} (λ lines. (told : Report) × (next : Option (List ℕ)) × AsksPart g.H.NodeHash.digest_of g.V.VufCheck.accepted g.S.Verifier.verified (ExchangesFrames g.T.Write.contents g.T.Read.remaining) (background_of c.prepare.new.asker) lines ready told (g.W.Write.contents c.prepare.new.writer) next
-    × HoldsBack (g.W.Write.contents c.ask_line.new.writer) c.ask_line.new.self.said told next) (Ok tt) (g.R.Read.remaining c.args.reader.now) c.args.order c.in-Some.field-0 c.in-Some.is
-    (part_once g.H.NodeHash.digest_of g.V.VufCheck.accepted g.S.Verifier.verified (ExchangesFrames g.T.Write.contents g.T.Read.remaining) (background_of c.prepare.new.asker) (words_line (ask_values c.args.order).words) ready (g.W.Write.contents c.prepare.new.writer) (g.W.Write.contents c.ask_line.new.writer) c.ask_line.new.self.said found)))
+returns-clause-faults g c =
+    faults_left (IsFaultWith (¬ (c.args.self.now.state ≡ None)) (AsksInput (ask_values c.args.order).words) (λ number. IfSome (lines_asked (ask_values c.args.order).words (g.R.Read.remaining c.args.reader.now)) (λ lines. IsFirstUnasked 1 lines number)))
+    c.ask_all-asked.result c.leave.result (saving_with _ _ _) c.leave.ensures.err c.ask_all-asked.ensures.faults
 
 pub returns-clause-part : goal.returns-clause-part
-returns-clause-part g c =
-    let start = scene c.in_ok-asker.asker c.begin.new.self.said c.begin.new.stream in
-    let ready = scene c.prepare.new.asker c.prepare.new.self.said c.prepare.new.stream in
-    err_then c.ask_lines.result c.ask_lines.ensures.part (λ found. early_asking g.H.NodeHash.digest_of g.V.VufCheck.accepted g.S.Verifier.verified (ExchangesFrames g.T.Write.contents g.T.Read.remaining) c.args.keys.now.signing_key c.args.keys.now.token (ask_values c.args.order) (c.args.self.now.state ≡ None) c.args.stream.now (g.R.Read.remaining c.args.reader.now) (g.W.Write.contents c.args.writer.now) (background_of c.in_ok-asker.asker) start (g.W.Write.contents c.ask_lines.new.writer) c.ask_lines.new.self.said
-    (report_of c.args.self.now.said) (begins_run g.H.NodeHash.digest_of g.V.VufCheck.accepted g.S.Verifier.verified (ExchangesFrames g.T.Write.contents g.T.Read.remaining) c.args.keys.now.signing_key c.args.keys.now.token (c.args.self.now.state ≡ None) (background_of c.in_ok-asker.asker) c.args.stream.now start (report_of c.args.self.now.said)
-    c.in_ok-asker.ensures.said c.in_ok-asker.ensures.begins c.in_ok-asker.ensures.knows) (background_of c.prepare.new.asker) ready (g.W.Write.contents c.prepare.new.writer) c.in_ok-prepare.ensures.prepares c.in_ok-prepare.ensures.stays
-    (asks_input {E = RunFault} (λ lines. (told : Report) × (next : Option (List ℕ)) × AsksPart g.H.NodeHash.digest_of g.V.VufCheck.accepted g.S.Verifier.verified (ExchangesFrames g.T.Write.contents g.T.Read.remaining) (background_of c.prepare.new.asker) lines ready told (g.W.Write.contents c.prepare.new.writer) next
-    × HoldsBack (g.W.Write.contents c.ask_lines.new.writer) c.ask_lines.new.self.said told next) (Ok tt) (g.R.Read.remaining c.args.reader.now) c.args.order c.in-None.is found))
+returns-clause-part g c = err_so _ (rw c.leave.ensures.said c.ask_all-asked.ensures.part)

@@ -5,7 +5,7 @@ use Rattle.asking.specs.Exchanges.{ExchangesFrames}
 use Rattle.asking.specs.Reports.{report_of}
 use Rattle.asking.specs.Runs.{AsksLine, background_of}
 use Rattle.asking.specs.Scenes.{scene}
-use Rattle.asking.proofs.Ended.{err_so, leaves_same, line_not, line_reaches, reaches_so}
+use Rattle.asking.proofs.Ended.{leaves_same, line_not, line_reaches, reaches_whole}
 use Rattle.asking.proofs.Ran.{ok_before, ok_then, written_so}
 use Rattle.asking.proofs.run.Run.ask_line.Goals as goal
 
@@ -21,15 +21,15 @@ returns-clause-asks g c =
 pub returns-clause-part : goal.returns-clause-part
 returns-clause-part g c =
     let said : line_of c.args.line.now ≡ Some (line_seen c.in-Some.line) = sym (rw c.in-Some.is at c.in_ok-line.ensures) in
-    reaches_so c.settle.result (AsksSomeLine g.H.NodeHash.digest_of g.V.VufCheck.accepted g.S.Verifier.verified (ExchangesFrames g.T.Write.contents g.T.Read.remaining) (background_of c.args.asker.now) c.args.line.now (scene c.args.asker.now c.args.self.now.said c.args.stream.now))
+    reaches_whole (AsksSomeLine g.H.NodeHash.digest_of g.V.VufCheck.accepted g.S.Verifier.verified (ExchangesFrames g.T.Write.contents g.T.Read.remaining) (background_of c.args.asker.now) c.args.line.now (scene c.args.asker.now c.args.self.now.said c.args.stream.now))
     (report_of c.ask_said.new.said) (g.W.Write.contents c.args.writer.now) (g.W.Write.contents c.settle.new.writer) c.settle.new.self.said
     (line_reaches g.H.NodeHash.digest_of g.V.VufCheck.accepted g.S.Verifier.verified (ExchangesFrames g.T.Write.contents g.T.Read.remaining) (background_of c.args.asker.now) c.args.line.now (line_seen c.in-Some.line) (report_of c.ask_said.new.said)
     (scene c.args.asker.now c.args.self.now.said c.args.stream.now) said c.ask_said.ensures.reaches) c.settle.ensures.leaves
 
 pub returns-in_err-line-clause-part : goal.returns-in_err-line-clause-part
 returns-in_err-line-clause-part g c =
-    err_so _ (line_not g.H.NodeHash.digest_of g.V.VufCheck.accepted g.S.Verifier.verified (ExchangesFrames g.T.Write.contents g.T.Read.remaining) (background_of c.args.asker.now) c.args.line.now
-    (scene c.args.asker.now c.args.self.now.said c.args.stream.now) (g.W.Write.contents c.args.writer.now) c.args.self.now.said refl)
+    line_not g.H.NodeHash.digest_of g.V.VufCheck.accepted g.S.Verifier.verified (ExchangesFrames g.T.Write.contents g.T.Read.remaining) (background_of c.args.asker.now) c.args.line.now
+    (scene c.args.asker.now c.args.self.now.said c.args.stream.now) (g.W.Write.contents c.args.writer.now) c.args.self.now.said refl
 
 pub returns-in_default-clause-part : goal.returns-in_default-clause-part
 returns-in_default-clause-part g c =

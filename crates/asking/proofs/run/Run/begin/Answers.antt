@@ -1,4 +1,4 @@
-use Rattle.std.proofs.Common.{◌≡◌, ◌⊎◌, None, ap, inl, inr, refl, rules}
+use Rattle.std.proofs.Common.{◌≡◌, ◌⊎◌, None, inl, inr, refl, rules}
 use Rattle.textio.specs.declared.program_fault.ProgramFault.TheVariants.{OutOfMemory}
 use Rattle.asking.specs.Exchanges.{ExchangesFrames}
 use Rattle.asking.specs.RunFaults.{IsFaultOfState}
@@ -22,7 +22,7 @@ returns-in-Err-clause-faults g c =
     stops_more (λ fault. fault ≡ OutOfMemory) (λ fault. ((¬ (c.args.self.now.state ≡ None)) × IsFaultOfState fault) ⊎ (fault ≡ OutOfMemory)) c.begin_at_head.result (λ fault is. inr is) c.begin_at_head.ensures.faults
 
 pub returns-in_err-asker-clause-none : goal.returns-in_err-asker-clause-none
-returns-in_err-asker-clause-none g c = err_so _ (inl (ap report_of c.load.ensures.said))
+returns-in_err-asker-clause-none g c = err_so _ (inl c.load.ensures.said)
 
 pub returns-in-Err-clause-none : goal.returns-in-Err-clause-none
 returns-in-Err-clause-none g c = rw c.load.ensures.said at c.begin_at_head.ensures.none

@@ -3,7 +3,7 @@ use Rattle.asking.specs.Exchanges.{ExchangesFrames}
 use Rattle.asking.specs.Reports.{report_of}
 use Rattle.asking.specs.Runs.{background_of, Prepares}
 use Rattle.asking.specs.Scenes.{scene}
-use Rattle.asking.proofs.Ended.{reaches_so}
+use Rattle.asking.proofs.Ended.{err_so, reaches_so}
 use Rattle.asking.proofs.Ran.{ok_before, written_so}
 use Rattle.asking.proofs.run.Run.prepare.Goals as goal
 
@@ -17,4 +17,4 @@ returns-clause-prepares g c =
 pub returns-clause-part : goal.returns-clause-part
 returns-clause-part g c =
     reaches_so c.settle.result (PreparesSome g.H.NodeHash.digest_of g.V.VufCheck.accepted g.S.Verifier.verified (ExchangesFrames g.T.Write.contents g.T.Read.remaining) (background_of c.args.asker.now) (scene c.args.asker.now c.args.self.now.said c.args.stream.now))
-    (report_of c.follow-followed.new.said) (g.W.Write.contents c.args.writer.now) (g.W.Write.contents c.settle.new.writer) c.settle.new.self.said c.follow-followed.ensures.reaches c.settle.ensures.leaves
+    (report_of c.follow-followed.new.said) (g.W.Write.contents c.args.writer.now) (g.W.Write.contents c.settle.new.writer) c.settle.new.self.said c.follow-followed.ensures.reaches (err_so _ c.settle.ensures.leaves)

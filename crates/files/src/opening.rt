@@ -1,0 +1,144 @@
+// Files are opened to be read and appended to.
+ghost use Rattle.std.specs.Prelude.{◌≡◌, IfErr, Some};
+ghost use Rattle.files.specs.Faults.{IsLockFault, IsSystemFault};
+ghost use Rattle.files.specs.Folders.{folder_of, or_here};
+
+use std::fs::{File, Files, OpenOptions, TryLockError};
+use std::io::{self, ErrorKind, Read};
+use std::os::unix::fs::OpenOptionsExt;
+use std::path::Path;
+use textio::{ProgramFault, file_fault};
+use thiserror::Error;
+
+/// Who may do what with a file that is made: its owner may read and write it, and nobody else.
+pub(crate) const OWNER_ALONE: u32 = 0o600;
+
+/// Why a file could not be opened and locked.
+#[derive(Clone, Copy, Debug, PartialEq, Eq, Error)]
+pub enum LockFault {
+    /// Another process has it.
+    #[error("another process has the file")]
+    Taken,
+    #[error("{0}")]
+    Program(ProgramFault),
+}
+
+/// Whether a file that is there can be read.
+fn read_byte<F: Files<File = File>>(files: &F, path: &str) -> io::Result<usize> {
+    File::open(files, path)?.read(&mut [0])
+}
+
+/// Why a file could not be opened to be read and written: memory was wanting; or it is there and cannot be read; or
+/// else it could not be made or written.
+fn fault_of<F: Files<File = File>>(files: &F, path: &str, error: &io::Error) -> ProgramFault
+    ensures { IsSystemFault result }
+{
+    if error.kind() == ErrorKind::OutOfMemory {
+        return ProgramFault::OutOfMemory;
+    }
+    if files.metadata(path).is_err() {
+        return ProgramFault::CannotWrite;
+    }
+    match read_byte(files, path) {
+        Ok(_) => ProgramFault::CannotWrite,
+        Err(error) => file_fault(&error),
+    }
+}
+
+/// The folder that has the file of this path.
+fn folder_of(path: &str) -> &str
+    ensures { result.now ≡ folder_of path.now }
+{
+    match Path::new(path).parent() {
+        Some(folder) => or_here(folder.as_str()),
+        None => ".",
+    }
+}
+
+/// The current folder, where the text names no other.
+fn or_here(folder: &str) -> &str
+    ensures { result.now ≡ or_here (Some folder.now) }
+{
+    if folder.is_empty() { "." } else { folder }
+}
+
+/// Puts the entries of the folder that has the file of this path on its disk.
+pub(crate) fn sync_folder<F: Files<File = File>>(files: &F, path: &str) -> io::Result<()> {
+    File::open(files, folder_of(path))?.sync_all()
+}
+
+/// Puts the entry of a file on the disk of its folder, if the file is empty and so may be new.
+fn sync_entry<F: Files<File = File>>(files: &F, path: &str, file: &File) -> io::Result<()> {
+    if file.metadata()?.len() > 0 {
+        return Ok(());
+    }
+    sync_folder(files, path)
+}
+
+/// How a kept file is opened.
+fn options() -> OpenOptions {
+    let mut options = OpenOptions::new();
+    options.read(true).append(true);
+    options.mode(OWNER_ALONE);
+    options
+}
+
+/// A file that is there, to be read and appended to, or `None` if there is none of this path.
+///
+/// # Errors
+///
+/// `CannotRead`; `CannotWrite`; `OutOfMemory`.
+pub fn open_existing<F: Files<File = File>>(
+    files: &F,
+    path: &str,
+) -> Result<Option<File>, ProgramFault>
+    ensures { IfErr result IsSystemFault }
+{
+    match options().open(files, path) {
+        Ok(file) => Ok(Some(file)),
+        Err(error) => match error.kind() {
+            ErrorKind::NotFound => Ok(None),
+            _ => Err(fault_of(files, path, &error)),
+        },
+    }
+}
+
+/// A file, to be read and appended to. If there is none of this path, an empty one is made, which its owner alone may
+/// read and write.
+///
+/// # Errors
+///
+/// `CannotRead`: it is there and cannot be read; `CannotWrite`; `OutOfMemory`.
+pub fn open_kept<F: Files<File = File>>(files: &F, path: &str) -> Result<File, ProgramFault>
+    ensures { IfErr result IsSystemFault }
+{
+    let mut options = options();
+    options.create(true);
+    let file = match options.open(files, path) {
+        Ok(file) => file,
+        Err(error) => return Err(fault_of(files, path, &error)),
+    };
+    match sync_entry(files, path, &file) {
+        Ok(()) => Ok(file),
+        Err(_) => Err(ProgramFault::CannotWrite),
+    }
+}
+
+/// The same, locked until it is closed.
+///
+/// # Errors
+///
+/// `Taken` if another process has it locked; those of `open_kept`.
+pub fn open_locked<F: Files<File = File>>(files: &F, path: &str) -> Result<File, LockFault>
+    ensures { IfErr result IsLockFault }
+{
+    let file = match open_kept(files, path) {
+        Ok(file) => file,
+        Err(fault) => return Err(LockFault::Program(fault)),
+    };
+    match file.try_lock() {
+        Ok(()) => Ok(file),
+        Err(TryLockError::WouldBlock) => Err(LockFault::Taken),
+        Err(TryLockError::Error(_)) => Err(LockFault::Program(ProgramFault::CannotWrite)),
+    }
+}
