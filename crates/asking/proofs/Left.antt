@@ -7,9 +7,9 @@ use Rattle.asking.specs.declared.ask_fault.RunFault.{RunFault}
 use Rattle.asking.proofs.Faulty.{stops_more}
 
 -- if all is well, all was asked
-pub asked_left : {P : Type 0} (asked left : Result (Unit {0}) RunFault) → OnOk left (asked ≡ Ok tt) → OnOk asked P → OnOk left P
-asked_left {P} asked (Ok done) is holds = subst (λ (r : Result (Unit {0}) RunFault). OnOk r P) is holds
-asked_left asked (Err why) is holds = tt
+pub asked_left : (P : Type 0) (asked left : Result (Unit {0}) RunFault) → OnOk left (asked ≡ Ok tt) → OnOk asked P → OnOk left P
+asked_left P asked (Ok done) is holds = subst (λ (r : Result (Unit {0}) RunFault). OnOk r P) is holds
+asked_left P asked (Err why) is holds = tt
 
 -- the fault is that of the questions, or of saving
 pub faults_left : (Holds : ProgramFault → Type 0) (asked left : Result (Unit {0}) RunFault) → ((fault : ProgramFault) → IsFaultOfSaving fault → Holds fault)

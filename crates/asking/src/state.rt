@@ -2,7 +2,7 @@
 // hexadecimal digits; in a second one beside it the promises that it keeps, and how far names were watched. Both only
 // grow while a run goes on, the first one ahead of the second, and each line is on the disk before more is told. At the
 // end of a run a new second file, without the lines that no longer hold, takes the place of the old one. A line
-// without its LF was cut short, and is dropped. Contracts do not know what a file holds: `scripts/asks.py` shows it.
+// without its LF was cut short, and is dropped. Contracts do not know what a file holds: `scripts/states.py` shows it.
 ghost use Rattle.std.specs.Prelude.{◌≡◌, ◌≤◌, [], length, IfErr, IfOk, OnOk};
 ghost use Rattle.textio.specs.declared.program_fault.ProgramFault.TheVariants.{OutOfMemory};
 ghost use Rattle.asking.specs.Reports.{report_of};
@@ -158,7 +158,7 @@ where
     V: VufCheck + Drop,
     S: Verifier + Drop,
     ensures knows { IfOk result (λ asker. (asker.key ≡ key) × (asker.token ≡ token) × (asker.monitors.items ≡ [])) }
-    ensures sound { IfOk result (λ asker. IsSoundFor H.digest_of V.accepted S.verified key asker.client) }
+    ensures chain { IfOk result (λ asker. asker.client.chain.key ≡ key) }
     ensures none { IfOk result (λ asker. asker.earlier.items ≡ []) }
     ensures err { IfErr result IsFaultOfState }
 {
@@ -239,22 +239,24 @@ impl<'a> State<'a> {
             Ok(asker) => asker,
             Err(fault) => return Err(fault_in(self.path, fault, said)),
         };
-        match second {
-            Some(second) => self.keep(alloc, &mut asker, second, said)?,
-            None => {}
+        if let Some(second) = second.as_ref() {
+            self.keep(&mut asker, second, said)?;
         }
         drop_rest(alloc, self.path, &roots, said)?;
+        if let Some(second) = second {
+            drop_rest(alloc, self.beside.as_str(), &second, said)?;
+            self.kept = Some(second.file);
+        }
         self.roots = Some(roots.file);
-        self.epoch = asker.head();
+        self.epoch = asker.client.chain().head().body.epoch;
         Ok(Ok(asker))
     }
 
     /// Keeps what the second file has.
     fn keep<H, V, S>(
         &mut self,
-        alloc: Global,
         asker: &mut Asker<H, V, S>,
-        second: LineFile,
+        second: &LineFile,
         said: &mut Said,
     ) -> Result<(), ProgramFault>
     where
@@ -271,8 +273,6 @@ impl<'a> State<'a> {
             return Err(fault_in(self.beside.as_str(), fault, said));
         }
         self.lines.remember(asker, lines.len())?;
-        drop_rest(alloc, self.beside.as_str(), &second, said)?;
-        self.kept = Some(second.file);
         Ok(())
     }
 

@@ -9,7 +9,7 @@ use Rattle.asking.proofs.Left.{asked_left, faults_left}
 use Rattle.asking.proofs.run.Run.ask.Goals as goal
 
 pub returns-clause-runs : goal.returns-clause-runs
-returns-clause-runs g c = rw c.leave.ensures.said (asked_left c.ask_all-asked.result c.leave.result c.leave.ensures.ok c.ask_all-asked.ensures.runs)
+returns-clause-runs g c = asked_left _ c.ask_all-asked.result c.leave.result c.leave.ensures.ok (rw (← c.leave.ensures.said) at c.ask_all-asked.ensures.runs)
 
 pub returns-clause-faults : goal.returns-clause-faults
 returns-clause-faults g c =
@@ -17,4 +17,6 @@ returns-clause-faults g c =
     c.ask_all-asked.result c.leave.result (saving_with _ _ _) c.leave.ensures.err c.ask_all-asked.ensures.faults
 
 pub returns-clause-part : goal.returns-clause-part
-returns-clause-part g c = err_so _ (rw c.leave.ensures.said c.ask_all-asked.ensures.part)
+returns-clause-part g c =
+    let part = rw (← c.leave.ensures.said) at c.ask_all-asked.ensures.part in
+    err_so c.leave.result part

@@ -1,8 +1,10 @@
-use Rattle.std.proofs.Common.{◌≡◌, ◌⊎◌, None, inl, inr, refl, rules}
+use Rattle.std.proofs.Common.{◌≡◌, ◌⊎◌, None, inl, inr, refl, rules, subst}
 use Rattle.textio.specs.declared.program_fault.ProgramFault.TheVariants.{OutOfMemory}
+use Rattle.std.specs.Prelude.{OnErr}
+use Rattle.asking.specs.Ending.{BeginsNone}
 use Rattle.asking.specs.Exchanges.{ExchangesFrames}
 use Rattle.asking.specs.RunFaults.{IsFaultOfState}
-use Rattle.asking.specs.Reports.{report_of}
+use Rattle.asking.specs.Reports.{report_of, Report}
 use Rattle.asking.proofs.Ended.{err_so}
 use Rattle.asking.proofs.Faulty.{stops_more}
 use Rattle.asking.proofs.Ran.{begins_at_head}
@@ -25,4 +27,6 @@ pub returns-in_err-asker-clause-none : goal.returns-in_err-asker-clause-none
 returns-in_err-asker-clause-none g c = err_so _ (inl c.load.ensures.said)
 
 pub returns-in-Err-clause-none : goal.returns-in-Err-clause-none
-returns-in-Err-clause-none g c = rw c.load.ensures.said at c.begin_at_head.ensures.none
+returns-in-Err-clause-none g c =
+    subst (λ (r : Report). OnErr c.begin_at_head.result (BeginsNone g.S.Verifier.verified (ExchangesFrames g.T.Write.contents g.T.Read.remaining) c.args.keys.now.signing_key c.args.stream.now r (report_of c.begin_at_head.new.self.said)))
+    c.load.ensures.said c.begin_at_head.ensures.none
