@@ -29,9 +29,9 @@ HasRoom course = length course.answered ≤ length course.taken + FULL_OUTPUT
 abbrev pub AreNext : List ℕ → List ℕ → List ℕ → Type 0
 AreNext bytes all done = (rest : List ℕ) × (all ≡ done ++ (bytes ++ rest))
 
--- a connection was taken in this round, and nothing has come of it yet
+-- nothing has come of a connection but that it was taken
 abbrev pub IsNew : Course → Type 0
-IsNew course = course ≡ just_taken
+IsNew course = course ≡ record just_taken { idle_since = course.idle_since }
 
 -- no read or write failed, memory was not wanting, and the session refused nothing
 abbrev pub IsFaultless : Course → Type 0

@@ -28,8 +28,10 @@ pub enum Writing {
 }
 
 /// Connections, each in a place of its own, which is free until one is taken there. No call but `wait`
-/// waits for a peer, and none but `sync` for a disk. The calls before which all has to have happened that
-/// happens to sessions so far are passed the sessions: their clauses ask for a history that leads to these.
+/// waits for a peer, and none but `sync` for a disk.
+///
+/// `wait`, `is_stopped`, `close` and `sync` are passed the sessions. Their clauses hold of a history that leads to
+/// the sessions as they are then, so what was done to sessions before such a call stands before its act.
 pub trait Connections {
     // These acts have happened, the latest first. Of what happens to sessions it says nothing.
     ghost has: { Self → List Act → Type 0 };
