@@ -6,7 +6,7 @@
 #   scripts/listen.sh
 #
 # Takes the built programs, or those that DIRECTORYD and EXAMPLE_CLIENT name. The last line is
-# `N passed, M failed`, and the status is 0 where none failed. It takes some forty seconds, and ends
+# `N passed, M failed`, and the status is 0 where none failed. It takes some fifty seconds, and ends
 # after five minutes whatever happens.
 set -uo pipefail
 cd "$(dirname "$0")/.." || exit 1
