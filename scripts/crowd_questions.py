@@ -2,8 +2,9 @@
 `connections`.
 
 `crowd PLACES OPEN COUNT IDLE ACT..` runs the loop at so many places, over sessions of which at most OPEN may be open. The
-loop takes COUNT connections (0: no end), and closes one that was idle for IDLE milliseconds (0: never). A session answers
-each line with its number, the line's number and the line; a line that begins with X with 30,000 bytes; and for one that
+loop takes COUNT connections (0: no end), and closes one that was idle for IDLE milliseconds (0: never). A connection is idle
+from the end of the round in which something was last read from it or taken by it, or in which it was taken from those that
+come; a round ends when the next one begins. A session answers each line with its number, the line's number and the line; a line that begins with X with 30,000 bytes; and for one that
 begins with M memory is wanting. ACT is one of
 
     at TIME                 a round begins at this time, with the acts up to the next `at`
@@ -51,8 +52,9 @@ class Connection:
         self.taken = b""
         self.why = "waiting"
 
-    def begin(self, place, now):
-        self.place, self.active = place, now
+    def begin(self, place):
+        # Since when it is idle. None as long as the round is not over in which something was read, taken or came.
+        self.place, self.idle_since = place, None
         self.unheard = self.untold = self.line = b""
         self.lines = 0
         self.has_ended = False
@@ -65,9 +67,15 @@ class Connection:
         if size == 0:
             return b"" if self.is_over else None
         self.read += size
+        self.idle_since = None
         return self.given[self.read - size : self.read]
 
-    def attend(self, now):
+    def rest(self, now):
+        """A round is over."""
+        if self.idle_since is None:
+            self.idle_since = now
+
+    def attend(self):
         """Reads if nothing waits to be heard or told beyond measure, and hears what it may. Whether anything was done."""
         reads = not self.unheard and not self.has_ended and len(self.untold) <= FULL
         if reads:
@@ -76,17 +84,14 @@ class Connection:
                 return False
             self.has_ended = not data
             self.unheard = data
-        return self.hear(now) or reads
+        return self.hear() or reads
 
-    def hear(self, now):
+    def hear(self):
         has_heard = False
         while self.unheard and len(self.untold) <= FULL:
             end = self.unheard.find(b"\n") + 1 or len(self.unheard)
-            answer = self.answer(self.unheard[:end])
-            self.untold += answer
+            self.untold += self.answer(self.unheard[:end])
             self.unheard = self.unheard[end:]
-            if answer:
-                self.active = now
             has_heard = True
         return has_heard
 
@@ -100,7 +105,7 @@ class Connection:
             raise Closed("memory")
         return b"X" * 30_000 if line.startswith(b"X") else b"%d.%d %s" % (self.place, self.lines, line)
 
-    def tell(self, now, is_synced):
+    def tell(self, is_synced):
         """Writes once. Whether the peer took anything."""
         if not self.untold:
             return False
@@ -114,7 +119,7 @@ class Connection:
         self.taken += self.untold[:size]
         self.untold = self.untold[size:]
         self.room -= size
-        self.active = now
+        self.idle_since = None
         return True
 
     def patience(self, now, stopped, idle):
@@ -123,9 +128,10 @@ class Connection:
             raise Closed("done")
         if stopped is not None and (not self.untold or stopped + LAST <= now):
             raise Closed("stopped")
-        if idle and self.active + idle <= now:
+        is_idle = bool(idle) and self.idle_since is not None
+        if is_idle and self.idle_since + idle <= now:
             raise Closed("idle")
-        return min(inf if stopped is None else stopped + LAST - now, self.active + idle - now if idle else inf)
+        return min(inf if stopped is None else stopped + LAST - now, self.idle_since + idle - now if is_idle else inf)
 
 
 class Crowd:
@@ -157,10 +163,11 @@ class Crowd:
     def round(self):
         """A round, and how long the next one may wait."""
         self.is_busy = False
+        self.at_each(lambda one: one.rest(self.now))
         if self.stopped is None:
             self.take()
-            self.at_each(lambda one: one.attend(self.now))
-        self.at_each(lambda one: one.tell(self.now, self.is_synced))
+            self.at_each(lambda one: one.attend())
+        self.at_each(lambda one: one.tell(self.is_synced))
         pauses = [PAUSE]
         self.at_each(lambda one: pauses.append(one.patience(self.now, self.stopped, self.idle)))
         return 0 if self.is_busy else min(pauses)
@@ -174,7 +181,7 @@ class Crowd:
                 self.is_busy = True
                 if len(self.places) - self.places.count(None) < self.most_open:
                     self.places[place] = one
-                    one.begin(place, self.now)
+                    one.begin(place)
                 else:
                     one.why = "refused"
 
@@ -316,16 +323,23 @@ def of_faults(q):
 
 
 def of_closings(q):
-    q.note("One that was idle for 100 milliseconds is closed. It is not while it completes lines or takes bytes.")
+    q.note("One that was idle for 100 milliseconds is closed. What is read in this round counts, a byte as well as a line.")
     idle = "crowd 2 2 0 100 at 0 come 2"
-    for late in (99, 100):
-        q.ask(idle, "at", late, "give 0 1", b"a\n", "at", late + 99, "give 0 1", b"b\n", "at", late + 199, "give 0 1", b"c\n")
-        q.ask(idle, "give 0 1", b"a", "at", late, "give 0 1", b"\n")
-        q.ask(idle, "room 0 1 0 give 0 1", b"a\n", "at", late, "room 0 1 2 at", late + 99, "room 0 1 9")
+    for late in (104, 105):
+        q.ask(idle, "at 5 at", late, "give 0 1", b"a\n")
+        q.ask(idle, "give 0 2", b"a", "at 5 at", late, "give 0 1", b"\n")
+    q.note("One is not idle before the round is over in which it came, or in which something was read from it.")
+    for late in (2299, 2300):
+        q.ask(idle, "at 2200 at", late, "give 0 1", b"a\n")
+        q.ask(idle, "at 0 at 50 give 0 2", b"a\n", "at 2200 at", late, "give 0 1", b"b\n")
+        q.ask(idle, "at 0 at 50 give 0 2", b"a", "at 2200 at", late, "give 0 1", b"\n")
+    q.note("The same where something was taken by it.")
+    for late in (2299, 2300):
+        q.ask(idle, "room 0 2 0 give 0 2", b"a\n", "at 0 at 50 room 0 2 2 at 2200 at", late, "at 2301 room 0 2 9")
     q.ask("crowd 2 2 0 0 at 0 come 2 at 1000000000 give 0 1", b"a\n")
     q.note("No more are taken than are wanted, and none without a place. A place is used again, and nothing of its last session.")
     q.ask("crowd 2 2 3 0 at 0 come 5 give 0 5", b"a\n", "at 1 over 1 1 at 2 over 2 1 at 3 over 0 5")
-    q.ask("crowd 1 1 0 50 at 0 come 2 room 0 1 3 give 0 1", b"a\nb\nc", "give 1 1", b"d\n", "over 1 1 at 50 at 51 at 52")
+    q.ask("crowd 1 1 0 50 at 0 come 2 room 0 1 3 give 0 1", b"a\nb\nc", "give 1 1", b"d\n", "over 1 1 at 0 at 50 at 51 at 52")
     q.ask("crowd 3 2 0 0 at 0 come 4 give 0 4", b"a\n", "at 1 over 0 4")
     q.note("A stop: nothing more is read, and answers may be taken for five seconds.")
     stopped = ("crowd 3 3 0 0 at 0 come 4 room 0 1 0 give 0 2", b"a\n", "at 1 stop give 0 4", b"b\n")

@@ -8,6 +8,7 @@
     scripts/crowds.py HOST:PORT deaf                  one that asks and takes no reply, others beside it, and then its replies
     scripts/crowds.py HOST:PORT resets COUNT          COUNT clients that reset their connections, and one beside them
     scripts/crowds.py HOST:PORT idle SECONDS          silent clients are closed after so long, and one that asks is not
+    scripts/crowds.py HOST:PORT late SECONDS          a client that is answered in a round longer than so long asks again
     scripts/crowds.py HOST:PORT full PLACES           a client waits for a place, and has it once another is gone
     scripts/crowds.py HOST:PORT many COUNT            COUNT clients of a server with fewer file handles: each is answered
     scripts/crowds.py HOST:PORT stopped               what each client has of a server that is ordered to stop, once `ready`
@@ -227,6 +228,25 @@ def idle(address, seconds):
     ask(asking, "head")
 
 
+def late(address, seconds):
+    seconds = float(seconds)
+    with connected(address) as client:
+        for number in (1, 2):
+            start = time.monotonic()
+            client.sendall(request_frame("register", b"name %d" % number, b"key"))
+            if len(answers(client, 1)) != 1:
+                yield f"request {number} was not answered"
+                return
+            if time.monotonic() - start < seconds:
+                yield f"the round of request {number} took less than {seconds} seconds"
+            time.sleep(0.4 * seconds)
+        client.sendall(HEAD)
+        if len(answers(client, 1)) != 1:
+            yield "the last request was not answered"
+        if not is_closed(client, 2 * seconds):
+            yield "a silent client was not closed"
+
+
 def full(address, places):
     clients = [connected(address) for _ in range(int(places))]
     for client in clients:
@@ -279,7 +299,7 @@ def stopped(address):
         yield f"one that takes no reply was closed after {taken:.1f} seconds"
 
 
-WAYS = {"checked": checked, "kept": kept, "slow": slow, "deaf": deaf, "resets": resets, "idle": idle, "full": full, "many": many, "stopped": stopped}
+WAYS = {"checked": checked, "kept": kept, "slow": slow, "deaf": deaf, "resets": resets, "idle": idle, "late": late, "full": full, "many": many, "stopped": stopped}
 
 
 def main(address, way, *words):

@@ -6,7 +6,7 @@
 #   scripts/listen.sh
 #
 # Takes the built programs, or those that DIRECTORYD and EXAMPLE_CLIENT name. The last line is
-# `N passed, M failed`, and the status is 0 where none failed. It takes some forty seconds, and ends
+# `N passed, M failed`, and the status is 0 where none failed. It takes some fifty seconds, and ends
 # after five minutes whatever happens.
 set -uo pipefail
 cd "$(dirname "$0")/.." || exit 1
@@ -159,6 +159,15 @@ ends_now
 starts --idle 1
 well "silent clients are closed" scripts/crowds.py "$address" idle 1
 ends_now
+
+# A round that lasts longer than that, since its sync is slow, closes nobody who is answered in it.
+if library scripts/sync_order.c "$folder/sync_order.so"; then
+    SLOW_SYNC=1500 LD_PRELOAD=$folder/sync_order.so starts --idle 1 --journal "$folder/slow_journal"
+    well "a client that is answered in a long round asks again" scripts/crowds.py "$address" late 1
+    ends_now
+else
+    fails "sync_order.c is not built"
+fi
 
 starts --sessions 3
 well "no free place" scripts/crowds.py "$address" full 3

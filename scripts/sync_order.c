@@ -1,8 +1,8 @@
 // A library that is loaded before the C library, for scripts/journaled.py. It logs the calls that hand bytes to a file
 // or to a connection, or put them on a disk: a line each on the descriptor SYNC_LOG, with the call, its descriptor and
 // what it returned, and for fsync the path of what it syncs. The fdatasync of number FAIL_SYNC, counted from 1, does
-// nothing and fails, and so does the ftruncate of number FAIL_CUT. What is used of the C library is declared here, so
-// that no header is needed.
+// nothing and fails, and so does the ftruncate of number FAIL_CUT. Each fdatasync first waits SLOW_SYNC milliseconds.
+// What is used of the C library is declared here, so that no header is needed.
 
 void *dlsym(void *handle, const char *name);
 char *getenv(const char *name);
@@ -10,6 +10,7 @@ unsigned long strtoul(const char *text, char **end, int base);
 int dprintf(int descriptor, const char *format, ...);
 int snprintf(char *text, unsigned long room, const char *format, ...);
 long readlink(const char *path, char *text, unsigned long room);
+int usleep(unsigned int microseconds);
 int *__errno_location(void);
 
 #define NEXT ((void *)-1)
@@ -17,6 +18,7 @@ int *__errno_location(void);
 
 static int log_to = -1;
 static unsigned long syncs, failing_sync, cuts, failing_cut;
+static unsigned int slow_sync;
 
 static unsigned long number_in(const char *variable) {
     const char *text = getenv(variable);
@@ -28,6 +30,7 @@ __attribute__((constructor)) static void begin(void) {
     log_to = text ? (int)strtoul(text, 0, 10) : -1;
     failing_sync = number_in("FAIL_SYNC");
     failing_cut = number_in("FAIL_CUT");
+    slow_sync = (unsigned int)number_in("SLOW_SYNC");
 }
 
 // The call is over, so `errno` is its own again once the line is written.
@@ -61,6 +64,7 @@ int fsync(int descriptor) {
 
 int fdatasync(int descriptor) {
     int (*next)(int) = dlsym(NEXT, "fdatasync");
+    usleep(slow_sync * 1000);
     if (++syncs == failing_sync) {
         *__errno_location() = EIO;
         return (int)logged("fdatasync", descriptor, -1);

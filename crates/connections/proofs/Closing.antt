@@ -9,11 +9,11 @@ use Rattle.connections.specs.declared.loop_limits.TheConstants.{LAST_MILLISECOND
 use Rattle.connections.specs.declared.talk.Talk.{Talk}
 use Rattle.connections.specs.Fairness.{IsNotDue, IsUsed}
 use Rattle.connections.specs.Fitting.{Fits, Has, IsDone, IsIdleDue, IsJudged, IsStopDue, ending_of, Judged, KeepsCourse, KeepsTalk, Stays}
-use Rattle.connections.specs.Histories.{On, Comes, Opens, Refuses, Ends, Closes, History, Course, Telling, clock, course, done_at, of_connections, stage, stopped, taken_at, went_on}
+use Rattle.connections.specs.Histories.{On, Comes, Opens, Refuses, Ends, Closes, History, Course, Telling, clock, course, done_at, just_taken, stage, stopped, went_on, Leads}
 use Rattle.connections.specs.Rounds.{was_busy, IsUnread}
 use Rattle.connections.specs.Soundness.{Here, IsDue, IsFaultless, IsHearing, IsNew, IsReason, IsWell}
 use Rattle.connections.specs.Telling.{lost_by}
-use Rattle.connections.proofs.Steps.{here_at, here_of, here_one, here_so, none_left, some_there, stays_both, stays_counted, stays_one, still_unread, went}
+use Rattle.connections.proofs.Steps.{here_at, here_of, here_one, here_so, none_left, some_there, stays_both, stays_counted, stays_one, still_unread, went, Passes}
 
 -- ---- a place and its history
 
@@ -66,10 +66,7 @@ not_due now idle stop acts talk time order synced not_done not_idle not_stop of 
       none_left of.answered of.taken talk.output.items keeps.output_rest all,
     )
     by_reason Fault failed = false≢true (sym (faultless of keeps.fine).0 ∙ failed)
-    by_reason Idle (fine, may, late) =
-        let last : of.active ≡ talk.active = keeps.last in
-        let l : of.active + idle ≤ clock acts = late in
-        not_idle (may, omega arith)
+    by_reason Idle (fine, may, since, is, late) = not_idle (may, since, sym keeps.last ∙ is, subst (λ (t : ℕ). since + idle ≤ t) time late)
     by_reason Stopped (fine, since, is, all) = not_stop (since, sym order ∙ is, told since all)
     by_reason Unsynced (fine, unsynced, some) =
         some (keeps.output_rest ∙ ap (λ (t : List ℕ). of.taken ++ t) (synced unsynced) ∙ append-nil of.taken)
@@ -97,7 +94,7 @@ judged now idle stop acts place talk (Err Done) time order synced here is = (
 judged now idle stop acts place talk (Err Fault) time order synced here is = absurd is
 judged now idle stop acts place talk (Err Idle) time order synced here is = (
   here_so (course acts place) (KeepsTalk talk) (λ (of : Course). (of.is_open ≡ true) × IsReason idle acts Idle of)
-      (λ (of : Course) (keeps : KeepsTalk talk of). (keeps.fine.0, (faultless of keeps.fine, is.0, rw (keeps.last, time) is.1))) here,
+      (λ (of : Course) (keeps : KeepsTalk talk of). (keeps.fine.0, (faultless of keeps.fine, is.0, is.1, keeps.last ∙ is.2, rw time is.3))) here,
   tt,
 )
 judged now idle stop acts place talk (Err Stopped) time order synced here is = (
@@ -114,17 +111,21 @@ judged now idle stop acts place talk (Err Unsynced) time order synced here is = 
 judged now idle stop acts place talk (Err Memory) time order synced here is = absurd is
 judged now idle stop acts place talk (Err Refused) time order synced here is = absurd is
 
-opening_reason : (idle : ℕ) (acts : History) (place now : ℕ) (fault : SessionFault) (of : Course) → went_on (Refuses fault) now (taken_at now) ≡ Some of → (of.is_open ≡ false) × IsReason idle acts (ending_of fault) of
-opening_reason idle acts place now session.Memory of is = subst (λ (there : Option Course). Here there (λ of. (of.is_open ≡ false) × (of.is_wanting ≡ true))) is (refl, refl)
-opening_reason idle acts place now session.Refused of is = subst (λ (there : Option Course). Here there (λ of. (of.is_open ≡ false) × (of.is_refused ≡ true))) is (refl, refl)
+opening_reason : (idle : ℕ) (acts : History) (fault : SessionFault) (of : Course) → went_on (Refuses fault) just_taken ≡ Some of → (of.is_open ≡ false) × IsReason idle acts (ending_of fault) of
+opening_reason idle acts session.Memory of is = subst (λ (there : Option Course). Here there (λ of. (of.is_open ≡ false) × (of.is_wanting ≡ true))) is (refl, refl)
+opening_reason idle acts session.Refused of is = subst (λ (there : Option Course). Here there (λ of. (of.is_open ≡ false) × (of.is_refused ≡ true))) is (refl, refl)
 
 -- where a session is not opened, its connection goes on until it is closed
-gone_on : (fault : SessionFault) (now : ℕ) → (of : Course) × (went_on (Refuses fault) now (taken_at now) ≡ Some of)
-gone_on session.Memory now = (_, refl)
-gone_on session.Refused now = (_, refl)
+gone_on : (fault : SessionFault) → (of : Course) × (went_on (Refuses fault) just_taken ≡ Some of)
+gone_on session.Memory = (_, refl)
+gone_on session.Refused = (_, refl)
 
 module _ {S : Type 0} (opens : S → ℕ → S → Type 0) (refuses : S → ℕ → SessionFault → Type 0) (hears : S → ℕ → List ℕ → List ℕ → S → Type 0) (misses : S → ℕ → List ℕ → SessionFault → S → Type 0) (ends : S → ℕ → S → Type 0) {C : Type 0} (has : C → History → Type 0) where
   -- ---- the end of a connection
+
+  -- a connection is closed, once these are the sessions
+  abbrev pub ClosesBy : ℕ → Ending → C → S → C → Type 0
+  ClosesBy place why connections sessions connections_new = (start : S) (acts : History) → Leads opens refuses hears misses ends start acts sessions → has connections acts → has connections_new (On place (Closes why) ∷ acts)
 
   -- a connection is closed, whose session is ended before
   abbrev pub ClosesAt : ℕ → Ending → C → S → C → S → Type 0
@@ -133,8 +134,8 @@ module _ {S : Type 0} (opens : S → ℕ → S → Type 0) (refuses : S → ℕ 
       → (after : History) × Stays place 0 0 (lost_by why) acts after × Has opens refuses hears misses ends has idle start connections_new new after × (course after place ≡ None) × (was_busy after ≡ true)
 
   pub closed : (place : ℕ) (why : Ending) (connections connections_new : C) (old new : S) → ends old place new
-      → ((acts : History) → has connections acts → has connections_new (On place (Closes why) ∷ acts)) → ClosesAt place why connections old connections_new new
-  closed place why connections connections_new old new ended step = λ idle start acts known here.
+      → Passes has → ClosesBy place why connections new connections_new → ClosesAt place why connections old connections_new new
+  closed place why connections connections_new old new ended passes step = λ idle start acts known here.
       let found = here_of (course acts place) (λ (of : Course). (of.is_open ≡ true) × IsReason idle acts why of) here in
       let of : Course = found.0 in
       let once : History = On place Ends ∷ acts in
@@ -145,7 +146,7 @@ module _ {S : Type 0} (opens : S → ℕ → S → Type 0) (refuses : S → ℕ 
       here_at (course once place) shut (λ (of : Course). (of.is_open ≡ false) × IsReason idle once why of) there (refl, reason_kept idle acts place of why found.2.1) in (
         On place (Closes why) ∷ once,
         stays_both place 0 0 0 0 (lost_by why) acts once (On place (Closes why) ∷ once) (stays_one place Ends acts) (stays_one place (Closes why) once),
-        (step (of_connections acts) known.0, (old, known.1, ended), ((due_close, λ so. absurd (false≢true so)), ((due_end, λ so. absurd (false≢true so)), known.2))),
+        (step start once (old, known.1, ended) (passes connections acts place Ends tt known.0), (old, known.1, ended), ((due_close, λ so. absurd (false≢true so)), ((due_end, λ so. absurd (false≢true so)), known.2))),
         went place (Closes why) once shut there,
         refl,
       )
@@ -154,42 +155,43 @@ module _ {S : Type 0} (opens : S → ℕ → S → Type 0) (refuses : S → ℕ 
 
   module _ (idle : ℕ) (start : S) (acts : History) (place : ℕ) (connections connections_taken : C) (old : S) (known : Has opens refuses hears misses ends has idle start connections old acts)
       (hearing : IsHearing acts) (free : course acts place ≡ None) (unread : IsUnread place acts)
-      (step : has connections (of_connections acts) → has connections_taken (On place Comes ∷ of_connections acts)) where
-    there : course (On place Comes ∷ acts) place ≡ Some (taken_at (clock acts))
-    there = here_one place Comes acts ∙ ap (done_at Comes (clock acts)) free
+      (passes : Passes has) (step : has connections acts → has connections_taken (On place Comes ∷ acts)) where
+    there : course (On place Comes ∷ acts) place ≡ Some just_taken
+    there = here_one place Comes acts ∙ ap (done_at Comes) free
 
-    pub opened : (now wanting : ℕ) → clock acts ≡ now → (new : S) → opens old place new
-        → (after : History) × Stays place 1 wanting wanting acts after × Has opens refuses hears misses ends has idle start connections_taken new after × Here (course after place) (KeepsCourse [] [] now false) × IsUsed after place × IsUnread place after × (was_busy after ≡ true)
-    opened now wanting time new does =
+    pub opened : (wanting : ℕ) (new : S) → opens old place new
+        → (after : History) × Stays place 1 wanting wanting acts after × Has opens refuses hears misses ends has idle start connections_taken new after × Here (course after place) (KeepsCourse [] [] None false) × IsUsed after place × IsUnread place after × (was_busy after ≡ true)
+    opened wanting new does =
         let due : IsDue idle (On place Comes ∷ acts) Opens (course (On place Comes ∷ acts) place) =
-        here_at (course (On place Comes ∷ acts) place) (taken_at (clock acts)) IsNew there refl in (
+        here_at (course (On place Comes ∷ acts) place) just_taken IsNew there refl in (
           On place Opens ∷ On place Comes ∷ acts,
           stays_counted place 1 0 wanting wanting acts (On place Opens ∷ On place Comes ∷ acts) (omega arith)
               (stays_both place 1 0 0 0 0 acts (On place Comes ∷ acts) (On place Opens ∷ On place Comes ∷ acts) (stays_one place Comes acts) (stays_one place Opens (On place Comes ∷ acts))),
-          (step known.0, (old, known.1, does), ((due, λ so. absurd (false≢true so)), (((free, hearing), λ so. absurd (false≢true so)), known.2))),
-          here_at (course (On place Opens ∷ On place Comes ∷ acts) place) (record (taken_at (clock acts)) { is_open = true }) (KeepsCourse [] [] now false) (went place Opens (On place Comes ∷ acts) (taken_at (clock acts)) there)
-              (record { fine = (refl, (refl, refl, refl)); input_rest = refl; output_rest = refl; last = time; end = refl }),
-          inl (λ (none : course (On place Opens ∷ On place Comes ∷ acts) place ≡ None). some_there _ (sym (went place Opens (On place Comes ∷ acts) (taken_at (clock acts)) there) ∙ none)),
+          (passes connections_taken (On place Comes ∷ acts) place Opens tt (step known.0), (old, known.1, does), ((due, λ so. absurd (false≢true so)), (((free, hearing), λ so. absurd (false≢true so)), known.2))),
+          here_at (course (On place Opens ∷ On place Comes ∷ acts) place) (record just_taken { is_open = true }) (KeepsCourse [] [] None false) (went place Opens (On place Comes ∷ acts) just_taken there)
+              (record { fine = (refl, (refl, refl, refl)); input_rest = refl; output_rest = refl; last = refl; end = refl }),
+          inl (λ (none : course (On place Opens ∷ On place Comes ∷ acts) place ≡ None). some_there _ (sym (went place Opens (On place Comes ∷ acts) just_taken there) ∙ none)),
           still_unread place Opens (On place Comes ∷ acts) refl (still_unread place Comes acts refl unread),
           refl,
         )
 
-    pub refused : (fault : SessionFault) (wanting wanting_new : ℕ) → wanting_new ≡ wanting + lost_by (ending_of fault) → refuses old place fault → (connections_new : C) → ((acts : History) → has connections_taken acts → has connections_new (On place (Closes (ending_of fault)) ∷ acts))
-        → (after : History) × Stays place 1 wanting wanting_new acts after × Has opens refuses hears misses ends has idle start connections_new old after × (course after place ≡ None) × IsUsed after place × IsUnread place after × (was_busy after ≡ true)
-    refused fault wanting wanting_new more refuses connections_new close =
+    pub refused : (fault : SessionFault) (wanting wanting_new : ℕ) → wanting_new ≡ wanting + lost_by (ending_of fault) → refuses old place fault → (new : S) → new ≡ old → (connections_new : C) → ClosesBy place (ending_of fault) connections_taken new connections_new
+        → (after : History) × Stays place 1 wanting wanting_new acts after × Has opens refuses hears misses ends has idle start connections_new new after × (course after place ≡ None) × IsUsed after place × IsUnread place after × (was_busy after ≡ true)
+    refused fault wanting wanting_new more refusing new same connections_new close =
         let came : History = On place Comes ∷ acts in
         let shut : History = On place (Refuses fault) ∷ came in
         let why : Ending = ending_of fault in
+        let leads : Leads opens refuses hears misses ends start shut new = subst (Leads opens refuses hears misses ends start shut) (sym same) (known.1, refusing) in
         let due : IsDue idle came (Refuses fault) (course came place) =
-        here_at (course came place) (taken_at (clock acts)) IsNew there refl in
-        let on = gone_on fault (clock acts) in
-        let is : course shut place ≡ Some on.0 = went place (Refuses fault) came (taken_at (clock acts)) there ∙ on.1 in
+        here_at (course came place) just_taken IsNew there refl in
+        let on = gone_on fault in
+        let is : course shut place ≡ Some on.0 = went place (Refuses fault) came just_taken there ∙ on.1 in
         let due_close : IsDue idle shut (Closes why) (course shut place) =
-        here_at (course shut place) on.0 (λ (of : Course). (of.is_open ≡ false) × IsReason idle shut why of) is (opening_reason idle shut place (clock acts) fault on.0 on.1) in (
+        here_at (course shut place) on.0 (λ (of : Course). (of.is_open ≡ false) × IsReason idle shut why of) is (opening_reason idle shut fault on.0 on.1) in (
           On place (Closes why) ∷ shut,
           stays_counted place 1 (lost_by why) wanting wanting_new acts (On place (Closes why) ∷ shut) more
               (stays_both place 1 0 0 0 (lost_by why) acts shut (On place (Closes why) ∷ shut) (stays_both place 1 0 0 0 0 acts came shut (stays_one place Comes acts) (stays_one place (Refuses fault) came)) (stays_one place (Closes why) shut)),
-          (close (On place Comes ∷ of_connections acts) (step known.0), (known.1, refuses), ((due_close, λ so. absurd (false≢true so)), ((due, λ so. absurd (false≢true so)), (((free, hearing), λ so. absurd (false≢true so)), known.2)))),
+          (close start shut leads (passes connections_taken came place (Refuses fault) tt (step known.0)), leads, ((due_close, λ so. absurd (false≢true so)), ((due, λ so. absurd (false≢true so)), (((free, hearing), λ so. absurd (false≢true so)), known.2)))),
           went place (Closes why) shut on.0 is,
           inr (inl (refl, refl)),
           still_unread place (Closes why) shut refl (still_unread place (Refuses fault) came refl (still_unread place Comes acts refl unread)),

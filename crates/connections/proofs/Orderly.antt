@@ -4,57 +4,58 @@ use Rattle.std.proofs.lemmas.Bool.{eqb-true}
 use Rattle.std.specs.Prelude.{◌==◌}
 use Rattle.connections.specs.declared.ending.Ending.TheVariants.{Done}
 use Rattle.connections.specs.declared.ending.SessionFault.TheVariants as fault
-use Rattle.connections.specs.Histories.{At, Ordered, GoesOn, Syncs, NoneWaits, On, Deed, Comes, Opens, Refuses, Reads, IsOver, IsSilent, Hears, Misses, Lacks, Takes, TakesNone, Fails, Ends, Closes, History, Course, clock, course, done_at}
+use Rattle.connections.specs.Histories.{At, Ordered, GoesOn, Syncs, NoneWaits, On, Deed, Comes, Opens, Refuses, Reads, IsOver, IsSilent, Hears, Misses, Lacks, Takes, TakesNone, Fails, Ends, Closes, History, Course, course, done_at}
 use Rattle.connections.specs.Laws.{AreInOrder}
 use Rattle.connections.specs.Soundness.{Here, IsDue, IsHeard, IsSoundHistory, IsTaken}
+use Rattle.connections.proofs.Steps.{rested_so}
 
-stays_in_order : (idle : ℕ) (acts : History) (deed : Deed) (now : ℕ) (there : Option Course) → IsDue idle acts deed there → AreInOrder there → AreInOrder (done_at deed now there)
-stays_in_order idle acts Comes now None due order = ([], [], refl, refl)
-stays_in_order idle acts Comes now (Some of) due order = ([], [], refl, refl)
-stays_in_order idle acts Opens now None due order = tt
-stays_in_order idle acts Opens now (Some of) due order = order
-stays_in_order idle acts (Refuses why) now None due order = tt
-stays_in_order idle acts (Refuses fault.Memory) now (Some of) due order = order
-stays_in_order idle acts (Refuses fault.Refused) now (Some of) due order = order
-stays_in_order idle acts (Reads bytes) now None due order = tt
-stays_in_order idle acts (Reads bytes) now (Some of) (may, hearing, some, few) (untold, unheard, told, heard) = (untold, bytes, told, ap (λ (t : List ℕ). t ++ bytes) may.1)
-stays_in_order idle acts IsOver now None due order = tt
-stays_in_order idle acts IsOver now (Some of) due order = order
-stays_in_order idle acts IsSilent now None due order = tt
-stays_in_order idle acts IsSilent now (Some of) due order = order
-stays_in_order idle acts (Hears part reply) now None due order = tt
-stays_in_order idle acts (Hears part reply) now (Some of) ((well, room, some, (rest, split)), hearing) (untold, unheard, told, heard) = (
+stays_in_order : (idle : ℕ) (acts : History) (deed : Deed) (there : Option Course) → IsDue idle acts deed there → AreInOrder there → AreInOrder (done_at deed there)
+stays_in_order idle acts Comes None due order = ([], [], refl, refl)
+stays_in_order idle acts Comes (Some of) due order = ([], [], refl, refl)
+stays_in_order idle acts Opens None due order = tt
+stays_in_order idle acts Opens (Some of) due order = order
+stays_in_order idle acts (Refuses why) None due order = tt
+stays_in_order idle acts (Refuses fault.Memory) (Some of) due order = order
+stays_in_order idle acts (Refuses fault.Refused) (Some of) due order = order
+stays_in_order idle acts (Reads bytes) None due order = tt
+stays_in_order idle acts (Reads bytes) (Some of) (may, hearing, some, few) (untold, unheard, told, heard) = (untold, bytes, told, ap (λ (t : List ℕ). t ++ bytes) may.1)
+stays_in_order idle acts IsOver None due order = tt
+stays_in_order idle acts IsOver (Some of) due order = order
+stays_in_order idle acts IsSilent None due order = tt
+stays_in_order idle acts IsSilent (Some of) due order = order
+stays_in_order idle acts (Hears part reply) None due order = tt
+stays_in_order idle acts (Hears part reply) (Some of) ((well, room, some, (rest, split)), hearing) (untold, unheard, told, heard) = (
   untold ++ reply,
   rest,
   ap (λ (t : List ℕ). t ++ reply) told ∙ append_assoc of.taken untold reply,
   split ∙ sym (append_assoc of.heard part rest),
 )
-stays_in_order idle acts (Misses part why) now None due order = tt
-stays_in_order idle acts (Misses part fault.Memory) now (Some of) due order = order
-stays_in_order idle acts (Misses part fault.Refused) now (Some of) due order = order
-stays_in_order idle acts Lacks now None due order = tt
-stays_in_order idle acts Lacks now (Some of) due order = order
-stays_in_order idle acts (Takes bytes) now None due order = tt
-stays_in_order idle acts (Takes bytes) now (Some of) (may, telling, some, (rest, split)) (untold, unheard, told, heard) = (rest, unheard, split ∙ sym (append_assoc of.taken bytes rest), heard)
-stays_in_order idle acts TakesNone now None due order = tt
-stays_in_order idle acts TakesNone now (Some of) due order = order
-stays_in_order idle acts Fails now None due order = tt
-stays_in_order idle acts Fails now (Some of) due order = order
-stays_in_order idle acts Ends now None due order = tt
-stays_in_order idle acts Ends now (Some of) due order = order
-stays_in_order idle acts (Closes why) now None due order = tt
-stays_in_order idle acts (Closes why) now (Some of) due order = tt
+stays_in_order idle acts (Misses part why) None due order = tt
+stays_in_order idle acts (Misses part fault.Memory) (Some of) due order = order
+stays_in_order idle acts (Misses part fault.Refused) (Some of) due order = order
+stays_in_order idle acts Lacks None due order = tt
+stays_in_order idle acts Lacks (Some of) due order = order
+stays_in_order idle acts (Takes bytes) None due order = tt
+stays_in_order idle acts (Takes bytes) (Some of) (may, telling, some, (rest, split)) (untold, unheard, told, heard) = (rest, unheard, split ∙ sym (append_assoc of.taken bytes rest), heard)
+stays_in_order idle acts TakesNone None due order = tt
+stays_in_order idle acts TakesNone (Some of) due order = order
+stays_in_order idle acts Fails None due order = tt
+stays_in_order idle acts Fails (Some of) due order = order
+stays_in_order idle acts Ends None due order = tt
+stays_in_order idle acts Ends (Some of) due order = order
+stays_in_order idle acts (Closes why) None due order = tt
+stays_in_order idle acts (Closes why) (Some of) due order = tt
 
 -- by whether the deed is at this place
 at_place : (idle : ℕ) (acts : History) (deed : Deed) (other place : ℕ) (here : Bool) → (other == place) ≡ here → IsDue idle acts deed (course acts other) → AreInOrder (course acts place)
     → AreInOrder (course (On other deed ∷ acts) place)
 at_place idle acts deed other place true is due order =
-    rw is (stays_in_order idle acts deed (clock acts) (course acts place) (subst (λ (n : ℕ). IsDue idle acts deed (course acts n)) (eqb-true other place is) due) order)
+    rw is (stays_in_order idle acts deed (course acts place) (subst (λ (n : ℕ). IsDue idle acts deed (course acts n)) (eqb-true other place is) due) order)
 at_place idle acts deed other place false is due order = rw is order
 
 pub in_order : (idle : ℕ) (acts : History) (place : ℕ) → IsSoundHistory idle acts → AreInOrder (course acts place)
 in_order idle [] place sound = tt
-in_order idle (At pause now ∷ acts) place sound = in_order idle acts place sound.1
+in_order idle (At pause now ∷ acts) place sound = rested_so now (course acts place) AreInOrder (λ of order. order) (in_order idle acts place sound.1)
 in_order idle (Ordered ∷ acts) place sound = in_order idle acts place sound
 in_order idle (Syncs kept ∷ acts) place sound = in_order idle acts place sound.1
 in_order idle (GoesOn ∷ acts) place sound = in_order idle acts place sound.1

@@ -1,5 +1,5 @@
 -- One deed more at a place.
-use Rattle.std.proofs.Common.{◌≡◌, ◌≢◌, ℕ, ◌+◌, ◌<◌, ◌≤◌, List, [], ◌∷◌, ◌++◌, ◌⊎◌, ◌||◌, length, Bool, true, false, Option, Some, None, Result, Ok, Err, IfOk, refl, sym, ap, ◌∙◌, append_assoc, arith, inl, inr}
+use Rattle.std.proofs.Common.{◌≡◌, ◌≢◌, ℕ, ◌+◌, ◌<◌, ◌≤◌, List, [], ◌∷◌, ◌++◌, ◌⊎◌, ◌||◌, length, Bool, true, false, Option, Some, None, Result, Ok, Err, IfOk, refl, sym, ap, subst, ◌∙◌, append_assoc, arith, inl, inr}
 use Rattle.std.proofs.lemmas.Bool.{cases_lt, eq-eqb, eqb-true, false≢true, ne_eqb}
 use Rattle.std.proofs.lemmas.List.{append-nil, length-append}
 use Rattle.std.specs.Prelude.{◌==◌}
@@ -10,9 +10,9 @@ use Rattle.connections.specs.declared.loop_limits.TheConstants.{FULL_OUTPUT}
 use Rattle.connections.specs.declared.talk.Talk.{Talk}
 use Rattle.connections.specs.Endings.{comers, newcomers}
 use Rattle.connections.specs.Fairness.{IsAttended, IsFull, IsNotDue, IsServed, IsUsed}
-use Rattle.connections.specs.Fitting.{Adds, IsOfConnection, KeepsCourse, KeepsTalk, Knows, Lasts, Stays, ending_of}
+use Rattle.connections.specs.Fitting.{Adds, AddsOfSessions, AreOfSessions, IsOfConnection, KeepsCourse, KeepsTalk, Knows, Lasts, Stays, ending_of}
 use Rattle.connections.specs.declared.ending.SessionFault.{SessionFault}
-use Rattle.connections.specs.Histories.{NoneWaits, On, Deed, Comes, Opens, Refuses, Reads, IsOver, IsSilent, Hears, Misses, Lacks, Takes, TakesNone, Fails, Ends, Closes, History, Course, IfThere, Telling, clock, course, done_at, if_answered, of_connections, stage, went_on}
+use Rattle.connections.specs.Histories.{At, Ordered, GoesOn, Syncs, NoneWaits, On, Deed, Comes, Opens, Refuses, Reads, IsOver, IsSilent, Hears, Misses, Lacks, Takes, TakesNone, Fails, Ends, Closes, History, Course, IfThere, Telling, course, done_at, or_now, rested, stage, went_on, IsOfSession}
 use Rattle.connections.specs.Telling.{losses, lost}
 use Rattle.connections.specs.Rounds.{does_something, closes, gives_turn, offers, reads, was_busy, InRound, IsUnread}
 use Rattle.connections.specs.Soundness.{Here, AreNext, HasRoom, IsDue, IsHearing, IsOnce, IsReason, IsWell, MayBeOffered, MayBeRead, MayHear}
@@ -34,41 +34,48 @@ test : (n : ℕ) → (n == n) ≡ true
 test n = eq-eqb n n refl
 
 -- the connection at its place, with one deed more
-pub here_one : (place : ℕ) (deed : Deed) (acts : History) → course (On place deed ∷ acts) place ≡ done_at deed (clock acts) (course acts place)
+pub here_one : (place : ℕ) (deed : Deed) (acts : History) → course (On place deed ∷ acts) place ≡ done_at deed (course acts place)
 here_one place deed acts = rw (test place) refl
 
-pub went : (place : ℕ) (deed : Deed) (acts : History) (of : Course) → course acts place ≡ Some of → course (On place deed ∷ acts) place ≡ went_on deed (clock acts) of
-went place deed acts of is = here_one place deed acts ∙ ap (done_at deed (clock acts)) is
+pub went : (place : ℕ) (deed : Deed) (acts : History) (of : Course) → course acts place ≡ Some of → course (On place deed ∷ acts) place ≡ went_on deed of
+went place deed acts of is = here_one place deed acts ∙ ap (done_at deed) is
+
+-- ---- a round is over
+
+-- what is so of a connection whether it is idle or not
+pub rested_so : (now : ℕ) (there : Option Course) (P : Option Course → Type 0) → ((of : Course) → P (Some of) → P (Some (record of { idle_since = or_now of.idle_since now }))) → P there → P (rested now there)
+rested_so now None P so is = is
+rested_so now (Some of) P so is = so of is
 
 -- ---- a round goes on
 
 pub some_there : (of : Course) → Some of ≢ None
 some_there of same = cc
 
-done_used : (deed : Deed) (now : ℕ) (there : Option Course) → there ≢ None → (done_at deed now there ≢ None) ⊎ (closes deed ≡ true)
-done_used deed now None some = absurd (some refl)
-done_used Comes now (Some of) some = inl (some_there _)
-done_used Opens now (Some of) some = inl (some_there _)
-done_used (Refuses fault.Memory) now (Some of) some = inl (some_there _)
-done_used (Refuses fault.Refused) now (Some of) some = inl (some_there _)
-done_used (Reads bytes) now (Some of) some = inl (some_there _)
-done_used IsOver now (Some of) some = inl (some_there _)
-done_used IsSilent now (Some of) some = inl (some_there _)
-done_used (Hears part reply) now (Some of) some = inl (some_there _)
-done_used (Misses part fault.Memory) now (Some of) some = inl (some_there _)
-done_used (Misses part fault.Refused) now (Some of) some = inl (some_there _)
-done_used Lacks now (Some of) some = inl (some_there _)
-done_used (Takes bytes) now (Some of) some = inl (some_there _)
-done_used TakesNone now (Some of) some = inl (some_there _)
-done_used Fails now (Some of) some = inl (some_there _)
-done_used Ends now (Some of) some = inl (some_there _)
-done_used (Closes why) now (Some of) some = inr refl
+done_used : (deed : Deed) (there : Option Course) → there ≢ None → (done_at deed there ≢ None) ⊎ (closes deed ≡ true)
+done_used deed None some = absurd (some refl)
+done_used Comes (Some of) some = inl (some_there _)
+done_used Opens (Some of) some = inl (some_there _)
+done_used (Refuses fault.Memory) (Some of) some = inl (some_there _)
+done_used (Refuses fault.Refused) (Some of) some = inl (some_there _)
+done_used (Reads bytes) (Some of) some = inl (some_there _)
+done_used IsOver (Some of) some = inl (some_there _)
+done_used IsSilent (Some of) some = inl (some_there _)
+done_used (Hears part reply) (Some of) some = inl (some_there _)
+done_used (Misses part fault.Memory) (Some of) some = inl (some_there _)
+done_used (Misses part fault.Refused) (Some of) some = inl (some_there _)
+done_used Lacks (Some of) some = inl (some_there _)
+done_used (Takes bytes) (Some of) some = inl (some_there _)
+done_used TakesNone (Some of) some = inl (some_there _)
+done_used Fails (Some of) some = inl (some_there _)
+done_used Ends (Some of) some = inl (some_there _)
+done_used (Closes why) (Some of) some = inr refl
 
 -- by whether the deed is at this place
 used_at : (place : ℕ) (deed : Deed) (acts : History) (other : ℕ) (here : Bool) → (place == other) ≡ here → course acts other ≢ None → IsUsed (On place deed ∷ acts) other
-used_at place deed acts other true is some = by_deed (done_used deed (clock acts) (course acts other) some)
+used_at place deed acts other true is some = by_deed (done_used deed (course acts other) some)
   where
-    by_deed : (done_at deed (clock acts) (course acts other) ≢ None) ⊎ (closes deed ≡ true) → IsUsed (On place deed ∷ acts) other
+    by_deed : (done_at deed (course acts other) ≢ None) ⊎ (closes deed ≡ true) → IsUsed (On place deed ∷ acts) other
     by_deed (inl there) = inl (rw is there)
     by_deed (inr shut) = inr (inl (eqb-true place other is, shut))
 used_at place deed acts other false is some = inl (rw is some)
@@ -158,8 +165,8 @@ none_left xs ys (x ∷ rest) split same =
     absurd (omega arith)
 
 -- output waits, so less is taken than answered
-pub not_told : (of : Course) (input output : List ℕ) (active : ℕ) (over : Bool) → output ≢ [] → KeepsCourse input output active over of → of.answered ≢ of.taken
-not_told of input output active over some keeps same = some (none_left of.answered of.taken output keeps.output_rest same)
+pub not_told : (of : Course) (input output : List ℕ) (since : Option ℕ) (over : Bool) → output ≢ [] → KeepsCourse input output since over of → of.answered ≢ of.taken
+not_told of input output since over some keeps same = some (none_left of.answered of.taken output keeps.output_rest same)
 
 -- ---- a deed that leaves a connection
 
@@ -167,32 +174,32 @@ not_told of input output active over some keeps same = some (none_left of.answer
 abbrev pub Next : ℕ → History → ℕ → Deed → (Course → Type 0) → Type 0
 Next idle acts place deed P = (IsDue idle acts deed (course acts place) × IsOnce acts place deed) × Here (course (On place deed ∷ acts) place) P
 
-pub next_read : (idle : ℕ) (acts : History) (place : ℕ) (bytes input output : List ℕ) (active : ℕ) (over : Bool) → IsUnread place acts → IsHearing acts → 1 ≤ length bytes → length bytes ≤ PIECE_SIZE
-    → Here (course acts place) (λ of. KeepsCourse input output active over of × MayBeRead of) → Next idle acts place (Reads bytes) (KeepsCourse bytes output active over)
-next_read idle acts place bytes input output active over unread hearing some few here =
-    let found = here_of (course acts place) (λ (of : Course). KeepsCourse input output active over of × MayBeRead of) here in
+pub next_read : (idle : ℕ) (acts : History) (place : ℕ) (bytes input output : List ℕ) (since : Option ℕ) (over : Bool) → IsUnread place acts → IsHearing acts → 1 ≤ length bytes → length bytes ≤ PIECE_SIZE
+    → Here (course acts place) (λ of. KeepsCourse input output since over of × MayBeRead of) → Next idle acts place (Reads bytes) (KeepsCourse bytes output None over)
+next_read idle acts place bytes input output since over unread hearing some few here =
+    let found = here_of (course acts place) (λ (of : Course). KeepsCourse input output since over of × MayBeRead of) here in
     let of : Course = found.0 in
-    let keeps : KeepsCourse input output active over of = found.2.0 in
+    let keeps : KeepsCourse input output since over of = found.2.0 in
     let may : MayBeRead of = found.2.1 in (
       (here_at (course acts place) of (λ (of : Course). MayBeRead of × IsHearing acts × (1 ≤ length bytes) × (length bytes ≤ PIECE_SIZE)) found.1 (may, hearing, some, few), λ so. unread),
-      here_at (course (On place (Reads bytes) ∷ acts) place) (record of { read = of.read ++ bytes }) (KeepsCourse bytes output active over) (went place (Reads bytes) acts of found.1)
+      here_at (course (On place (Reads bytes) ∷ acts) place) (record of { read = of.read ++ bytes; idle_since = None }) (KeepsCourse bytes output None over) (went place (Reads bytes) acts of found.1)
           (record {
             fine = keeps.fine;
             input_rest = ap (λ (t : List ℕ). t ++ bytes) may.1;
             output_rest = keeps.output_rest;
-            last = keeps.last;
+            last = refl;
             end = keeps.end;
           }),
     )
 
-pub next_over : (idle : ℕ) (acts : History) (place : ℕ) (input output : List ℕ) (active : ℕ) (over : Bool) → IsUnread place acts → IsHearing acts
-    → Here (course acts place) (λ of. KeepsCourse input output active over of × MayBeRead of) → Next idle acts place IsOver (KeepsCourse input output active true)
-next_over idle acts place input output active over unread hearing here =
-    let found = here_of (course acts place) (λ (of : Course). KeepsCourse input output active over of × MayBeRead of) here in
+pub next_over : (idle : ℕ) (acts : History) (place : ℕ) (input output : List ℕ) (since : Option ℕ) (over : Bool) → IsUnread place acts → IsHearing acts
+    → Here (course acts place) (λ of. KeepsCourse input output since over of × MayBeRead of) → Next idle acts place IsOver (KeepsCourse input output since true)
+next_over idle acts place input output since over unread hearing here =
+    let found = here_of (course acts place) (λ (of : Course). KeepsCourse input output since over of × MayBeRead of) here in
     let of : Course = found.0 in
-    let keeps : KeepsCourse input output active over of = found.2.0 in (
+    let keeps : KeepsCourse input output since over of = found.2.0 in (
       (here_at (course acts place) of (λ (of : Course). MayBeRead of × IsHearing acts) found.1 (found.2.1, hearing), λ so. unread),
-      here_at (course (On place IsOver ∷ acts) place) (record of { is_over = true }) (KeepsCourse input output active true) (went place IsOver acts of found.1)
+      here_at (course (On place IsOver ∷ acts) place) (record of { is_over = true }) (KeepsCourse input output since true) (went place IsOver acts of found.1)
           (record {
             fine = keeps.fine;
             input_rest = keeps.input_rest;
@@ -202,23 +209,23 @@ next_over idle acts place input output active over unread hearing here =
           }),
     )
 
-pub next_silent : (idle : ℕ) (acts : History) (place : ℕ) (input output : List ℕ) (active : ℕ) (over : Bool) → IsUnread place acts → IsHearing acts
-    → Here (course acts place) (λ of. KeepsCourse input output active over of × MayBeRead of) → Next idle acts place IsSilent (KeepsCourse input output active over)
-next_silent idle acts place input output active over unread hearing here =
-    let found = here_of (course acts place) (λ (of : Course). KeepsCourse input output active over of × MayBeRead of) here in
+pub next_silent : (idle : ℕ) (acts : History) (place : ℕ) (input output : List ℕ) (since : Option ℕ) (over : Bool) → IsUnread place acts → IsHearing acts
+    → Here (course acts place) (λ of. KeepsCourse input output since over of × MayBeRead of) → Next idle acts place IsSilent (KeepsCourse input output since over)
+next_silent idle acts place input output since over unread hearing here =
+    let found = here_of (course acts place) (λ (of : Course). KeepsCourse input output since over of × MayBeRead of) here in
     let of : Course = found.0 in (
       (here_at (course acts place) of (λ (of : Course). MayBeRead of × IsHearing acts) found.1 (found.2.1, hearing), λ so. unread),
-      here_at (course (On place IsSilent ∷ acts) place) of (KeepsCourse input output active over) (went place IsSilent acts of found.1) found.2.0,
+      here_at (course (On place IsSilent ∷ acts) place) of (KeepsCourse input output since over) (went place IsSilent acts of found.1) found.2.0,
     )
 
 -- a read fails, where the connection may be read, or a write does, where it may take
 abbrev pub MayFail : History → Course → Type 0
 MayFail acts of = (MayBeRead of × IsHearing acts) ⊎ (MayBeOffered of × (stage acts ≡ Telling true))
 
-pub next_fail : (idle : ℕ) (acts : History) (place : ℕ) (input output : List ℕ) (active : ℕ) (over : Bool) → Here (course acts place) (λ of. KeepsCourse input output active over of × MayFail acts of)
+pub next_fail : (idle : ℕ) (acts : History) (place : ℕ) (input output : List ℕ) (since : Option ℕ) (over : Bool) → Here (course acts place) (λ of. KeepsCourse input output since over of × MayFail acts of)
     → Next idle acts place Fails (λ of. (of.is_open ≡ true) × (of.has_failed ≡ true))
-next_fail idle acts place input output active over here =
-    let found = here_of (course acts place) (λ (of : Course). KeepsCourse input output active over of × MayFail acts of) here in
+next_fail idle acts place input output since over here =
+    let found = here_of (course acts place) (λ (of : Course). KeepsCourse input output since over of × MayFail acts of) here in
     let of : Course = found.0 in (
       (here_at (course acts place) of (MayFail acts) found.1 found.2.1, λ so. absurd (false≢true so)),
       here_at (course (On place Fails ∷ acts) place) (record of { has_failed = true }) (λ (of : Course). (of.is_open ≡ true) × (of.has_failed ≡ true)) (went place Fails acts of found.1) (found.2.0.fine.0, refl),
@@ -228,36 +235,36 @@ some_bytes : (bytes rest : List ℕ) → 1 ≤ length bytes → bytes ++ rest �
 some_bytes [] rest some none = absurd (omega arith)
 some_bytes (byte ∷ more) rest some none = cc
 
-pub next_take : (idle : ℕ) (acts : History) (place : ℕ) (bytes rest input output : List ℕ) (active : ℕ) (over : Bool) (now : ℕ) → clock acts ≡ now → stage acts ≡ Telling true → 1 ≤ length bytes → output ≡ bytes ++ rest
-    → Here (course acts place) (KeepsCourse input output active over) → Next idle acts place (Takes bytes) (KeepsCourse input rest now over)
-next_take idle acts place bytes rest input output active over now time telling some split here =
-    let found = here_of (course acts place) (KeepsCourse input output active over) here in
+pub next_take : (idle : ℕ) (acts : History) (place : ℕ) (bytes rest input output : List ℕ) (since : Option ℕ) (over : Bool) → stage acts ≡ Telling true → 1 ≤ length bytes → output ≡ bytes ++ rest
+    → Here (course acts place) (KeepsCourse input output since over) → Next idle acts place (Takes bytes) (KeepsCourse input rest None over)
+next_take idle acts place bytes rest input output since over telling some split here =
+    let found = here_of (course acts place) (KeepsCourse input output since over) here in
     let of : Course = found.0 in
-    let keeps : KeepsCourse input output active over of = found.2 in
+    let keeps : KeepsCourse input output since over of = found.2 in
     let answered : of.answered ≡ of.taken ++ (bytes ++ rest) = keeps.output_rest ∙ ap (λ (t : List ℕ). of.taken ++ t) split in
     let more : output ≢ [] = λ none. some_bytes bytes rest some (sym split ∙ none) in (
       (
         here_at (course acts place) of (λ (of : Course). MayBeOffered of × (stage acts ≡ Telling true) × (1 ≤ length bytes) × AreNext bytes of.answered of.taken) found.1
-            ((keeps.fine, not_told of input output active over more keeps), telling, some, (rest, answered)),
+            ((keeps.fine, not_told of input output since over more keeps), telling, some, (rest, answered)),
         λ so. absurd (false≢true so),
       ),
-      here_at (course (On place (Takes bytes) ∷ acts) place) (record of { taken = of.taken ++ bytes; active = clock acts }) (KeepsCourse input rest now over) (went place (Takes bytes) acts of found.1)
+      here_at (course (On place (Takes bytes) ∷ acts) place) (record of { taken = of.taken ++ bytes; idle_since = None }) (KeepsCourse input rest None over) (went place (Takes bytes) acts of found.1)
           (record {
             fine = keeps.fine;
             input_rest = keeps.input_rest;
             output_rest = answered ∙ sym (append_assoc of.taken bytes rest);
-            last = time;
+            last = refl;
             end = keeps.end;
           }),
     )
 
-pub next_take_none : (idle : ℕ) (acts : History) (place : ℕ) (input output : List ℕ) (active : ℕ) (over : Bool) → stage acts ≡ Telling true → output ≢ []
-    → Here (course acts place) (KeepsCourse input output active over) → Next idle acts place TakesNone (KeepsCourse input output active over)
-next_take_none idle acts place input output active over telling some here =
-    let found = here_of (course acts place) (KeepsCourse input output active over) here in
+pub next_take_none : (idle : ℕ) (acts : History) (place : ℕ) (input output : List ℕ) (since : Option ℕ) (over : Bool) → stage acts ≡ Telling true → output ≢ []
+    → Here (course acts place) (KeepsCourse input output since over) → Next idle acts place TakesNone (KeepsCourse input output since over)
+next_take_none idle acts place input output since over telling some here =
+    let found = here_of (course acts place) (KeepsCourse input output since over) here in
     let of : Course = found.0 in (
-      (here_at (course acts place) of (λ (of : Course). MayBeOffered of × (stage acts ≡ Telling true)) found.1 ((found.2.fine, not_told of input output active over some found.2), telling), λ so. absurd (false≢true so)),
-      here_at (course (On place TakesNone ∷ acts) place) of (KeepsCourse input output active over) (went place TakesNone acts of found.1) found.2,
+      (here_at (course acts place) of (λ (of : Course). MayBeOffered of × (stage acts ≡ Telling true)) found.1 ((found.2.fine, not_told of input output since over some found.2), telling), λ so. absurd (false≢true so)),
+      here_at (course (On place TakesNone ∷ acts) place) of (KeepsCourse input output since over) (went place TakesNone acts of found.1) found.2,
     )
 
 -- ---- a deed of a connection
@@ -269,73 +276,63 @@ module _ {C : Type 0} (has : C → History → Type 0) where
       × ((is : Deed → Bool) → is deed ≡ true → InRound is after place) × (was_busy after ≡ does_something deed || was_busy acts)
 
   pub come_to : (idle place : ℕ) (acts : History) (old new : C) (deed : Deed) (P : Course → Type 0) → IsOfConnection deed
-      → (has old (of_connections acts) → has new (of_connections (On place deed ∷ acts))) → Knows has idle old acts → Next idle acts place deed P
+      → (has old acts → has new (On place deed ∷ acts)) → Knows has idle old acts → Next idle acts place deed P
       → Comes-to idle place acts deed new P
   come_to idle place acts old new deed P is step knows next = (On place deed ∷ acts, inr (deed, is, refl), (step knows.0, (next.0, knows.1)), next.1, λ test so. inl (refl, so), refl)
 
 -- ---- a part that is heard
 
--- the time of the last answer, by whether the output grew
-pub active_is : (reply out grown : List ℕ) (now active result : ℕ) → grown ≡ out ++ reply → (length out < length grown → result ≡ now) → (length grown ≤ length out → result ≡ active)
-    → if_answered reply now active ≡ result
-active_is [] out grown now active result is longer same =
-    let e : length grown ≤ length out = rw (is, append-nil) (omega arith) in
-    sym (same e)
-active_is (x ∷ reply) out grown now active result is longer same =
-    let e : length out < length grown = rw (is, length-append) (omega arith) in
-    sym (longer e)
-
-pub next_hear : (idle : ℕ) (acts : History) (place : ℕ) (part rest reply input output : List ℕ) (active : ℕ) (over : Bool) → IsHearing acts → 1 ≤ length part → input ≡ part ++ rest
-    → length output ≤ FULL_OUTPUT → Here (course acts place) (KeepsCourse input output active over)
-    → Next idle acts place (Hears part reply) (KeepsCourse rest (output ++ reply) (if_answered reply (clock acts) active) over)
-next_hear idle acts place part rest reply input output active over hearing some split few here =
-    let found = here_of (course acts place) (KeepsCourse input output active over) here in
+pub next_hear : (idle : ℕ) (acts : History) (place : ℕ) (part rest reply input output : List ℕ) (since : Option ℕ) (over : Bool) → IsHearing acts → 1 ≤ length part → input ≡ part ++ rest
+    → length output ≤ FULL_OUTPUT → Here (course acts place) (KeepsCourse input output since over)
+    → Next idle acts place (Hears part reply) (KeepsCourse rest (output ++ reply) since over)
+next_hear idle acts place part rest reply input output since over hearing some split few here =
+    let found = here_of (course acts place) (KeepsCourse input output since over) here in
     let of : Course = found.0 in
-    let keeps : KeepsCourse input output active over of = found.2 in
+    let keeps : KeepsCourse input output since over of = found.2 in
     let read : of.read ≡ of.heard ++ (part ++ rest) = keeps.input_rest ∙ ap (λ (t : List ℕ). of.heard ++ t) split in
     let size : length of.answered ≡ length of.taken + length output = ap length keeps.output_rest ∙ length-append of.taken output in
     let room : HasRoom of = omega arith in (
       (here_at (course acts place) of (λ (of : Course). MayHear of part × IsHearing acts) found.1 ((keeps.fine, room, some, (rest, read)), hearing), λ so. absurd (false≢true so)),
-      here_at (course (On place (Hears part reply) ∷ acts) place) (record of { heard = of.heard ++ part; answered = of.answered ++ reply; active = if_answered reply (clock acts) of.active })
-          (KeepsCourse rest (output ++ reply) (if_answered reply (clock acts) active) over) (went place (Hears part reply) acts of found.1)
+      here_at (course (On place (Hears part reply) ∷ acts) place) (record of { heard = of.heard ++ part; answered = of.answered ++ reply })
+          (KeepsCourse rest (output ++ reply) since over) (went place (Hears part reply) acts of found.1)
           (record {
             fine = keeps.fine;
             input_rest = read ∙ sym (append_assoc of.heard part rest);
             output_rest = ap (λ (t : List ℕ). t ++ reply) keeps.output_rest ∙ append_assoc of.taken output reply;
-            last = ap (if_answered reply (clock acts)) keeps.last;
+            last = keeps.last;
             end = keeps.end;
           }),
     )
 
 -- a part that is not heard is a reason to close the connection
-missed : (idle : ℕ) (acts : History) (part : List ℕ) (why : SessionFault) (now : ℕ) (of : Course) → of.is_open ≡ true
-    → (after : Course) × (went_on (Misses part why) now of ≡ Some after) × (after.is_open ≡ true) × IsReason idle acts (ending_of why) after
-missed idle acts part fault.Memory now of opened = (record of { is_wanting = true }, refl, opened, refl)
-missed idle acts part fault.Refused now of opened = (record of { is_refused = true }, refl, opened, refl)
+missed : (idle : ℕ) (acts : History) (part : List ℕ) (why : SessionFault) (of : Course) → of.is_open ≡ true
+    → (after : Course) × (went_on (Misses part why) of ≡ Some after) × (after.is_open ≡ true) × IsReason idle acts (ending_of why) after
+missed idle acts part fault.Memory of opened = (record of { is_wanting = true }, refl, opened, refl)
+missed idle acts part fault.Refused of opened = (record of { is_refused = true }, refl, opened, refl)
 
-pub next_miss : (idle : ℕ) (acts : History) (place : ℕ) (part rest input output : List ℕ) (active : ℕ) (over : Bool) (why : SessionFault) → IsHearing acts → 1 ≤ length part → input ≡ part ++ rest
-    → length output ≤ FULL_OUTPUT → Here (course acts place) (KeepsCourse input output active over)
+pub next_miss : (idle : ℕ) (acts : History) (place : ℕ) (part rest input output : List ℕ) (since : Option ℕ) (over : Bool) (why : SessionFault) → IsHearing acts → 1 ≤ length part → input ≡ part ++ rest
+    → length output ≤ FULL_OUTPUT → Here (course acts place) (KeepsCourse input output since over)
     → Next idle acts place (Misses part why) (λ of. (of.is_open ≡ true) × IsReason idle (On place (Misses part why) ∷ acts) (ending_of why) of)
-next_miss idle acts place part rest input output active over why hearing some split few here =
-    let found = here_of (course acts place) (KeepsCourse input output active over) here in
+next_miss idle acts place part rest input output since over why hearing some split few here =
+    let found = here_of (course acts place) (KeepsCourse input output since over) here in
     let of : Course = found.0 in
-    let keeps : KeepsCourse input output active over of = found.2 in
+    let keeps : KeepsCourse input output since over of = found.2 in
     let read : of.read ≡ of.heard ++ (part ++ rest) = keeps.input_rest ∙ ap (λ (t : List ℕ). of.heard ++ t) split in
     let size : length of.answered ≡ length of.taken + length output = ap length keeps.output_rest ∙ length-append of.taken output in
     let room : HasRoom of = omega arith in
-    let then = missed idle (On place (Misses part why) ∷ acts) part why (clock acts) of keeps.fine.0 in (
+    let then = missed idle (On place (Misses part why) ∷ acts) part why of keeps.fine.0 in (
       (here_at (course acts place) of (λ (of : Course). MayHear of part × IsHearing acts) found.1 ((keeps.fine, room, some, (rest, read)), hearing), λ so. absurd (false≢true so)),
       here_at (course (On place (Misses part why) ∷ acts) place) then.0 (λ (of : Course). (of.is_open ≡ true) × IsReason idle (On place (Misses part why) ∷ acts) (ending_of why) of)
           (went place (Misses part why) acts of found.1 ∙ then.1) (then.2, then.3),
     )
 
 -- what waits to be heard cannot be kept
-pub next_lack : (idle : ℕ) (acts : History) (place : ℕ) (input output : List ℕ) (active : ℕ) (over : Bool) → IsHearing acts → input ≢ [] → FULL_OUTPUT < length output
-    → Here (course acts place) (KeepsCourse input output active over) → Next idle acts place Lacks (λ of. (of.is_open ≡ true) × (of.is_wanting ≡ true))
-next_lack idle acts place input output active over hearing some full here =
-    let found = here_of (course acts place) (KeepsCourse input output active over) here in
+pub next_lack : (idle : ℕ) (acts : History) (place : ℕ) (input output : List ℕ) (since : Option ℕ) (over : Bool) → IsHearing acts → input ≢ [] → FULL_OUTPUT < length output
+    → Here (course acts place) (KeepsCourse input output since over) → Next idle acts place Lacks (λ of. (of.is_open ≡ true) × (of.is_wanting ≡ true))
+next_lack idle acts place input output since over hearing some full here =
+    let found = here_of (course acts place) (KeepsCourse input output since over) here in
     let of : Course = found.0 in
-    let keeps : KeepsCourse input output active over of = found.2 in
+    let keeps : KeepsCourse input output since over of = found.2 in
     let size : length of.answered ≡ length of.taken + length output = ap length keeps.output_rest ∙ length-append of.taken output in
     let no_room : ¬ HasRoom of = λ (room : length of.answered ≤ length of.taken + FULL_OUTPUT). absurd (omega arith) in (
       (
@@ -388,38 +385,75 @@ stays_counted place came more wanting wanting_new acts after is stays = record {
   inside = stays.inside;
 }
 
+-- ---- deeds of sessions
+
+-- what happens to sessions passes the connections by
+abbrev pub Passes : {C : Type 0} → (C → History → Type 0) → Type 0
+Passes {C} has = (connections : C) (acts : History) (place : ℕ) (deed : Deed) → IsOfSession deed → has connections acts → has connections (On place deed ∷ acts)
+
+pub adds_none : (acts : History) → AddsOfSessions acts acts
+adds_none acts = ([], tt, refl)
+
+pub adds_one : (place : ℕ) (deed : Deed) (before after : History) → IsOfSession deed → AddsOfSessions before after → AddsOfSessions before (On place deed ∷ after)
+adds_one place deed before after is (more, are, same) = (On place deed ∷ more, (is, are), ap (λ (acts : History). On place deed ∷ acts) same)
+
+adds_more : (before between more : History) → AddsOfSessions before between → AreOfSessions more → AddsOfSessions before (more ++ between)
+adds_more before between [] one all = one
+adds_more before between (At pause now ∷ more) one all = absurd all
+adds_more before between (Ordered ∷ more) one all = absurd all
+adds_more before between (Syncs kept ∷ more) one all = absurd all
+adds_more before between (GoesOn ∷ more) one all = absurd all
+adds_more before between (NoneWaits ∷ more) one all = absurd all
+adds_more before between (On place deed ∷ more) one (is, all) = adds_one place deed before (more ++ between) is (adds_more before between more one all)
+
+pub adds_both : (before between after : History) → AddsOfSessions before between → AddsOfSessions between after → AddsOfSessions before after
+adds_both before between after one (more, are, same) = subst (AddsOfSessions before) (sym same) (adds_more before between more one are)
+
+module _ {C : Type 0} (has : C → History → Type 0) (passes : Passes has) where
+  passes_more : (connections : C) (before more : History) → AreOfSessions more → has connections before → has connections (more ++ before)
+  passes_more connections before [] all knows = knows
+  passes_more connections before (At pause now ∷ more) all knows = absurd all
+  passes_more connections before (Ordered ∷ more) all knows = absurd all
+  passes_more connections before (Syncs kept ∷ more) all knows = absurd all
+  passes_more connections before (GoesOn ∷ more) all knows = absurd all
+  passes_more connections before (NoneWaits ∷ more) all knows = absurd all
+  passes_more connections before (On place deed ∷ more) (is, all) knows = passes connections (more ++ before) place deed is (passes_more connections before more all knows)
+
+  pub passes_all : (connections : C) (before after : History) → AddsOfSessions before after → has connections before → has connections after
+  passes_all connections before after (more, are, same) knows = subst (has connections) (sym same) (passes_more connections before more are knows)
+
 -- ---- what may be read, and told
 
-pub may_read : (there : Option Course) (input output : List ℕ) (active : ℕ) (over : Bool) → input ≡ [] → over ≡ false → length output ≤ FULL_OUTPUT → Here there (KeepsCourse input output active over)
-    → Here there (λ of. KeepsCourse input output active over of × MayBeRead of)
-may_read there input output active over none more few here =
-    here_so there (KeepsCourse input output active over) (λ (of : Course). KeepsCourse input output active over of × MayBeRead of)
-    (λ (of : Course) (keeps : KeepsCourse input output active over of).
+pub may_read : (there : Option Course) (input output : List ℕ) (since : Option ℕ) (over : Bool) → input ≡ [] → over ≡ false → length output ≤ FULL_OUTPUT → Here there (KeepsCourse input output since over)
+    → Here there (λ of. KeepsCourse input output since over of × MayBeRead of)
+may_read there input output since over none more few here =
+    here_so there (KeepsCourse input output since over) (λ (of : Course). KeepsCourse input output since over of × MayBeRead of)
+    (λ (of : Course) (keeps : KeepsCourse input output since over of).
     let size : length of.answered ≡ length of.taken + length output = ap length keeps.output_rest ∙ length-append of.taken output in
     let room : HasRoom of = omega arith in
     (keeps, (keeps.fine, keeps.input_rest ∙ ap (λ (t : List ℕ). of.heard ++ t) none ∙ append-nil of.heard, room, keeps.end ∙ more)))
     here
 
 -- output waits, so it may be offered
-pub may_take : (there : Option Course) (input output : List ℕ) (active : ℕ) (over : Bool) → output ≢ [] → Here there (KeepsCourse input output active over)
-    → Here there (λ of. KeepsCourse input output active over of × MayBeOffered of)
-may_take there input output active over some here =
-    here_so there (KeepsCourse input output active over) (λ (of : Course). KeepsCourse input output active over of × MayBeOffered of)
-    (λ (of : Course) (keeps : KeepsCourse input output active over of). (keeps, (keeps.fine, not_told of input output active over some keeps))) here
+pub may_take : (there : Option Course) (input output : List ℕ) (since : Option ℕ) (over : Bool) → output ≢ [] → Here there (KeepsCourse input output since over)
+    → Here there (λ of. KeepsCourse input output since over of × MayBeOffered of)
+may_take there input output since over some here =
+    here_so there (KeepsCourse input output since over) (λ (of : Course). KeepsCourse input output since over of × MayBeOffered of)
+    (λ (of : Course) (keeps : KeepsCourse input output since over of). (keeps, (keeps.fine, not_told of input output since over some keeps))) here
 
 -- ---- the turn to send
 
 -- nothing is left to be heard, or the output is full
-pub attended : (there : Option Course) (acts : History) (place : ℕ) (input output : List ℕ) (active : ℕ) (over : Bool) → (input ≡ []) ⊎ (FULL_OUTPUT < length output)
-    → (over ≡ true) ⊎ InRound gives_turn acts place ⊎ (FULL_OUTPUT < length output) → Here there (KeepsCourse input output active over) → Here there (IsAttended acts place)
-attended there acts place input output active over all asked here =
-    here_so there (KeepsCourse input output active over) (IsAttended acts place) (λ (of : Course) (keeps : KeepsCourse input output active over of). by_case of keeps all asked) here
+pub attended : (there : Option Course) (acts : History) (place : ℕ) (input output : List ℕ) (since : Option ℕ) (over : Bool) → (input ≡ []) ⊎ (FULL_OUTPUT < length output)
+    → (over ≡ true) ⊎ InRound gives_turn acts place ⊎ (FULL_OUTPUT < length output) → Here there (KeepsCourse input output since over) → Here there (IsAttended acts place)
+attended there acts place input output since over all asked here =
+    here_so there (KeepsCourse input output since over) (IsAttended acts place) (λ (of : Course) (keeps : KeepsCourse input output since over of). by_case of keeps all asked) here
   where
-    full : (of : Course) → KeepsCourse input output active over of → FULL_OUTPUT < length output → IsFull of
+    full : (of : Course) → KeepsCourse input output since over of → FULL_OUTPUT < length output → IsFull of
     full of keeps more =
         let size : length of.answered ≡ length of.taken + length output = ap length keeps.output_rest ∙ length-append of.taken output in omega arith
 
-    by_case : (of : Course) → KeepsCourse input output active over of → (input ≡ []) ⊎ (FULL_OUTPUT < length output) → (over ≡ true) ⊎ InRound gives_turn acts place ⊎ (FULL_OUTPUT < length output)
+    by_case : (of : Course) → KeepsCourse input output since over of → (input ≡ []) ⊎ (FULL_OUTPUT < length output) → (over ≡ true) ⊎ InRound gives_turn acts place ⊎ (FULL_OUTPUT < length output)
         → IsAttended acts place of
     by_case of keeps (inr more) asked = inl (full of keeps more)
     by_case of keeps (inl none) (inl gone) = inr (keeps.input_rest ∙ ap (λ (t : List ℕ). of.heard ++ t) none ∙ append-nil of.heard, inl (keeps.end ∙ gone))

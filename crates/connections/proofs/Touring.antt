@@ -10,10 +10,10 @@ use Rattle.connections.specs.declared.ending.SessionFault.{SessionFault}
 use Rattle.connections.specs.declared.loop_limits.TheConstants.{LAST_MILLISECONDS, LONGEST_WAIT}
 use Rattle.connections.specs.declared.talk.Talk.{Talk}
 use Rattle.connections.specs.Endings.{AreInside, AreWithin, HasEnded, IsClosing, IsFinished, IsStopped, comers, most_comers, rounds}
-use Rattle.connections.specs.Fairness.{AreAttended, AreHeard, AreUsed, IsAttended, IsFair, IsServed, IsUsed, IsWhole, NoneOrdered, NoneWaited}
+use Rattle.connections.specs.Fairness.{AreAttended, AreHeard, AreServed, AreUsed, IsAttended, IsFair, IsServed, IsUsed, IsWhole, NoneOrdered, NoneWaited}
 use Rattle.connections.specs.Rounds.{gives_turn, offers, InRound, IsUnread}
-use Rattle.connections.specs.Fitting.{AreUnread, Fits, FitAll, Has, HasWholeRounds, IsKnownBusy, KeepsTalk, KnowsPause, KnowsPauseAt, MayOrder, ServesPlace, Stays, StaysInRound, Tours, Turns}
-use Rattle.connections.specs.Histories.{At, History, Course, Hearing, IfThere, Telling, Stage, clock, course, stage, stopped, Leads}
+use Rattle.connections.specs.Fitting.{AreUnread, Begins, Fits, FitAll, Has, HasWholeRounds, IsKnownBusy, KeepsTalk, KnowsPause, KnowsPauseAt, MayOrder, ServesPlace, Stays, StaysInRound, Tours, Turns}
+use Rattle.connections.specs.Histories.{At, Ordered, GoesOn, Syncs, History, Course, Hearing, IfThere, Telling, Stage, clock, course, rested, stage, stopped, Leads}
 use Rattle.connections.specs.Pauses.{IsPause, MayStay, pause_of, until_due, until_idle, until_stopped}
 use Rattle.connections.specs.Soundness.{Here, IsReason, IsTaken}
 use Rattle.connections.specs.Telling.{losses, TellsLosses, TellsTimes}
@@ -83,7 +83,7 @@ more_served idle place came wanting wanting_new before after stays below here =
     back : (of : Course) (why : Ending) → IsReason idle after why of → IsReason idle before why of
     back of Done reason = reason
     back of Fault reason = reason
-    back of Idle (fine, may, late) = (fine, may, subst (λ (now : ℕ). of.active + idle ≤ now) stays.same_clock late)
+    back of Idle (fine, may, since, is, late) = (fine, may, since, is, subst (λ (now : ℕ). since + idle ≤ now) stays.same_clock late)
     back of Stopped (fine, since, is, all) = (fine, since, sym stays.same_stop ∙ is, subst (λ (now : ℕ). IsTaken of ⊎ (since + LAST_MILLISECONDS ≤ now)) stays.same_clock all)
     back of Unsynced (fine, unsynced, some) = (fine, sym stays.same_stage ∙ unsynced, some)
     back of Memory reason = reason
@@ -236,15 +236,16 @@ caps_stopped : (now : ℕ) (stop : Option ℕ) → Caps (until_stopped now stop)
 caps_stopped now None = caps_none
 caps_stopped now (Some since) = caps_min (LAST_MILLISECONDS - (now - since))
 
-caps_idle : (now idle active : ℕ) → Caps (until_idle now idle active)
-caps_idle now idle active = by_test (idle == 0)
+caps_idle : (now idle : ℕ) (idle_since : Option ℕ) → Caps (until_idle now idle idle_since)
+caps_idle now idle None = caps_none
+caps_idle now idle (Some since) = by_test (idle == 0)
   where
-    by_test : (never : Bool) → Caps (λ most. if never then most else min most (idle - (now - active)))
+    by_test : (never : Bool) → Caps (λ most. if never then most else min most (idle - (now - since)))
     by_test true = caps_none
-    by_test false = caps_min (idle - (now - active))
+    by_test false = caps_min (idle - (now - since))
 
-pub caps_due : (now idle : ℕ) (stop : Option ℕ) (active : ℕ) → Caps (until_due now idle stop active)
-caps_due now idle stop active = caps_both (until_stopped now stop) (until_idle now idle active) (caps_stopped now stop) (caps_idle now idle active)
+pub caps_due : (now idle : ℕ) (stop idle_since : Option ℕ) → Caps (until_due now idle stop idle_since)
+caps_due now idle stop idle_since = caps_both (until_stopped now stop) (until_idle now idle idle_since) (caps_stopped now stop) (caps_idle now idle idle_since)
 
 -- one place more
 pub more_paused : (idle place came wanting wanting_new longest pause pause_new : ℕ) (is_busy is_busy_new : Bool) (before after : History) → Stays place came wanting wanting_new before after → KnowsPause idle place longest is_busy pause before
@@ -280,12 +281,12 @@ more_told idle place came wanting wanting_new longest pause pause_new is_busy is
 
 -- what is known of the place of a connection that was told
 pub pause_told : (idle place now : ℕ) (stop : Option ℕ) (pause pause_new : ℕ) (is_busy is_busy_new : Bool) (acts : History) (talk : Talk) → clock acts ≡ now → stopped acts ≡ stop → Here (course acts place) (KeepsTalk talk)
-    → IsKnownBusy is_busy_new acts → (is_busy_new ≡ false → is_busy ≡ false) → pause_new ≡ until_due now idle stop talk.active pause → KnowsPauseAt idle place is_busy pause is_busy_new pause_new acts
+    → IsKnownBusy is_busy_new acts → (is_busy_new ≡ false → is_busy ≡ false) → pause_new ≡ until_due now idle stop talk.idle_since pause → KnowsPauseAt idle place is_busy pause is_busy_new pause_new acts
 pause_told idle place now stop pause pause_new is_busy is_busy_new acts talk time order here busy free_before is = (busy, λ free. (free_before free, by_there (course acts place) here))
   where
     by_there : (there : Option Course) → Here there (KeepsTalk talk) → (most : ℕ) → (most ≤ pause_new) ↔ ((most ≤ pause) × IfThere there (MayStay idle acts most))
     by_there None here most = absurd here
-    by_there (Some of) keeps most = rw (is, time, order, keeps.last) (caps_due now idle stop talk.active pause most)
+    by_there (Some of) keeps most = rw (is, time, order, keeps.last) (caps_due now idle stop talk.idle_since pause most)
 
 -- once something was done, nothing else is known
 pub pause_busy : (idle place pause pause_new : ℕ) (is_busy : Bool) (acts : History) → IsKnownBusy true acts → KnowsPauseAt idle place is_busy pause true pause_new acts
@@ -302,22 +303,89 @@ paused idle longest pause false places acts fit same known = (
   ),
 )
 
+-- ---- how a round begins
+
+-- the places so far fit what rested, and the others are as they were
+abbrev pub RestedTo : ℕ → ℕ → List (Option Talk) → List (Option Talk) → Type 0
+RestedTo now place old new = (other : ℕ) → (other < place → (there : Option Course) → Fits (get_or old other None) there → Fits (get_or new other None) (rested now there))
+    × (place ≤ other → get_or new other None ≡ get_or old other None)
+
+pub more_rested : (now place : ℕ) (old new : List (Option Talk)) (item slot : Option Talk) → place < length new → item ≡ get_or new place item → RestedTo now place old new
+    → ((there : Option Course) → Fits (get_or new place item) there → Fits slot (rested now there)) → RestedTo now (place + 1) old (set new place slot)
+more_rested now place old new item slot inside is so_far rests = λ other. by_place other (other == place) refl
+  where
+    by_place : (other : ℕ) (here : Bool) → (other == place) ≡ here
+        → (other < place + 1 → (there : Option Course) → Fits (get_or old other None) there → Fits (get_or (set new place slot) other None) (rested now there)) × (place + 1 ≤ other → get_or (set new place slot) other None ≡ get_or old other None)
+    by_place other true is_here =
+        let same : other ≡ place = eqb-true other place is_here in (
+          λ less there fits.
+              subst (λ (n : ℕ). Fits (get_or (set new place slot) n None) (rested now there)) (sym same)
+              (subst (λ (kept : Option Talk). Fits kept (rested now there)) (sym (get_or-set_same new place slot None inside))
+              (rests there (subst (λ (kept : Option Talk). Fits kept there) (sym ((so_far place).1 (omega arith)) ∙ sym (get_or_read new place item inside is None) ∙ is) (subst (λ (n : ℕ). Fits (get_or old n None) there) same fits)))),
+          λ past. absurd (omega arith),
+        )
+    by_place other false is_here =
+        let differs : other ≢ place = eqb-false other place is_here in
+        let kept : get_or (set new place slot) other None ≡ get_or new other None = get_or-set_other new place other slot None differs in (
+          λ less there fits. subst (λ (slot : Option Talk). Fits slot (rested now there)) (sym kept) ((so_far other).0 (omega arith) there fits),
+          λ past. kept ∙ (so_far other).1 (omega arith),
+        )
+
+pub all_rested : (now place : ℕ) (old new : List (Option Talk)) → length old ≤ place → length new ≡ length old → RestedTo now place old new → (acts : History) (pause : ℕ) → FitAll old acts → FitAll new (At pause now ∷ acts)
+all_rested now place old new end size all acts pause fit = λ other. by_size other (cases_lt other place)
+  where
+    by_size : (other : ℕ) → (other < place) ⊎ (place ≤ other) → Fits (get_or new other None) (rested now (course acts other))
+    by_size other (inl less) = (all other).0 less (course acts other) (fit other)
+    by_size other (inr past) =
+        let none : course acts other ≡ None = fits_none (course acts other) (subst (λ (slot : Option Talk). Fits slot (course acts other)) (get_or_past old other None (omega arith)) (fit other)) in
+        subst (λ (slot : Option Talk). Fits slot (rested now (course acts other))) (sym (get_or_past new other None (omega arith))) (rw none tt)
+
+begins_at : (acts : History) (pause now : ℕ) → Begins now acts (At pause now ∷ acts)
+begins_at acts pause now = record {
+  hearing = refl;
+  time = refl;
+  same_comers = refl;
+  more_rounds = refl;
+  same_losses = refl;
+  unread = λ place found. found;
+  quiet = refl;
+  inside = λ size inside. inside;
+  fair = λ idle count size fair whole more. (whole, more, fair);
+}
+
+begins_ordered : (acts : History) (pause now : ℕ) → Begins now acts (Ordered ∷ At pause now ∷ acts)
+begins_ordered acts pause now = record {
+  hearing = refl;
+  time = refl;
+  same_comers = refl;
+  more_rounds = refl;
+  same_losses = refl;
+  unread = λ place found. found;
+  quiet = refl;
+  inside = λ size inside. inside;
+  fair = λ idle count size fair whole more. (whole, more, fair);
+}
+
+begins_on : (acts : History) (pause now : ℕ) → Begins now acts (GoesOn ∷ At pause now ∷ acts)
+begins_on acts pause now = record {
+  hearing = refl;
+  time = refl;
+  same_comers = refl;
+  more_rounds = refl;
+  same_losses = refl;
+  unread = λ place found. found;
+  quiet = refl;
+  inside = λ size inside. inside;
+  fair = λ idle count size fair whole more. (whole, more, fair);
+}
+
+-- the round has begun, whether a stop is ordered or not
+pub begun : (acts : History) (pause now : ℕ) (after : History) (places : List (Option Talk)) → MayOrder (At pause now ∷ acts) after → FitAll places (At pause now ∷ acts) → Begins now acts after × FitAll places after
+begun acts pause now after places (inl same) fit = subst (λ (h : History). Begins now acts h × FitAll places h) (sym same) (begins_at acts pause now, fit)
+begun acts pause now after places (inr (inl same)) fit = subst (λ (h : History). Begins now acts h × FitAll places h) (sym same) (begins_ordered acts pause now, fit)
+begun acts pause now after places (inr (inr same)) fit = subst (λ (h : History). Begins now acts h × FitAll places h) (sym same) (begins_on acts pause now, fit)
+
 module _ {S : Type 0} (opens : S → ℕ → S → Type 0) (refuses : S → ℕ → SessionFault → Type 0) (hears : S → ℕ → List ℕ → List ℕ → S → Type 0) (misses : S → ℕ → List ℕ → SessionFault → S → Type 0) (ends : S → ℕ → S → Type 0) where
-  -- what is so when a round has begun
-  abbrev pub Begun : S → S → History → ℕ → History → Type 0
-  Begun start sessions acts now after = Leads opens refuses hears misses ends start after sessions × (stage after ≡ Hearing) × (clock after ≡ now) × ((place : ℕ) → course after place ≡ course acts place)
-      × (comers after ≡ comers acts) × (rounds after ≡ rounds acts + 1)
-      × ((idle count size : ℕ) → IsFair idle count size acts → IsWhole idle acts → ¬ IsFinished count acts → IsFair idle count size after)
-      × (AreUnread after × IsKnownBusy false after) × ((size : ℕ) → AreInside size acts → AreInside size after) × (losses after ≡ losses acts)
-
-  pub begun : (start sessions : S) (acts : History) (pause now : ℕ) (after : History) → MayOrder (At pause now ∷ acts) after → Leads opens refuses hears misses ends start acts sessions → Begun start sessions acts now after
-  begun start sessions acts pause now after (inl same) leads = subst (Begun start sessions acts now) (sym same) (leads, refl, refl, λ place. refl, refl, refl, λ idle count size fair whole more. (whole, more, fair), (λ place found. found, refl), λ size inside. inside, refl)
-  begun start sessions acts pause now after (inr (inl same)) leads = subst (Begun start sessions acts now) (sym same) (leads, refl, refl, λ place. refl, refl, refl, λ idle count size fair whole more. (whole, more, fair), (λ place found. found, refl), λ size inside. inside, refl)
-  begun start sessions acts pause now after (inr (inr same)) leads = subst (Begun start sessions acts now) (sym same) (leads, refl, refl, λ place. refl, refl, refl, λ idle count size fair whole more. (whole, more, fair), (λ place found. found, refl), λ size inside. inside, refl)
-
-  pub fit_begun : (start sessions : S) (acts : History) (now : ℕ) (after : History) (places : List (Option Talk)) → Begun start sessions acts now after → FitAll places acts → FitAll places after
-  fit_begun start sessions acts now after places begun fit = λ place. subst (λ (there : Option Course). Fits (get_or places place None) there) (sym (begun.3 place)) (fit place)
-
   module _ {C : Type 0} (has : C → History → Type 0) where
     -- ---- places, one after another
 
@@ -372,6 +440,45 @@ module _ {S : Type 0} (opens : S → ℕ → S → Type 0) (refuses : S → ℕ 
         fit,
         so acts ready,
       )
+
+    -- ---- the parts of a round
+
+    pub one_round : (idle now left left_new pause none one two last longest pause_told : ℕ) (stop stop_new : Option ℕ) (kept busy_taken busy_heard busy_told : Bool) (connections waited taken heard synced told : C) (old took hearing new : S)
+        (places rested places_taken places_heard places_told : List (Option Talk)) → length rested ≡ length places → length places_taken ≡ length rested → length places_heard ≡ length places_taken → length places_told ≡ length places_heard → none ≡ 0 → longest ≡ LONGEST_WAIT
+        → ((start : S) (acts : History) → Has opens refuses hears misses ends has idle start connections old acts → stopped acts ≡ stop → FitAll places acts → IsPause idle acts pause
+        → (after : History) × Has opens refuses hears misses ends has idle start waited old after × Begins now acts after × FitAll rested after × (stopped after ≡ stop_new) × (IsStopped after ⊎ NoneOrdered after))
+        → Tours opens refuses hears misses ends has Hearing idle now stop_new left left_new none one (λ before. AreUnread before × IsKnownBusy false before) (λ after. (IsStopped after ⊎ (left_new ≡ 0) ⊎ NoneWaited after ⊎ AreUsed (length rested) after) × AreUnread after × IsKnownBusy busy_taken after) waited old rested taken took places_taken
+        → Tours opens refuses hears misses ends has Hearing idle now stop_new 0 0 one two (λ before. AreUnread before × IsKnownBusy busy_taken before) (λ after. (IsStopped after ⊎ AreAttended after) × IsKnownBusy busy_heard after) taken took places_taken heard hearing places_heard
+        → ((start : S) (acts : History) → Leads opens refuses hears misses ends start acts hearing → has heard acts → has synced (Syncs kept ∷ acts))
+        → Tours opens refuses hears misses ends has (Telling kept) idle now stop_new 0 0 two last (IsKnownBusy busy_heard) (λ after. AreServed idle after × KnowsPause idle (length places_heard) longest busy_told pause_told after) synced hearing places_heard told new places_told
+        → Turns opens refuses hears misses ends has idle stop left pause connections old places stop_new left_new (pause_of busy_told pause_told) last told new places_told
+    one_round idle now left left_new pause none one two last longest pause_told stop stop_new kept busy_taken busy_heard busy_told connections waited taken heard synced told old took hearing new places rested places_taken places_heard places_told size_r size_t size_h size_w no_loss most begins takes hears_all syncs tells =
+        λ count start acts known order fit whole more.
+        let a = begins start acts known order fit whole.4 in
+        let t = takes start a.0 a.1 a.2.hearing a.2.time a.4 (a.2.unread, a.2.quiet) a.3 in
+        let h = hears_all start t.0 t.2 (t.1.same_stage ∙ a.2.hearing) (t.1.same_clock ∙ a.2.time) (t.1.same_stop ∙ a.4) (t.4.1, t.4.2) t.3 in
+        let w = tells start (Syncs kept ∷ h.0) (syncs start h.0 h.2.1 h.2.0, h.2.1, (h.1.same_stage ∙ t.1.same_stage ∙ a.2.hearing, h.2.2)) refl (h.1.same_clock ∙ t.1.same_clock ∙ a.2.time) (h.1.same_stop ∙ t.1.same_stop ∙ a.4) h.4.1 h.3 in
+        let lost : losses w.0 ≡ losses acts + last = all_lost (losses acts) (losses a.0) (losses t.0) (losses h.0) (losses w.0) none one two last a.2.same_losses no_loss t.1.more_lost h.1.more_lost w.1.more_lost in
+        let left_taken : comers t.0 + left_new ≡ most_comers count = few_taken (comers acts) (comers a.0) (comers t.0) left left_new (most_comers count) a.2.same_comers whole.0 t.1.fewer_left in
+        let left_told : comers w.0 + left_new ≡ most_comers count = few_told (comers t.0) (comers h.0) (comers w.0) left_new (most_comers count) left_taken h.1.fewer_left w.1.fewer_left in
+        let size : ℕ = length places in
+        let fair : IsFair idle count size h.0 = h.1.lasts.fair idle count size (t.1.lasts.fair idle count size (a.2.fair idle count size whole.1 whole.2 more)) in
+        let asked : IsStopped t.0 ⊎ NoneOrdered t.0 = asked_on (length rested) left left_new none one a.0 t.0 t.1 a.5 in
+        let all_heard : AreHeard count size h.0 = subst (λ (n : ℕ). AreHeard count n h.0) size_r (are_heard count (length rested) left_new (length places_taken) one two t.0 h.0 h.1 left_taken asked t.4.0 h.4.0) in
+        let in_taken : AreInside (length places_taken) t.0 = subst (λ (n : ℕ). AreInside n t.0) (sym size_t) (t.1.inside (subst (λ (n : ℕ). AreInside n a.0) (sym size_r) (a.2.inside size whole.3))) in
+        let in_heard : AreInside (length places_heard) h.0 = subst (λ (n : ℕ). AreInside n h.0) (sym size_h) (h.1.inside in_taken) in
+        let in_told : AreInside size w.0 = subst (λ (n : ℕ). AreInside n w.0) (size_h ∙ size_t ∙ size_r) (w.1.inside in_heard) in
+        let knows : KnowsPause idle (length places_told) longest busy_told pause_told w.0 = subst (λ (n : ℕ). KnowsPause idle n longest busy_told pause_told w.0) (sym size_w) w.4.1 in
+        let rests : IsPause idle w.0 (pause_of busy_told pause_told) = paused idle longest pause_told busy_told places_told w.0 w.3 most knows in
+        let over : stage w.0 ≢ Hearing = λ same. telling kept (sym w.1.same_stage ∙ same) in (
+          w.0,
+          w.2,
+          w.1.same_stop ∙ h.1.same_stop ∙ t.1.same_stop ∙ a.4,
+          w.3,
+          w.1.same_rounds ∙ h.1.same_rounds ∙ t.1.same_rounds ∙ a.2.more_rounds,
+          lost,
+          (left_told, w.1.lasts.fair idle count size (all_heard, fair), (over, w.4.0), in_told, rests),
+        )
 
     -- ---- rounds, one after another
 

@@ -5,57 +5,58 @@ use Rattle.std.proofs.lemmas.List.{length-append}
 use Rattle.std.specs.Prelude.{◌==◌}
 use Rattle.connections.specs.declared.ending.SessionFault.TheVariants as fault
 use Rattle.connections.specs.declared.loop_limits.TheConstants.{FULL_OUTPUT}
-use Rattle.connections.specs.Histories.{At, Ordered, GoesOn, Syncs, NoneWaits, On, Deed, Comes, Opens, Refuses, Reads, IsOver, IsSilent, Hears, Misses, Lacks, Takes, TakesNone, Fails, Ends, Closes, History, Course, clock, course, done_at}
+use Rattle.connections.specs.Histories.{At, Ordered, GoesOn, Syncs, NoneWaits, On, Deed, Comes, Opens, Refuses, Reads, IsOver, IsSilent, Hears, Misses, Lacks, Takes, TakesNone, Fails, Ends, Closes, History, Course, course, done_at}
 use Rattle.connections.specs.Laws.{AlwaysWaitWithin, AreAnsweredWithin, IsAnsweredWithin, WaitsWithin}
 use Rattle.connections.specs.Soundness.{IsDue, IsSoundHistory}
+use Rattle.connections.proofs.Steps.{rested_so}
 
-stays_within : (idle most : ℕ) (acts : History) (deed : Deed) (now : ℕ) (there : Option Course) → IsDue idle acts deed there → IsAnsweredWithin most deed → WaitsWithin most there → WaitsWithin most (done_at deed now there)
-stays_within idle most acts Comes now None due few waits = omega arith
-stays_within idle most acts Comes now (Some of) due few waits = omega arith
-stays_within idle most acts Opens now None due few waits = tt
-stays_within idle most acts Opens now (Some of) due few waits = waits
-stays_within idle most acts (Refuses why) now None due few waits = tt
-stays_within idle most acts (Refuses fault.Memory) now (Some of) due few waits = waits
-stays_within idle most acts (Refuses fault.Refused) now (Some of) due few waits = waits
-stays_within idle most acts (Reads bytes) now None due few waits = tt
-stays_within idle most acts (Reads bytes) now (Some of) due few waits = waits
-stays_within idle most acts IsOver now None due few waits = tt
-stays_within idle most acts IsOver now (Some of) due few waits = waits
-stays_within idle most acts IsSilent now None due few waits = tt
-stays_within idle most acts IsSilent now (Some of) due few waits = waits
-stays_within idle most acts (Hears part reply) now None due few waits = tt
-stays_within idle most acts (Hears part reply) now (Some of) ((well, room, some, next), hearing) few waits =
+stays_within : (idle most : ℕ) (acts : History) (deed : Deed) (there : Option Course) → IsDue idle acts deed there → IsAnsweredWithin most deed → WaitsWithin most there → WaitsWithin most (done_at deed there)
+stays_within idle most acts Comes None due few waits = omega arith
+stays_within idle most acts Comes (Some of) due few waits = omega arith
+stays_within idle most acts Opens None due few waits = tt
+stays_within idle most acts Opens (Some of) due few waits = waits
+stays_within idle most acts (Refuses why) None due few waits = tt
+stays_within idle most acts (Refuses fault.Memory) (Some of) due few waits = waits
+stays_within idle most acts (Refuses fault.Refused) (Some of) due few waits = waits
+stays_within idle most acts (Reads bytes) None due few waits = tt
+stays_within idle most acts (Reads bytes) (Some of) due few waits = waits
+stays_within idle most acts IsOver None due few waits = tt
+stays_within idle most acts IsOver (Some of) due few waits = waits
+stays_within idle most acts IsSilent None due few waits = tt
+stays_within idle most acts IsSilent (Some of) due few waits = waits
+stays_within idle most acts (Hears part reply) None due few waits = tt
+stays_within idle most acts (Hears part reply) (Some of) ((well, room, some, next), hearing) few waits =
     let grown : length (of.answered ++ reply) ≡ length of.answered + length reply = length-append of.answered reply in
     omega arith
-stays_within idle most acts (Misses part why) now None due few waits = tt
-stays_within idle most acts (Misses part fault.Memory) now (Some of) due few waits = waits
-stays_within idle most acts (Misses part fault.Refused) now (Some of) due few waits = waits
-stays_within idle most acts Lacks now None due few waits = tt
-stays_within idle most acts Lacks now (Some of) due few waits = waits
-stays_within idle most acts (Takes bytes) now None due few waits = tt
-stays_within idle most acts (Takes bytes) now (Some of) due few waits =
+stays_within idle most acts (Misses part why) None due few waits = tt
+stays_within idle most acts (Misses part fault.Memory) (Some of) due few waits = waits
+stays_within idle most acts (Misses part fault.Refused) (Some of) due few waits = waits
+stays_within idle most acts Lacks None due few waits = tt
+stays_within idle most acts Lacks (Some of) due few waits = waits
+stays_within idle most acts (Takes bytes) None due few waits = tt
+stays_within idle most acts (Takes bytes) (Some of) due few waits =
     let grown : length (of.taken ++ bytes) ≡ length of.taken + length bytes = length-append of.taken bytes in
     let before : length of.answered ≤ length of.taken + (FULL_OUTPUT + most) = waits in
     omega arith
-stays_within idle most acts TakesNone now None due few waits = tt
-stays_within idle most acts TakesNone now (Some of) due few waits = waits
-stays_within idle most acts Fails now None due few waits = tt
-stays_within idle most acts Fails now (Some of) due few waits = waits
-stays_within idle most acts Ends now None due few waits = tt
-stays_within idle most acts Ends now (Some of) due few waits = waits
-stays_within idle most acts (Closes why) now None due few waits = tt
-stays_within idle most acts (Closes why) now (Some of) due few waits = tt
+stays_within idle most acts TakesNone None due few waits = tt
+stays_within idle most acts TakesNone (Some of) due few waits = waits
+stays_within idle most acts Fails None due few waits = tt
+stays_within idle most acts Fails (Some of) due few waits = waits
+stays_within idle most acts Ends None due few waits = tt
+stays_within idle most acts Ends (Some of) due few waits = waits
+stays_within idle most acts (Closes why) None due few waits = tt
+stays_within idle most acts (Closes why) (Some of) due few waits = tt
 
 -- by whether the deed is at this place
 at_place : (idle most : ℕ) (acts : History) (deed : Deed) (other place : ℕ) (here : Bool) → (other == place) ≡ here → IsDue idle acts deed (course acts other) → IsAnsweredWithin most deed
     → WaitsWithin most (course acts place) → WaitsWithin most (course (On other deed ∷ acts) place)
 at_place idle most acts deed other place true is due few waits =
-    rw is (stays_within idle most acts deed (clock acts) (course acts place) (subst (λ (n : ℕ). IsDue idle acts deed (course acts n)) (eqb-true other place is) due) few waits)
+    rw is (stays_within idle most acts deed (course acts place) (subst (λ (n : ℕ). IsDue idle acts deed (course acts n)) (eqb-true other place is) due) few waits)
 at_place idle most acts deed other place false is due few waits = rw is waits
 
 waits_now : (idle most : ℕ) (acts : History) (place : ℕ) → IsSoundHistory idle acts → AreAnsweredWithin most acts → WaitsWithin most (course acts place)
 waits_now idle most [] place sound few = tt
-waits_now idle most (At pause now ∷ acts) place sound few = waits_now idle most acts place sound.1 few
+waits_now idle most (At pause now ∷ acts) place sound few = rested_so now (course acts place) (WaitsWithin most) (λ of waits. waits) (waits_now idle most acts place sound.1 few)
 waits_now idle most (Ordered ∷ acts) place sound few = waits_now idle most acts place sound few
 waits_now idle most (Syncs kept ∷ acts) place sound few = waits_now idle most acts place sound.1 few
 waits_now idle most (GoesOn ∷ acts) place sound few = waits_now idle most acts place sound.1 few

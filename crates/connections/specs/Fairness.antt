@@ -35,7 +35,8 @@ NoneOrdered (On place deed ∷ before) = NoneOrdered before
 abbrev pub IsFull : Course → Type 0
 IsFull of = length of.taken + FULL_OUTPUT < length of.answered
 
--- unless the connection is full, all that was read is heard, and it was asked for more, unless it sends no more
+-- unless the connection is full, all that was read is heard; and it was asked for more, or it sends no more, or its session
+-- heard some of the rest in this round
 abbrev pub IsAttended : History → ℕ → Course → Type 0
 IsAttended acts place of = IsFull of ⊎ (IsHeard of × ((of.is_over ≡ true) ⊎ InRound gives_turn acts place))
 

@@ -9,22 +9,22 @@ use Rattle.connections.specs.declared.places.Places.{Places}
 use Rattle.connections.specs.declared.talk.Talk.{Talk}
 use Rattle.connections.specs.Endings.{AreInside, IsFinished, comers, most_comers, rounds}
 use Rattle.connections.specs.Fairness.{IsAttended, IsFair, IsUsed, IsWhole, NoneOrdered, NoneWaited}
-use Rattle.connections.specs.Histories.{Stage, Ordered, GoesOn, On, Deed, Comes, Opens, Refuses, Reads, IsOver, IsSilent, Hears, Misses, Lacks, Takes, TakesNone, Fails, Ends, Closes, History, Course, IfThere, clock, course, of_connections, stage, stopped, Leads}
+use Rattle.connections.specs.Histories.{Stage, At, Ordered, GoesOn, Syncs, NoneWaits, On, Deed, Comes, Opens, Refuses, Reads, IsOver, IsSilent, Hears, Misses, Lacks, Takes, TakesNone, Fails, Ends, Closes, History, Course, Hearing, IfThere, clock, course, stage, stopped, IsOfSession, Leads}
 use Rattle.connections.specs.Pauses.{IsPause, MayStay}
 use Rattle.connections.specs.Rounds.{gives_turn, was_busy, InRound, IsUnread}
 use Rattle.connections.specs.Telling.{losses}
 use Rattle.connections.specs.Soundness.{Here, IsHearing, IsReason, IsSoundHistory, IsWell}
 
--- what was read and not heard, what was answered and not taken, and when the connection was last active
-pub record KeepsCourse (input output : List ℕ) (active : ℕ) (over : Bool) (of : Course) : Type 0 where
+-- what was read and not heard, what was answered and not taken, and since when the connection is idle
+pub record KeepsCourse (input output : List ℕ) (idle_since : Option ℕ) (over : Bool) (of : Course) : Type 0 where
   pub fine : IsWell of
   pub input_rest : of.read ≡ of.heard ++ input
   pub output_rest : of.answered ≡ of.taken ++ output
-  pub last : of.active ≡ active
+  pub last : of.idle_since ≡ idle_since
   pub end : of.is_over ≡ over
 
 abbrev pub KeepsTalk : Talk → Course → Type 0
-KeepsTalk talk = KeepsCourse talk.input.items talk.output.items talk.active talk.is_over
+KeepsTalk talk = KeepsCourse talk.input.items talk.output.items talk.idle_since talk.is_over
 
 -- the place has this connection, or is free
 abbrev pub Fits : Option Talk → Option Course → Type 0
@@ -97,6 +97,18 @@ pub record StaysInRound (size left left_new wanting wanting_new : ℕ) (before a
 abbrev pub IsKnownBusy : Bool → History → Type 0
 IsKnownBusy is_busy acts = was_busy acts ≡ is_busy
 
+-- a round has begun at this time, and nothing was done in it
+pub record Begins (now : ℕ) (before after : History) : Type 0 where
+  pub hearing : stage after ≡ Hearing
+  pub time : clock after ≡ now
+  pub same_comers : comers after ≡ comers before
+  pub more_rounds : rounds after ≡ rounds before + 1
+  pub same_losses : losses after ≡ losses before
+  pub unread : AreUnread after
+  pub quiet : IsKnownBusy false after
+  pub inside : (size : ℕ) → AreInside size before → AreInside size after
+  pub fair : (idle count size : ℕ) → IsFair idle count size before → IsWhole idle before → ¬ IsFinished count before → IsFair idle count size after
+
 -- the same, and, if nothing was, for how long the next round may wait: at most so long, and as long as each
 -- connection at so many places may stay as it is
 abbrev pub KnowsPause : ℕ → ℕ → ℕ → Bool → ℕ → History → Type 0
@@ -140,6 +152,20 @@ IsOfConnection (Closes why) = ⊥
 abbrev pub Adds : ℕ → History → History → Type 0
 Adds place before after = (after ≡ before) ⊎ ((deed : Deed) × IsOfConnection deed × (after ≡ On place deed ∷ before))
 
+-- only deeds of sessions
+abbrev pub AreOfSessions : History → Type 0
+AreOfSessions [] = ⊤
+AreOfSessions (At pause now ∷ before) = ⊥
+AreOfSessions (Ordered ∷ before) = ⊥
+AreOfSessions (Syncs kept ∷ before) = ⊥
+AreOfSessions (GoesOn ∷ before) = ⊥
+AreOfSessions (NoneWaits ∷ before) = ⊥
+AreOfSessions (On place deed ∷ before) = IsOfSession deed × AreOfSessions before
+
+-- only such deeds more
+abbrev pub AddsOfSessions : History → History → Type 0
+AddsOfSessions before after = (more : History) × AreOfSessions more × (after ≡ more ++ before)
+
 -- the connection goes on, and this is so of it, or there is a reason to close it
 abbrev pub GoesOrCloses : {X : Type 0} → ℕ → History → ℕ → Result X Ending → (X → Course → Type 0) → Type 0
 GoesOrCloses idle acts place (Ok done) Kept = Here (course acts place) (Kept done)
@@ -159,7 +185,7 @@ IsStopDue now stop talk = (since : ℕ) × (stop ≡ Some since) × ((talk.outpu
 
 -- the connection may be idle for so long, and was
 abbrev pub IsIdleDue : ℕ → ℕ → Talk → Type 0
-IsIdleDue now idle talk = (1 ≤ idle) × (talk.active + idle ≤ now)
+IsIdleDue now idle talk = (1 ≤ idle) × (since : ℕ) × (talk.idle_since ≡ Some since) × (since + idle ≤ now)
 
 -- why a connection is closed that goes on well, by what is kept of it, if it is
 abbrev pub IsJudged : ℕ → ℕ → Option ℕ → Talk → Result ℕ Ending → Type 0
@@ -176,9 +202,9 @@ IsJudged now idle stop talk (Err Refused) = ⊥
 abbrev pub MayHearFrom : List ℕ → List ℕ → Type 0
 MayHearFrom input output = (input ≢ []) × (length output ≤ FULL_OUTPUT)
 
--- the history of connections alone
+-- the history is that of these connections, and is sound
 abbrev pub Knows : {C : Type 0} → (C → History → Type 0) → ℕ → C → History → Type 0
-Knows has idle connections acts = has connections (of_connections acts) × IsSoundHistory idle acts
+Knows has idle connections acts = has connections acts × IsSoundHistory idle acts
 
 -- the rounds so far are whole, of so many connections so many more may be taken, and the next round waits so long
 abbrev pub HasWholeRounds : ℕ → ℕ → ℕ → ℕ → ℕ → History → Type 0
@@ -193,27 +219,27 @@ module _ {S : Type 0} (opens : S → ℕ → S → Type 0) (refuses : S → ℕ 
 
   -- what happens to the session of a place while connections are heard, from what is kept of it to what is then kept;
   -- by the test, whether it heard anything
-  abbrev pub Hearkens : {X : Type 0} → (X → Bool) → ℕ → ℕ → S → (Course → Type 0) → Result X Ending → S → (X → Course → Type 0) → Type 0
-  Hearkens hears_some place now old Kept result new Then = (idle : ℕ) (start : S) (acts : History) → Held idle start old acts → IsHearing acts → clock acts ≡ now
+  abbrev pub Hearkens : {X : Type 0} → (X → Bool) → ℕ → S → (Course → Type 0) → Result X Ending → S → (X → Course → Type 0) → Type 0
+  Hearkens hears_some place old Kept result new Then = (idle : ℕ) (start : S) (acts : History) → Held idle start old acts → IsHearing acts
       → Here (course acts place) Kept
-      → (after : History) × Stays place 0 0 0 acts after × (of_connections after ≡ of_connections acts) × Held idle start new after × GoesOrCloses idle after place result Then
+      → (after : History) × Stays place 0 0 0 acts after × AddsOfSessions acts after × Held idle start new after × GoesOrCloses idle after place result Then
       × IfOk result (λ done. hears_some done ≡ true → InRound gives_turn after place × (was_busy after ≡ true))
 
   -- the session hears so many bytes, at least one, of those that wait to be heard
-  abbrev pub HearsFrom : ℕ → ℕ → S → List ℕ → List ℕ → ℕ → Result ℕ Ending → S → List ℕ → ℕ → Type 0
-  HearsFrom place now old input output active result new output_new active_new = IfOk result (λ count. (1 ≤ count) × (count ≤ length input))
-      × ((over : Bool) → Hearkens (λ _. true) place now old (KeepsCourse input output active over) result new (λ count. KeepsCourse (drop count input) output_new active_new over))
+  abbrev pub HearsFrom : ℕ → S → List ℕ → List ℕ → Result ℕ Ending → S → List ℕ → Type 0
+  HearsFrom place old input output result new output_new = IfOk result (λ count. (1 ≤ count) × (count ≤ length input))
+      × ((since : Option ℕ) (over : Bool) → Hearkens (λ _. true) place old (KeepsCourse input output since over) result new (λ count. KeepsCourse (drop count input) output_new since over))
 
   module _ {C : Type 0} (has : C → History → Type 0) where
     -- all that is known of connections and sessions
     abbrev pub Has : ℕ → S → C → S → History → Type 0
-    Has idle start connections sessions acts = has connections (of_connections acts) × Leads opens refuses hears misses ends start acts sessions × IsSoundHistory idle acts
+    Has idle start connections sessions acts = has connections acts × Leads opens refuses hears misses ends start acts sessions × IsSoundHistory idle acts
 
     -- what happens to a connection and its session while connections are heard, whether anything is done, and what is
     -- then kept
-    abbrev pub Attends : ℕ → ℕ → C → S → Talk → Result Bool Ending → C → S → Talk → Type 0
-    Attends place now connections old talk result connections_new new talk_new = (idle : ℕ) (start : S) (acts : History) → Has idle start connections old acts
-        → IsHearing acts → clock acts ≡ now → IsUnread place acts → Here (course acts place) (KeepsTalk talk)
+    abbrev pub Attends : ℕ → C → S → Talk → Result Bool Ending → C → S → Talk → Type 0
+    Attends place connections old talk result connections_new new talk_new = (idle : ℕ) (start : S) (acts : History) → Has idle start connections old acts
+        → IsHearing acts → IsUnread place acts → Here (course acts place) (KeepsTalk talk)
         → (after : History) × Stays place 0 0 0 acts after × Has idle start connections_new new after × Judged idle after place result talk_new
         × IfOk result (λ done. Here (course after place) (IsAttended after place) × (was_busy after ≡ done || was_busy acts))
 

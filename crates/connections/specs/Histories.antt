@@ -60,8 +60,9 @@ pub record Course : Type 0 where
   pub heard : List ℕ
   pub answered : List ℕ
   pub taken : List ℕ
-  -- when its session was last answered, or it took a byte, or else was taken
-  pub active : ℕ
+  -- when the round ended in which something was last read from it or taken by it, or else in which it was taken: since
+  -- then it is idle. None as long as that round is not over.
+  pub idle_since : Option ℕ
   pub is_over : Bool
   pub has_failed : Bool
   -- memory was wanting
@@ -70,50 +71,55 @@ pub record Course : Type 0 where
   pub is_refused : Bool
 
 -- a connection that is just taken
-abbrev pub taken_at : ℕ → Course
-taken_at now = record { is_open = false; has_ended = false; read = []; heard = []; answered = []; taken = []; active = now; is_over = false; has_failed = false; is_wanting = false; is_refused = false }
+abbrev pub just_taken : Course
+just_taken = record { is_open = false; has_ended = false; read = []; heard = []; answered = []; taken = []; idle_since = None; is_over = false; has_failed = false; is_wanting = false; is_refused = false }
 
--- the time of the last answer: now, unless the answer is empty
-abbrev pub if_answered : List ℕ → ℕ → ℕ → ℕ
-if_answered [] now before = before
-if_answered (byte ∷ more) now before = now
+-- a time, or now if there is none yet
+abbrev pub or_now : Option ℕ → ℕ → Option ℕ
+or_now (Some since) now = Some since
+or_now None now = Some now
+
+-- the round is over now: who was not idle in it is idle from now on
+abbrev pub rested : ℕ → Option Course → Option Course
+rested now None = None
+rested now (Some course) = Some (record course { idle_since = or_now course.idle_since now })
 
 -- the course with one deed more
-abbrev pub went_on : Deed → ℕ → Course → Option Course
-went_on Comes now course = Some (taken_at now)
-went_on Opens now course = Some (record course { is_open = true })
-went_on (Refuses Memory) now course = Some (record course { is_wanting = true })
-went_on (Refuses Refused) now course = Some (record course { is_refused = true })
-went_on (Reads bytes) now course = Some (record course { read = course.read ++ bytes })
-went_on IsOver now course = Some (record course { is_over = true })
-went_on IsSilent now course = Some course
-went_on (Hears part reply) now course = Some (record course { heard = course.heard ++ part; answered = course.answered ++ reply; active = if_answered reply now course.active })
-went_on (Misses part Memory) now course = Some (record course { is_wanting = true })
-went_on (Misses part Refused) now course = Some (record course { is_refused = true })
-went_on Lacks now course = Some (record course { is_wanting = true })
-went_on (Takes bytes) now course = Some (record course { taken = course.taken ++ bytes; active = now })
-went_on TakesNone now course = Some course
-went_on Fails now course = Some (record course { has_failed = true })
-went_on Ends now course = Some (record course { is_open = false; has_ended = true })
-went_on (Closes why) now course = None
+abbrev pub went_on : Deed → Course → Option Course
+went_on Comes course = Some just_taken
+went_on Opens course = Some (record course { is_open = true })
+went_on (Refuses Memory) course = Some (record course { is_wanting = true })
+went_on (Refuses Refused) course = Some (record course { is_refused = true })
+went_on (Reads bytes) course = Some (record course { read = course.read ++ bytes; idle_since = None })
+went_on IsOver course = Some (record course { is_over = true })
+went_on IsSilent course = Some course
+went_on (Hears part reply) course = Some (record course { heard = course.heard ++ part; answered = course.answered ++ reply })
+went_on (Misses part Memory) course = Some (record course { is_wanting = true })
+went_on (Misses part Refused) course = Some (record course { is_refused = true })
+went_on Lacks course = Some (record course { is_wanting = true })
+went_on (Takes bytes) course = Some (record course { taken = course.taken ++ bytes; idle_since = None })
+went_on TakesNone course = Some course
+went_on Fails course = Some (record course { has_failed = true })
+went_on Ends course = Some (record course { is_open = false; has_ended = true })
+went_on (Closes why) course = None
 
 -- a deed at a place, which is free or has a connection
-abbrev pub done_at : Deed → ℕ → Option Course → Option Course
-done_at deed now (Some course) = went_on deed now course
-done_at Comes now None = Some (taken_at now)
-done_at Opens now None = None
-done_at (Refuses why) now None = None
-done_at (Reads bytes) now None = None
-done_at IsOver now None = None
-done_at IsSilent now None = None
-done_at (Hears part reply) now None = None
-done_at (Misses part why) now None = None
-done_at Lacks now None = None
-done_at (Takes bytes) now None = None
-done_at TakesNone now None = None
-done_at Fails now None = None
-done_at Ends now None = None
-done_at (Closes why) now None = None
+abbrev pub done_at : Deed → Option Course → Option Course
+done_at deed (Some course) = went_on deed course
+done_at Comes None = Some just_taken
+done_at Opens None = None
+done_at (Refuses why) None = None
+done_at (Reads bytes) None = None
+done_at IsOver None = None
+done_at IsSilent None = None
+done_at (Hears part reply) None = None
+done_at (Misses part why) None = None
+done_at Lacks None = None
+done_at (Takes bytes) None = None
+done_at TakesNone None = None
+done_at Fails None = None
+done_at Ends None = None
+done_at (Closes why) None = None
 
 -- ---- a history
 
@@ -142,10 +148,6 @@ stage (NoneWaits ∷ before) = stage before
 stage (On place deed ∷ before) = stage before
 
 -- when a stop was first known to be ordered
-abbrev pub or_now : Option ℕ → ℕ → Option ℕ
-or_now (Some since) now = Some since
-or_now None now = Some now
-
 abbrev pub stopped : History → Option ℕ
 stopped [] = None
 stopped (At pause now ∷ before) = stopped before
@@ -158,42 +160,36 @@ stopped (On place deed ∷ before) = stopped before
 -- the connection at a place, if one is there
 abbrev pub course : History → ℕ → Option Course
 course [] place = None
-course (At pause now ∷ before) place = course before place
+course (At pause now ∷ before) place = rested now (course before place)
 course (Ordered ∷ before) place = course before place
 course (Syncs kept ∷ before) place = course before place
 course (GoesOn ∷ before) place = course before place
 course (NoneWaits ∷ before) place = course before place
-course (On other deed ∷ before) place = if other == place then done_at deed (clock before) (course before place) else course before place
+course (On other deed ∷ before) place = if other == place then done_at deed (course before place) else course before place
 
 -- if there is a connection, this is so of it
 abbrev pub IfThere : Option Course → (Course → Type 0) → Type 0
 IfThere None P = ⊤
 IfThere (Some of) P = P of
 
--- ---- whose acts these are
+-- ---- what happens to sessions
 
--- what happens to connections, without what happens to sessions
-abbrev pub of_connections : History → History
-of_connections [] = []
-of_connections (At pause now ∷ before) = At pause now ∷ of_connections before
-of_connections (Ordered ∷ before) = Ordered ∷ of_connections before
-of_connections (Syncs kept ∷ before) = Syncs kept ∷ of_connections before
-of_connections (GoesOn ∷ before) = GoesOn ∷ of_connections before
-of_connections (NoneWaits ∷ before) = NoneWaits ∷ of_connections before
-of_connections (On place Comes ∷ before) = On place Comes ∷ of_connections before
-of_connections (On place Opens ∷ before) = of_connections before
-of_connections (On place (Refuses why) ∷ before) = of_connections before
-of_connections (On place (Reads bytes) ∷ before) = On place (Reads bytes) ∷ of_connections before
-of_connections (On place IsOver ∷ before) = On place IsOver ∷ of_connections before
-of_connections (On place IsSilent ∷ before) = On place IsSilent ∷ of_connections before
-of_connections (On place (Hears part reply) ∷ before) = of_connections before
-of_connections (On place (Misses part why) ∷ before) = of_connections before
-of_connections (On place Lacks ∷ before) = of_connections before
-of_connections (On place (Takes bytes) ∷ before) = On place (Takes bytes) ∷ of_connections before
-of_connections (On place TakesNone ∷ before) = On place TakesNone ∷ of_connections before
-of_connections (On place Fails ∷ before) = On place Fails ∷ of_connections before
-of_connections (On place Ends ∷ before) = of_connections before
-of_connections (On place (Closes why) ∷ before) = On place (Closes why) ∷ of_connections before
+-- a deed of a session, or of what is kept for it
+abbrev pub IsOfSession : Deed → Type 0
+IsOfSession Comes = ⊥
+IsOfSession Opens = ⊤
+IsOfSession (Refuses why) = ⊤
+IsOfSession (Reads bytes) = ⊥
+IsOfSession IsOver = ⊥
+IsOfSession IsSilent = ⊥
+IsOfSession (Hears part reply) = ⊤
+IsOfSession (Misses part why) = ⊤
+IsOfSession Lacks = ⊤
+IsOfSession (Takes bytes) = ⊥
+IsOfSession TakesNone = ⊥
+IsOfSession Fails = ⊥
+IsOfSession Ends = ⊤
+IsOfSession (Closes why) = ⊥
 
 -- what happens to sessions leads from these to those
 module _ {S : Type 0} (opens : S → ℕ → S → Type 0) (refuses : S → ℕ → SessionFault → Type 0) (hears : S → ℕ → List ℕ → List ℕ → S → Type 0) (misses : S → ℕ → List ℕ → SessionFault → S → Type 0) (ends : S → ℕ → S → Type 0) where

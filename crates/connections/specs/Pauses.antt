@@ -9,17 +9,18 @@ abbrev pub until_stopped : ℕ → Option ℕ → ℕ → ℕ
 until_stopped now None most = most
 until_stopped now (Some since) most = min most (LAST_MILLISECONDS - (now - since))
 
--- until it was idle, since it was last active, for as long as is allowed
-abbrev pub until_idle : ℕ → ℕ → ℕ → ℕ → ℕ
-until_idle now idle active most = if idle == 0 then most else min most (idle - (now - active))
+-- until it was idle for as long as is allowed
+abbrev pub until_idle : ℕ → ℕ → Option ℕ → ℕ → ℕ
+until_idle now idle None most = most
+until_idle now idle (Some since) most = if idle == 0 then most else min most (idle - (now - since))
 
 -- until the first of both
-abbrev pub until_due : ℕ → ℕ → Option ℕ → ℕ → ℕ → ℕ
-until_due now idle stop active most = until_idle now idle active (until_stopped now stop most)
+abbrev pub until_due : ℕ → ℕ → Option ℕ → Option ℕ → ℕ → ℕ
+until_due now idle stop idle_since most = until_idle now idle idle_since (until_stopped now stop most)
 
 -- a connection may stay as it is for so long: it is not due to be closed sooner
 abbrev pub MayStay : ℕ → History → ℕ → Course → Type 0
-MayStay idle before most of = most ≤ until_due (clock before) idle (stopped before) of.active most
+MayStay idle before most of = most ≤ until_due (clock before) idle (stopped before) of.idle_since most
 
 -- a round may wait for so long: no longer than any round, and each connection may stay as it is
 abbrev pub MayWait : ℕ → History → ℕ → Type 0

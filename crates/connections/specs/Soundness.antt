@@ -4,7 +4,7 @@ use Rattle.connections.specs.declared.ending.Ending.{Ending}
 use Rattle.connections.specs.declared.ending.Ending.TheVariants.{Done, Fault, Idle, Stopped, Unsynced, Memory, Refused}
 use Rattle.textio.specs.declared.some_bytes.TheConstants.{PIECE_SIZE}
 use Rattle.connections.specs.declared.loop_limits.TheConstants.{FULL_OUTPUT, LAST_MILLISECONDS}
-use Rattle.connections.specs.Histories.{At, Ordered, GoesOn, Syncs, NoneWaits, On, Deed, Comes, Opens, Refuses, Reads, IsOver, IsSilent, Hears, Misses, Lacks, Takes, TakesNone, Fails, Ends, Closes, History, Course, Hearing, Telling, clock, course, stage, stopped, taken_at}
+use Rattle.connections.specs.Histories.{At, Ordered, GoesOn, Syncs, NoneWaits, On, Deed, Comes, Opens, Refuses, Reads, IsOver, IsSilent, Hears, Misses, Lacks, Takes, TakesNone, Fails, Ends, Closes, History, Course, Hearing, Telling, clock, course, just_taken, stage, stopped}
 use Rattle.connections.specs.Pauses.{IsPause}
 use Rattle.connections.specs.Rounds.{reads, IsUnread}
 
@@ -31,7 +31,7 @@ AreNext bytes all done = (rest : List ℕ) × (all ≡ done ++ (bytes ++ rest))
 
 -- nothing has come of a connection but that it was taken
 abbrev pub IsNew : Course → Type 0
-IsNew course = course ≡ taken_at course.active
+IsNew course = course ≡ record just_taken { idle_since = course.idle_since }
 
 -- no read or write failed, memory was not wanting, and the session refused nothing
 abbrev pub IsFaultless : Course → Type 0
@@ -57,7 +57,7 @@ MayBeOffered course = IsWell course × (course.answered ≢ course.taken)
 abbrev pub IsReason : ℕ → History → Ending → Course → Type 0
 IsReason idle before Done course = IsFaultless course × (course.is_over ≡ true) × IsHeard course × IsTaken course
 IsReason idle before Fault course = course.has_failed ≡ true
-IsReason idle before Idle course = IsFaultless course × (1 ≤ idle) × (course.active + idle ≤ clock before)
+IsReason idle before Idle course = IsFaultless course × (1 ≤ idle) × (since : ℕ) × (course.idle_since ≡ Some since) × (since + idle ≤ clock before)
 IsReason idle before Stopped course = IsFaultless course × (since : ℕ) × (stopped before ≡ Some since) × (IsTaken course ⊎ (since + LAST_MILLISECONDS ≤ clock before))
 IsReason idle before Unsynced course = IsFaultless course × (stage before ≡ Telling false) × (course.answered ≢ course.taken)
 IsReason idle before Memory course = course.is_wanting ≡ true

@@ -1,7 +1,7 @@
 ghost use Rattle.std.specs.Prelude.{◌≡◌, ◌≤◌, ◌∷◌, ℕ, List, true, false, take, length};
-ghost use Rattle.connections.specs.Histories.{Act, At, Ordered, GoesOn, Syncs, NoneWaits, On, Comes, Reads, IsOver, IsSilent, Takes, TakesNone, Fails, Closes};
+ghost use Rattle.connections.specs.Histories.{Act, At, Deed, Ordered, GoesOn, IsOfSession, Leads, Syncs, NoneWaits, On, Comes, Reads, IsOver, IsSilent, Takes, TakesNone, Fails, Closes};
 
-use crate::Ending;
+use crate::{Ending, Sessions};
 
 /// What a read of a connection gave.
 #[derive(Clone, Copy, Debug, PartialEq, Eq)]
@@ -29,19 +29,22 @@ pub enum Writing {
 
 /// Connections, each in a place of its own, which is free until one is taken there. No call but `wait`
 /// waits for a peer, and none but `sync` for a disk.
+///
+/// `wait`, `is_stopped`, `close` and `sync` are passed the sessions. Their clauses hold of a history that leads to
+/// the sessions as they are then, so what was done to sessions before such a call stands before its act.
 pub trait Connections {
-    // These acts have happened to the connections, the latest first.
+    // These acts have happened, the latest first. Of what happens to sessions it says nothing.
     ghost has: { Self → List Act → Type 0 };
 
     /// Waits until a connection may be taken, read or written, or a stop may have been ordered, but for
     /// at most so many milliseconds. Returns the time, in milliseconds since some start.
-    fn wait(&mut self, most: u64) -> u64
-        ensures { (acts : List Act) → has self.old acts → has self.new (At most result ∷ acts) };
+    fn wait<S: Sessions>(&mut self, sessions: &S, most: u64) -> u64
+        ensures { (start : S) (acts : List Act) → Leads S.opens S.refuses S.hears S.misses S.ends start acts sessions.now → has self.old acts → has self.new (At most result ∷ acts) };
 
     /// Whether a stop has been ordered.
-    fn is_stopped(&mut self) -> bool
-        ensures yes { result ≡ true → (acts : List Act) → has self.old acts → has self.new (Ordered ∷ acts) }
-        ensures no { result ≡ false → (acts : List Act) → has self.old acts → has self.new (GoesOn ∷ acts) };
+    fn is_stopped<S: Sessions>(&mut self, sessions: &S) -> bool
+        ensures yes { result ≡ true → (start : S) (acts : List Act) → Leads S.opens S.refuses S.hears S.misses S.ends start acts sessions.now → has self.old acts → has self.new (Ordered ∷ acts) }
+        ensures no { result ≡ false → (start : S) (acts : List Act) → Leads S.opens S.refuses S.hears S.misses S.ends start acts sessions.now → has self.old acts → has self.new (GoesOn ∷ acts) };
 
     /// Takes the next connection, if one waits and can be taken now, into a free place.
     fn take(&mut self, place: usize) -> bool
@@ -67,10 +70,13 @@ pub trait Connections {
         ensures fault { result ≡ Writing.Fault → (acts : List Act) → has self.old acts → has self.new (On place Fails ∷ acts) };
 
     /// Closes the connection at a place, which is free again.
-    fn close(&mut self, place: usize, why: Ending)
-        ensures { (acts : List Act) → has self.old acts → has self.new (On place (Closes why) ∷ acts) };
+    fn close<S: Sessions>(&mut self, sessions: &S, place: usize, why: Ending)
+        ensures { (start : S) (acts : List Act) → Leads S.opens S.refuses S.hears S.misses S.ends start acts sessions.now → has self.old acts → has self.new (On place (Closes why) ∷ acts) };
 
     /// Puts on its disk what the answers so far tell of, and says whether it is there.
-    fn sync(&mut self) -> bool
-        ensures { (acts : List Act) → has self.old acts → has self.new (Syncs result ∷ acts) };
+    fn sync<S: Sessions>(&mut self, sessions: &S) -> bool
+        ensures { (start : S) (acts : List Act) → Leads S.opens S.refuses S.hears S.misses S.ends start acts sessions.now → has self.old acts → has self.new (Syncs result ∷ acts) };
+
+    // What happens to a session leaves the connections as they are.
+    ghost passes: { (connections : Self) (acts : List Act) (place : ℕ) (deed : Deed) → IsOfSession deed → has connections acts → has connections (On place deed ∷ acts) };
 }

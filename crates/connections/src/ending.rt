@@ -8,7 +8,8 @@ pub enum Ending {
     Done,
     /// A read or a write failed.
     Fault,
-    /// It completed no message and took no byte for as long as is allowed.
+    /// It was idle for as long as is allowed: since the round ended in which something was last read from it or
+    /// taken by it.
     Idle,
     /// A stop was ordered.
     Stopped,

@@ -3,7 +3,8 @@
 pub struct Limits {
     /// How many connections are taken; 0 for no end.
     pub count: u64,
-    /// For how many milliseconds a session may be answered nothing and its connection take no byte; 0 for ever.
+    /// For how many milliseconds a connection may be idle; 0 for ever. It is idle from the end of the round in which
+    /// something was last read from it or taken by it, or else in which it was taken.
     pub idle: u64,
 }
 

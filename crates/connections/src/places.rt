@@ -1,13 +1,13 @@
 //! All places, one after another, in each part of a round.
 
-ghost use Rattle.std.specs.Prelude.{◌≡◌, ◌⊎◌, ◌↔◌, ◌+◌, ◌^◌, ◌<◌, ◌≤◌, ℕ, None, IsTrue, IfOk, get_or, length};
+ghost use Rattle.std.specs.Prelude.{◌≡◌, ◌⊎◌, ◌↔◌, ◌+◌, ◌^◌, ◌<◌, ◌≤◌, ◌∷◌, ℕ, None, IsTrue, IfOk, get_or, length};
 ghost use Rattle.connections.specs.Fairness.{AreAttended, AreServed, AreUsed, NoneWaited};
-ghost use Rattle.connections.specs.Fitting.{AreFree, AreUnread, IsKnownBusy, KnowsPause, Tours, size_of};
-ghost use Rattle.connections.specs.Histories.{Hearing, Telling};
+ghost use Rattle.connections.specs.Fitting.{AreFree, AreUnread, FitAll, IsKnownBusy, KnowsPause, Tours, size_of};
+ghost use Rattle.connections.specs.Histories.{At, History, Hearing, Telling};
 
 use crate::Sessions;
 use crate::connections::Connections;
-use crate::slots::{Round, Work, hear_at, take_at, tell_at};
+use crate::slots::{Round, Work, hear_at, rest_at, take_at, tell_at};
 use crate::talk::Talk;
 use std::alloc::{AllocError, Global};
 use textio::PIECE_SIZE;
@@ -55,6 +55,15 @@ pub(crate) fn are_free(places: &[Option<Talk>]) -> bool
         }
     }
     true
+}
+
+/// A round is over now, so all connections are idle from now on that were not so before.
+pub(crate) fn rest_all(places: &mut [Option<Talk>], now: u64)
+    ensures { (acts : History) (pause : ℕ) → FitAll places.old acts → FitAll places.new (At pause now ∷ acts) }
+{
+    for place in 0..places.len() {
+        rest_at(&mut places[place], now);
+    }
 }
 
 /// Takes connections that wait into the free places, at most so many. Returns how many more may be taken.

@@ -5,14 +5,14 @@
 ghost use Rattle.std.specs.Prelude.{◌≡◌, ◌≢◌, ◌⊎◌, ◌↔◌, ◌+◌, ◌^◌, ◌<◌, ◌≤◌, ℕ, [], None, IsTrue, get_or, length};
 ghost use Rattle.connections.specs.Endings.{AreInside, AreWithin, HasEnded, IsStopped, most_comers};
 ghost use Rattle.connections.specs.Fairness.{AreAttended, AreUsed, IsFair, IsWhole, NoneOrdered, NoneWaited};
-ghost use Rattle.connections.specs.Fitting.{AreFree, AreUnread, Has, IsKnownBusy, Knows, MayOrder, Tours, Turns, size_of};
+ghost use Rattle.connections.specs.Fitting.{AreFree, AreUnread, Begins, FitAll, Has, IsKnownBusy, MayOrder, Tours, Turns, size_of};
 ghost use Rattle.connections.specs.Histories.{History, Hearing, clock, stopped};
-ghost use Rattle.connections.specs.Pauses.{pause_of};
+ghost use Rattle.connections.specs.Pauses.{IsPause, pause_of};
 ghost use Rattle.connections.specs.Telling.{TellsLosses, TellsMemory, TellsTimes};
 
 use crate::connections::Connections;
 use crate::loop_limits::LONGEST_WAIT;
-use crate::places::{Places, are_free, hear_all, take_all, tell_all};
+use crate::places::{Places, are_free, hear_all, rest_all, take_all, tell_all};
 use crate::slots::{Round, Work};
 use crate::talk::Talk;
 use crate::{Limits, Sessions};
@@ -21,15 +21,20 @@ use std::io::Write;
 use textio::{PIECE_SIZE, write_text};
 
 /// When a stop was ordered, if one was by now, where this was known before.
-fn stop_by<C: Connections>(connections: &mut C, now: u64, known: Option<u64>) -> Option<u64>
-    ensures { (idle : ℕ) (acts : History) → Knows C.has idle connections.old acts → clock acts ≡ now → stopped acts ≡ known
-        → (after : History) × MayOrder acts after × Knows C.has idle connections.new after × (stopped after ≡ result)
+fn stop_by<S: Sessions, C: Connections>(
+    sessions: &S,
+    connections: &mut C,
+    now: u64,
+    known: Option<u64>,
+) -> Option<u64>
+    ensures { (idle : ℕ) (start : S) (acts : History) → Has S.opens S.refuses S.hears S.misses S.ends C.has idle start connections.old sessions.now acts → clock acts ≡ now → stopped acts ≡ known
+        → (after : History) × MayOrder acts after × Has S.opens S.refuses S.hears S.misses S.ends C.has idle start connections.new sessions.now after × (stopped after ≡ result)
         × (IsStopped after ⊎ NoneOrdered after) }
 {
     if known.is_some() {
         return known;
     }
-    if connections.is_stopped() {
+    if connections.is_stopped(sessions) {
         return Some(now);
     }
     None
@@ -144,6 +149,30 @@ fn is_finished(state: State, places: &[Option<Talk>]) -> bool
     state.is_closing() && are_free(places)
 }
 
+/// Begins a round: waits, and asks whether a stop was ordered. By then the last round is over.
+fn begin<S: Sessions, C: Connections>(
+    places: &mut [Option<Talk>],
+    sessions: &S,
+    connections: &mut C,
+    last: State,
+) -> Round
+    ensures begins { (start : S) (acts : History) → Has S.opens S.refuses S.hears S.misses S.ends C.has last.round.idle start connections.old sessions.now acts → stopped acts ≡ last.round.stopped → FitAll places.old acts
+        → IsPause last.round.idle acts (pause_of last.work.is_busy last.work.pause)
+        → (after : History) × Has S.opens S.refuses S.hears S.misses S.ends C.has last.round.idle start connections.new sessions.now after × Begins result.now acts after × FitAll places.new after × (stopped after ≡ result.stopped)
+        × (IsStopped after ⊎ NoneOrdered after) }
+    ensures same { result.idle ≡ last.round.idle }
+{
+    let now = connections.wait(sessions, last.pause());
+    rest_all(places, now);
+    let stopped = stop_by(sessions, connections, now, last.round.stopped);
+    Round {
+        now,
+        idle: last.round.idle,
+        stopped,
+        is_synced: false,
+    }
+}
+
 /// One round.
 fn turn<S: Sessions, C: Connections>(
     alloc: Global,
@@ -156,14 +185,7 @@ fn turn<S: Sessions, C: Connections>(
     ensures turns { Turns S.opens S.refuses S.hears S.misses S.ends C.has last.round.idle last.round.stopped last.left (pause_of last.work.is_busy last.work.pause) connections.old sessions.old places.old result.round.stopped result.left (pause_of result.work.is_busy result.work.pause) result.work.wanting connections.new sessions.new places.new }
     ensures same { result.round.idle ≡ last.round.idle }
 {
-    let now = connections.wait(last.pause());
-    let stopped = stop_by(connections, now, last.round.stopped);
-    let mut round = Round {
-        now,
-        idle: last.round.idle,
-        stopped,
-        is_synced: false,
-    };
+    let mut round = begin(places, sessions, connections, last);
     let mut work = Work::new(LONGEST_WAIT);
     let left = take_new(
         alloc,
@@ -175,7 +197,7 @@ fn turn<S: Sessions, C: Connections>(
         &mut work,
     );
     hear_new(alloc, places, sessions, connections, round, room, &mut work);
-    round.is_synced = connections.sync();
+    round.is_synced = connections.sync(sessions);
     tell_all(alloc, places, sessions, connections, round, &mut work);
     State { round, work, left }
 }

@@ -1,10 +1,10 @@
 //! One place: what happens to the connection there, if there is one, in each part of a round.
 
-ghost use Rattle.std.specs.Prelude.{◌≡◌, ◌+◌, ◌-◌, ◌^◌, ◌<◌, ◌≤◌, ℕ, [], true, false, None, Some, IfOk, IfErr};
+ghost use Rattle.std.specs.Prelude.{◌≡◌, ◌+◌, ◌-◌, ◌^◌, ◌<◌, ◌≤◌, ℕ, [], true, false, Option, None, Some, IfOk, IfErr};
 ghost use Rattle.connections.specs.Rounds.{IsUnread, was_busy};
 ghost use Rattle.connections.specs.Fairness.{IsAttended, IsNotDue, IsServed};
-ghost use Rattle.connections.specs.Fitting.{Adds, Has, HasTried, IsKnownBusy, Judged, KeepsTalk, Knows, KnowsPauseAt, ServesPlace, Stays, came_by};
-ghost use Rattle.connections.specs.Histories.{History, Hearing, IfThere, Telling, clock, course, stage, stopped};
+ghost use Rattle.connections.specs.Fitting.{Adds, Has, HasTried, Fits, IsKnownBusy, Judged, KeepsTalk, Knows, KnowsPauseAt, ServesPlace, Stays, came_by};
+ghost use Rattle.connections.specs.Histories.{Course, History, Hearing, IfThere, Telling, clock, course, rested, stage, stopped};
 ghost use Rattle.connections.specs.Pauses.{until_due};
 ghost use Rattle.connections.specs.Soundness.{Here, IsReason};
 ghost use Rattle.connections.specs.Telling.{lost_by};
@@ -77,7 +77,16 @@ fn close<S: Sessions, C: Connections>(
         → (after : History) × Stays place 0 0 (lost_by why) acts after × Has S.opens S.refuses S.hears S.misses S.ends C.has idle start connections.new sessions.new after × (course after place ≡ None) × (was_busy after ≡ true) }
 {
     sessions.end(place);
-    connections.close(place, why);
+    connections.close(sessions, place, why);
+}
+
+/// A round is over now, so the connection at a place is idle from now on, unless it was so before.
+pub(crate) fn rest_at(slot: &mut Option<Talk>, now: u64)
+    ensures { (there : Option Course) → Fits slot.old there → Fits slot.new (rested now there) }
+{
+    if let Some(talk) = slot {
+        talk.rest(now);
+    }
 }
 
 /// Takes the next connection into a free place, if one waits, and says whether one did. If its session
@@ -104,13 +113,13 @@ pub(crate) fn take_at<S: Sessions, C: Connections>(
     work.is_busy = true;
     match sessions.open(place) {
         Ok(()) => {
-            *slot = Some(Talk::new(alloc, round.now));
+            *slot = Some(Talk::new(alloc));
             true
         }
         Err(fault) => {
-            let why = ending_of(fault);
-            work.close(why);
-            connections.close(place, why);
+            let ending = ending_of(fault);
+            work.close(ending);
+            connections.close(sessions, place, ending);
             true
         }
     }
@@ -136,7 +145,7 @@ pub(crate) fn hear_at<S: Sessions, C: Connections>(
     let Some(talk) = slot else {
         return;
     };
-    match talk.attend(alloc, sessions, connections, place, round.now, room) {
+    match talk.attend(alloc, sessions, connections, place, room) {
         Ok(has_done) => work.is_busy = work.is_busy || has_done,
         Err(why) => {
             work.close(why);
@@ -186,7 +195,7 @@ fn tell<C: Connections>(
         × IfOk result (λ _. Here (course after place) (IsServed round.idle after place) × (IsKnownBusy work.old.is_busy acts → IsKnownBusy work.new.is_busy after)) }
     ensures other { IfErr result (λ why. lost_by why ≡ 0) }
     ensures same { work.new.wanting ≡ work.old.wanting }
-    ensures pause { IfOk result (λ _. work.new.pause ≡ until_due round.now round.idle round.stopped talk.new.active work.old.pause) }
+    ensures pause { IfOk result (λ _. work.new.pause ≡ until_due round.now round.idle round.stopped talk.new.idle_since work.old.pause) }
     ensures busy { work.new.is_busy ≡ false → work.old.is_busy ≡ false }
 {
     if talk.tell(alloc, connections, place, round.now, round.is_synced)? {
@@ -201,7 +210,7 @@ fn judge(talk: &Talk, round: Round, most: u64) -> Result<u64, Ending>
     ensures due { (acts : History) (place : ℕ) → clock acts ≡ round.now → stopped acts ≡ round.stopped → (stage acts ≡ Telling false → talk.now.output.items ≡ [])
         → Here (course acts place) (KeepsTalk talk.now)
         → Judged round.idle acts place result talk.now × IfOk result (λ _. Here (course acts place) (IsNotDue round.idle acts)) }
-    ensures left { IfOk result (λ left. left ≡ until_due round.now round.idle round.stopped talk.now.active most) }
+    ensures left { IfOk result (λ left. left ≡ until_due round.now round.idle round.stopped talk.now.idle_since most) }
     ensures other { IfErr result (λ why. lost_by why ≡ 0) }
 {
     talk.patience(round.now, round.idle, round.stopped, most)

@@ -4,7 +4,7 @@
 ghost use Rattle.std.specs.Prelude.{◌≡◌, ◌≢◌, ◌⊎◌, ◌↔◌, ◌<◌, ◌≤◌, ◌||◌, [], ℕ, length, drop, IsTrue, IfOk, IfErr, Some, true, false};
 ghost use Rattle.connections.specs.Rounds.{InRound, offers, was_busy};
 ghost use Rattle.connections.specs.Fitting.{Adds, Attends, Hearkens, HearsFrom, IsDone, IsIdleDue, IsJudged, IsStopDue, Judged, KeepsCourse, KeepsTalk, Knows, MayHearFrom};
-ghost use Rattle.connections.specs.Histories.{History, Telling, clock, course, stage, stopped};
+ghost use Rattle.connections.specs.Histories.{History, Telling, course, or_now, stage};
 ghost use Rattle.connections.specs.Pauses.{until_due, until_idle, until_stopped};
 ghost use Rattle.connections.specs.Soundness.{Here};
 ghost use Rattle.connections.specs.Telling.{lost_by};
@@ -24,23 +24,32 @@ pub(crate) struct Talk {
     input: Vec<u8>,
     /// What was answered and not yet taken.
     output: Vec<u8>,
-    /// When its session was last answered, or it took a byte, or else was taken.
-    active: u64,
+    /// Since when it is idle, unless something was read from it or taken by it in this round, or it came in it.
+    idle_since: Option<u64>,
     /// The peer sends no more.
     is_over: bool,
 }
 
 impl Talk {
     /// A connection that was just taken.
-    pub(crate) fn new(alloc: Global, now: u64) -> Self
+    pub(crate) fn new(alloc: Global) -> Self
         ensures empty { (result.input.items ≡ []) × (result.output.items ≡ []) }
-        ensures now { (result.active ≡ now) × (result.is_over ≡ false) }
+        ensures fresh { (result.idle_since ≡ None) × (result.is_over ≡ false) }
     {
         Talk {
             input: Vec::new(alloc),
             output: Vec::new(alloc),
-            active: now,
+            idle_since: None,
             is_over: false,
+        }
+    }
+
+    /// A round is over now. It is idle from now on, unless it was so before.
+    pub(crate) fn rest(&mut self, now: u64)
+        ensures { self.new ≡ record self.old { idle_since = or_now self.old.idle_since now } }
+    {
+        if self.idle_since.is_none() {
+            self.idle_since = Some(now);
         }
     }
 
@@ -65,27 +74,15 @@ impl Talk {
 
     /// Has the session hear what waits to be heard, as long as its answers have room. Says whether it heard
     /// anything.
-    fn hear_rest<S: Sessions>(
-        &mut self,
-        sessions: &mut S,
-        place: usize,
-        now: u64,
-    ) -> Result<bool, Ending>
-        ensures hears { Hearkens S.opens S.refuses S.hears S.misses S.ends (λ done. done) place now sessions.old (KeepsTalk self.old) result sessions.new (λ _. KeepsTalk self.new) }
+    fn hear_rest<S: Sessions>(&mut self, sessions: &mut S, place: usize) -> Result<bool, Ending>
+        ensures hears { Hearkens S.opens S.refuses S.hears S.misses S.ends (λ done. done) place sessions.old (KeepsTalk self.old) result sessions.new (λ _. KeepsTalk self.new) }
         ensures all { IfOk result (λ _. (self.new.input.items ≡ []) ⊎ (FULL_OUTPUT < length self.new.output.items)) }
         ensures nothing { result ≡ Ok false → (self.new ≡ self.old) × (sessions.new ≡ sessions.old) }
     {
         if self.input.is_empty() || !self.has_room() {
             return Ok(false);
         }
-        let heard = hear_parts(
-            sessions,
-            place,
-            now,
-            &self.input,
-            &mut self.output,
-            &mut self.active,
-        )?;
+        let heard = hear_parts(sessions, place, &self.input, &mut self.output)?;
         drop_front(&mut self.input, heard);
         Ok(true)
     }
@@ -97,22 +94,14 @@ impl Talk {
         alloc: Global,
         sessions: &mut S,
         place: usize,
-        now: u64,
         bytes: &[u8],
     ) -> Result<(), Ending>
         requires none { self.old.input.items ≡ [] }
         requires some { MayHearFrom bytes.now self.old.output.items }
-        ensures hears { Hearkens S.opens S.refuses S.hears S.misses S.ends (λ _. true) place now sessions.old (KeepsCourse bytes.now self.old.output.items self.old.active self.old.is_over) result sessions.new (λ _. KeepsTalk self.new) }
+        ensures hears { Hearkens S.opens S.refuses S.hears S.misses S.ends (λ _. true) place sessions.old (KeepsCourse bytes.now self.old.output.items self.old.idle_since self.old.is_over) result sessions.new (λ _. KeepsTalk self.new) }
         ensures all { IfOk result (λ _. (self.new.input.items ≡ []) ⊎ (FULL_OUTPUT < length self.new.output.items)) }
     {
-        let heard = hear_parts(
-            sessions,
-            place,
-            now,
-            bytes,
-            &mut self.output,
-            &mut self.active,
-        )?;
+        let heard = hear_parts(sessions, place, bytes, &mut self.output)?;
         if heard == bytes.len() {
             return Ok(());
         }
@@ -133,17 +122,17 @@ impl Talk {
         sessions: &mut S,
         connections: &mut C,
         place: usize,
-        now: u64,
         room: &mut [u8; PIECE_SIZE],
     ) -> Result<bool, Ending>
-        ensures { Attends S.opens S.refuses S.hears S.misses S.ends C.has place now connections.old sessions.old self.old result connections.new sessions.new self.new }
+        ensures { Attends S.opens S.refuses S.hears S.misses S.ends C.has place connections.old sessions.old self.old result connections.new sessions.new self.new }
     {
         if !self.may_read() {
-            return self.hear_rest(sessions, place, now);
+            return self.hear_rest(sessions, place);
         }
         match connections.read(place, room) {
             Reading::Bytes(count) => {
-                self.hear_new(alloc, sessions, place, now, &room[..count])?;
+                self.idle_since = None;
+                self.hear_new(alloc, sessions, place, &room[..count])?;
                 Ok(true)
             }
             Reading::End => {
@@ -156,14 +145,9 @@ impl Talk {
     }
 
     /// Writes what the connection takes of the output, and says whether it took any.
-    fn write<C: Connections>(
-        &mut self,
-        connections: &mut C,
-        place: usize,
-        now: u64,
-    ) -> Result<bool, Ending>
+    fn write<C: Connections>(&mut self, connections: &mut C, place: usize) -> Result<bool, Ending>
         requires { self.old.output.items ≢ [] }
-        ensures writes { (idle : ℕ) (acts : History) → Knows C.has idle connections.old acts → stage acts ≡ Telling true → clock acts ≡ now
+        ensures writes { (idle : ℕ) (acts : History) → Knows C.has idle connections.old acts → stage acts ≡ Telling true
             → Here (course acts place) (KeepsTalk self.old)
             → (after : History) × Adds place acts after × Knows C.has idle connections.new after × Judged idle after place result self.new
             × IfOk result (λ done. InRound offers after place × (was_busy after ≡ done || was_busy acts)) }
@@ -172,7 +156,7 @@ impl Talk {
         match connections.write(place, &self.output) {
             Writing::Took(count) => {
                 drop_front(&mut self.output, count);
-                self.active = now;
+                self.idle_since = None;
                 Ok(true)
             }
             Writing::Wait => Ok(false),
@@ -189,7 +173,7 @@ impl Talk {
         now: u64,
         is_synced: bool,
     ) -> Result<bool, Ending>
-        ensures tells { (idle : ℕ) (acts : History) → Knows C.has idle connections.old acts → stage acts ≡ Telling is_synced → clock acts ≡ now
+        ensures tells { (idle : ℕ) (acts : History) → Knows C.has idle connections.old acts → stage acts ≡ Telling is_synced
             → Here (course acts place) (KeepsTalk self.old)
             → (after : History) × Adds place acts after × Knows C.has idle connections.new after × Judged idle after place result self.new
             × IfOk result (λ done. ((self.new.output.items ≡ []) ⊎ InRound offers after place) × (was_busy after ≡ done || was_busy acts)) }
@@ -197,13 +181,14 @@ impl Talk {
         ensures other { IfErr result (λ why. lost_by why ≡ 0) }
     {
         if self.output.is_empty() {
-            give_back(alloc, &mut self.output, now.saturating_sub(self.active));
+            let idle = self.idle_since.map_or(0, |since| now.saturating_sub(since));
+            give_back(alloc, &mut self.output, idle);
             return Ok(false);
         }
         if !is_synced {
             return Err(Ending::Unsynced);
         }
-        self.write(connections, place, now)
+        self.write(connections, place)
     }
 
     /// For how many milliseconds the connection may stay as it is, at most so many. It is closed now if it
@@ -216,7 +201,7 @@ impl Talk {
         most: u64,
     ) -> Result<u64, Ending>
         ensures judged { IsJudged now idle stopped self.now result }
-        ensures left { IfOk result (λ left. left ≡ until_due now idle stopped self.now.active most) }
+        ensures left { IfOk result (λ left. left ≡ until_due now idle stopped self.now.idle_since most) }
         ensures other { IfErr result (λ why. lost_by why ≡ 0) }
     {
         if self.wants_no_more() {
@@ -251,12 +236,15 @@ impl Talk {
     fn patience_of_idle(&self, now: u64, idle: u64, most: u64) -> Result<u64, Ending>
         ensures due { IfErr result (λ why. (why ≡ Ending.Idle) × IsIdleDue now idle self.now) }
         ensures not_due { IfOk result (λ _. ¬ IsIdleDue now idle self.now) }
-        ensures left { IfOk result (λ left. left ≡ until_idle now idle self.now.active most) }
+        ensures left { IfOk result (λ left. left ≡ until_idle now idle self.now.idle_since most) }
     {
         if idle == 0 {
             return Ok(most);
         }
-        let passed = now.saturating_sub(self.active);
+        let Some(since) = self.idle_since else {
+            return Ok(most);
+        };
+        let passed = now.saturating_sub(since);
         if passed >= idle {
             return Err(Ending::Idle);
         }
@@ -268,51 +256,36 @@ impl Talk {
 fn hear_part<S: Sessions>(
     sessions: &mut S,
     place: usize,
-    now: u64,
     bytes: &[u8],
     output: &mut Vec<u8>,
-    active: &mut u64,
 ) -> Result<usize, Ending>
     requires { MayHearFrom bytes.now output.old.items }
-    ensures { HearsFrom S.opens S.refuses S.hears S.misses S.ends place now sessions.old bytes.now output.old.items active.old result sessions.new output.new.items active.new }
+    ensures { HearsFrom S.opens S.refuses S.hears S.misses S.ends place sessions.old bytes.now output.old.items result sessions.new output.new.items }
 {
-    let size = output.len();
-    let count = match sessions.hear(place, bytes, output) {
-        Ok(count) => count,
-        Err(fault) => return Err(ending_of(fault)),
-    };
-    *active = active_after(size, output.len(), now, *active);
-    Ok(count)
+    match sessions.hear(place, bytes, output) {
+        Ok(count) => Ok(count),
+        Err(fault) => Err(ending_of(fault)),
+    }
 }
 
 /// Has a session hear the bytes, part by part, as long as its answers have room. Returns how many it heard.
 fn hear_parts<S: Sessions>(
     sessions: &mut S,
     place: usize,
-    now: u64,
     bytes: &[u8],
     output: &mut Vec<u8>,
-    active: &mut u64,
 ) -> Result<usize, Ending>
     requires { MayHearFrom bytes.now output.old.items }
-    ensures hears { HearsFrom S.opens S.refuses S.hears S.misses S.ends place now sessions.old bytes.now output.old.items active.old result sessions.new output.new.items active.new }
+    ensures hears { HearsFrom S.opens S.refuses S.hears S.misses S.ends place sessions.old bytes.now output.old.items result sessions.new output.new.items }
     ensures all { IfOk result (λ count. (count ≡ length bytes.now) ⊎ (FULL_OUTPUT < length output.new.items)) }
 {
-    let mut heard = hear_part(sessions, place, now, bytes, output, active)?;
+    let mut heard = hear_part(sessions, place, bytes, output)?;
     while heard < bytes.len() && output.len() <= FULL_OUTPUT {
         let rest = bytes.split_at(heard).1;
-        let count = hear_part(sessions, place, now, rest, output, active)?;
+        let count = hear_part(sessions, place, rest, output)?;
         heard += count;
     }
     Ok(heard)
-}
-
-/// When a connection was last active, whose output had and now has so many bytes.
-fn active_after(size: usize, grown: usize, now: u64, active: u64) -> u64
-    ensures longer { size < grown → result ≡ now }
-    ensures same { grown ≤ size → result ≡ active }
-{
-    if grown > size { now } else { active }
 }
 
 /// Drops the first bytes.

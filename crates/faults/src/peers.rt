@@ -2,7 +2,7 @@
 // returns. Once the script is at its end, the loop goes on until it has nothing to do, and then a stop is ordered.
 ghost use Rattle.std.specs.Prelude.{◌≡◌, ◌≤◌, ℕ, length, Ok};
 
-use connections::{Connections, Ending, Reading, Writing};
+use connections::{Connections, Ending, Reading, Sessions, Writing};
 use std::alloc::{AllocError, Global};
 
 /// What happens.
@@ -222,7 +222,9 @@ impl Connections for Peers<'_> {
     // What happens is told by the script, and contracts know nothing of it.
     ghost has = { λ _ _. ⊤ };
 
-    fn wait(&mut self, most: u64) -> u64 {
+    ghost passes = { λ _ _ _ _ _ _. tt };
+
+    fn wait<S: Sessions>(&mut self, _sessions: &S, most: u64) -> u64 {
         self.is_synced = true;
         if self.done >= self.script.len() {
             if most > 0 {
@@ -235,7 +237,7 @@ impl Connections for Peers<'_> {
         self.now
     }
 
-    fn is_stopped(&mut self) -> bool {
+    fn is_stopped<S: Sessions>(&mut self, _sessions: &S) -> bool {
         self.is_stopped
     }
 
@@ -271,7 +273,7 @@ impl Connections for Peers<'_> {
         }
     }
 
-    fn close(&mut self, place: usize, why: Ending) {
+    fn close<S: Sessions>(&mut self, _sessions: &S, place: usize, why: Ending) {
         if let Some(peer) = self.at(place) {
             peer.ending = Some(why);
         }
@@ -280,7 +282,7 @@ impl Connections for Peers<'_> {
         }
     }
 
-    fn sync(&mut self) -> bool {
+    fn sync<S: Sessions>(&mut self, _sessions: &S) -> bool {
         self.is_synced
     }
 }

@@ -21,8 +21,9 @@ use Rattle.hub.proofs.Running.{told_more}
 use Rattle.hub.proofs.Steps.{exchanges_tell}
 use Rattle.hub.proofs.Streaming.{told_all}
 use Rattle.connections.specs.declared.ending.SessionFault.TheVariants as fault
-use Rattle.connections.specs.Histories.{At, Ordered, GoesOn, Syncs, NoneWaits, On, Deed, Comes, Opens, Refuses, Reads, IsOver, IsSilent, Hears, Misses, Lacks, Takes, TakesNone, Fails, Ends, Closes, History, Course, clock, course, done_at}
+use Rattle.connections.specs.Histories.{At, Ordered, GoesOn, Syncs, NoneWaits, On, Deed, Comes, Opens, Refuses, Reads, IsOver, IsSilent, Hears, Misses, Lacks, Takes, TakesNone, Fails, Ends, Closes, History, Course, course, done_at}
 use Rattle.connections.specs.Soundness.{Here, IsNew, IsSoundHistory, MayHear}
+use Rattle.connections.proofs.Steps.{rested_so}
 use Rattle.server.specs.Serving.{spelled}
 use Rattle.server.specs.Sessions.{AreLines, Ended, IsAnsweredBy, Loses, Opened, Proceeds}
 
@@ -116,8 +117,8 @@ module _ {S : Type 0} (answers : S → Frame → List ℕ → S → Type 0) wher
 
   -- a deed at a place: what is so there, and what is so of another
   at_place : (P : ℕ → Option Course → Type 0) (deed : Deed) (acts : History) (other place : ℕ) (here : Bool) → (other == place) ≡ here
-      → P other (done_at deed (clock acts) (course acts other)) → (other ≢ place → P place (course acts place)) → P place (course (On other deed ∷ acts) place)
-  at_place P deed acts other place true is same differs = rw is (subst (λ (n : ℕ). P n (done_at deed (clock acts) (course acts n))) (eqb-true other place is) same)
+      → P other (done_at deed (course acts other)) → (other ≢ place → P place (course acts place)) → P place (course (On other deed ∷ acts) place)
+  at_place P deed acts other place true is same differs = rw is (subst (λ (n : ℕ). P n (done_at deed (course acts n))) (eqb-true other place is) same)
   at_place P deed acts other place false is same differs = rw is (differs (eqb-false other place is))
 
   -- a session that is not concerned, with lines of another one
@@ -152,41 +153,41 @@ module _ {S : Type 0} (answers : S → Frame → List ℕ → S → Type 0) wher
   IsStill Ends = ⊥
   IsStill (Closes why) = ⊤
 
-  begun : (hub : HubState S) (all : List Line) (place now : ℕ) (there : Option Course) → Follows hub all place (done_at Comes now there)
-  begun hub all place now None = ((all, [], [], [], sym (append-nil all), refl, spelled_none, refl, λ fine. refl), λ opened fine. absurd (false≢true opened))
-  begun hub all place now (Some of) = ((all, [], [], [], sym (append-nil all), refl, spelled_none, refl, λ fine. refl), λ opened fine. absurd (false≢true opened))
+  begun : (hub : HubState S) (all : List Line) (place : ℕ) (there : Option Course) → Follows hub all place (done_at Comes there)
+  begun hub all place None = ((all, [], [], [], sym (append-nil all), refl, spelled_none, refl, λ fine. refl), λ opened fine. absurd (false≢true opened))
+  begun hub all place (Some of) = ((all, [], [], [], sym (append-nil all), refl, spelled_none, refl, λ fine. refl), λ opened fine. absurd (false≢true opened))
 
-  still : (hub : HubState S) (all : List Line) (place : ℕ) (deed : Deed) (now : ℕ) (there : Option Course) → IsStill deed → Follows hub all place there → Follows hub all place (done_at deed now there)
-  still hub all place Comes now there is follows = begun hub all place now there
-  still hub all place Opens now there is follows = absurd is
-  still hub all place (Refuses why) now None is follows = tt
-  still hub all place (Refuses fault.Memory) now (Some of) is follows = (wanting all place of follows.0, λ opened fine. absurd (false≢true (sym fine)))
-  still hub all place (Refuses fault.Refused) now (Some of) is follows = follows
-  still hub all place (Reads bytes) now None is follows = tt
-  still hub all place (Reads bytes) now (Some of) is follows = follows
-  still hub all place IsOver now None is follows = tt
-  still hub all place IsOver now (Some of) is follows = follows
-  still hub all place IsSilent now None is follows = tt
-  still hub all place IsSilent now (Some of) is follows = follows
-  still hub all place (Hears part reply) now there is follows = absurd is
-  still hub all place (Misses part fault.Memory) now there is follows = absurd is
-  still hub all place (Misses part fault.Refused) now None is follows = tt
-  still hub all place (Misses part fault.Refused) now (Some of) is follows = follows
-  still hub all place Lacks now None is follows = tt
-  still hub all place Lacks now (Some of) is follows = (wanting all place of follows.0, λ opened fine. absurd (false≢true (sym fine)))
-  still hub all place (Takes bytes) now None is follows = tt
-  still hub all place (Takes bytes) now (Some of) is follows = follows
-  still hub all place TakesNone now None is follows = tt
-  still hub all place TakesNone now (Some of) is follows = follows
-  still hub all place Fails now None is follows = tt
-  still hub all place Fails now (Some of) is follows = follows
-  still hub all place Ends now there is follows = absurd is
-  still hub all place (Closes why) now None is follows = tt
-  still hub all place (Closes why) now (Some of) is follows = tt
+  still : (hub : HubState S) (all : List Line) (place : ℕ) (deed : Deed) (there : Option Course) → IsStill deed → Follows hub all place there → Follows hub all place (done_at deed there)
+  still hub all place Comes there is follows = begun hub all place there
+  still hub all place Opens there is follows = absurd is
+  still hub all place (Refuses why) None is follows = tt
+  still hub all place (Refuses fault.Memory) (Some of) is follows = (wanting all place of follows.0, λ opened fine. absurd (false≢true (sym fine)))
+  still hub all place (Refuses fault.Refused) (Some of) is follows = follows
+  still hub all place (Reads bytes) None is follows = tt
+  still hub all place (Reads bytes) (Some of) is follows = follows
+  still hub all place IsOver None is follows = tt
+  still hub all place IsOver (Some of) is follows = follows
+  still hub all place IsSilent None is follows = tt
+  still hub all place IsSilent (Some of) is follows = follows
+  still hub all place (Hears part reply) there is follows = absurd is
+  still hub all place (Misses part fault.Memory) there is follows = absurd is
+  still hub all place (Misses part fault.Refused) None is follows = tt
+  still hub all place (Misses part fault.Refused) (Some of) is follows = follows
+  still hub all place Lacks None is follows = tt
+  still hub all place Lacks (Some of) is follows = (wanting all place of follows.0, λ opened fine. absurd (false≢true (sym fine)))
+  still hub all place (Takes bytes) None is follows = tt
+  still hub all place (Takes bytes) (Some of) is follows = follows
+  still hub all place TakesNone None is follows = tt
+  still hub all place TakesNone (Some of) is follows = follows
+  still hub all place Fails None is follows = tt
+  still hub all place Fails (Some of) is follows = follows
+  still hub all place Ends there is follows = absurd is
+  still hub all place (Closes why) None is follows = tt
+  still hub all place (Closes why) (Some of) is follows = tt
 
   still_at : (hub : HubState S) (all : List Line) (deed : Deed) (acts : History) (other : ℕ) → IsStill deed → AllFollow hub all acts → AllFollow hub all (On other deed ∷ acts)
   still_at hub all deed acts other is follows = λ place.
-      at_place (Follows hub all) deed acts other place (other == place) refl (still hub all other deed (clock acts) (course acts other) is (follows other)) (λ differ. follows place)
+      at_place (Follows hub all) deed acts other place (other == place) refl (still hub all other deed (course acts other) is (follows other)) (λ differ. follows place)
 
   -- ---- one event
 
@@ -199,7 +200,7 @@ module _ {S : Type 0} (answers : S → Frame → List ℕ → S → Type 0) wher
       sessions : (place : ℕ) → at_session after.sessions place ≡ at_session (insert_entry nat_cmp before.sessions other (Rest [])) place
       sessions place = ap (λ (hub : HubState S). at_session hub.sessions place) does
 
-      here : (there : Option Course) → Here there IsNew → Follows before all other there → Follows after all other (done_at Opens (clock acts) there)
+      here : (there : Option Course) → Here there IsNew → Follows before all other there → Follows after all other (done_at Opens there)
       here None new follows = tt
       here (Some of) new follows = (
         follows.0,
@@ -224,7 +225,7 @@ module _ {S : Type 0} (answers : S → Frame → List ℕ → S → Type 0) wher
       (λ differ. elsewhere before after all other place xs (course acts place) differ (answered_other before after other place part true xs differ answered) (follows place))
     where
       here : Answered answers before other part true xs after → (there : Option Course) → Here there (λ of. MayHear of part × Time) → Follows before all other there
-          → Follows after (all ++ lines other xs) other (done_at (Hears part reply) (clock acts) there)
+          → Follows after (all ++ lines other xs) other (done_at (Hears part reply) there)
       here answered None may follows = tt
       here (now, left, there, set, exchanged, spent_left) (Some of) ((well, room, some, next), time) (answered, holds) =
           let (held, held_there, spent, tells) = holds well.0 well.1.1 in
@@ -261,7 +262,7 @@ module _ {S : Type 0} (answers : S → Frame → List ℕ → S → Type 0) wher
       (λ differ. elsewhere before after all other place xs (course acts place) differ (others place loses differ) (follows place))
     where
       here : (there : Option Course) → Here there (λ of. MayHear of part × Time) → Follows before all other there
-          → Follows after (all ++ lines other xs) other (done_at (Misses part fault.Memory) (clock acts) there)
+          → Follows after (all ++ lines other xs) other (done_at (Misses part fault.Memory) there)
       here None may follows = tt
       here (Some of) ((well, room, some, next), time) (answered, holds) =
           let (past, own, ys, split, lines_are, spells, told_are) = own_lines all other xs of answered well.1.1 in
@@ -275,7 +276,7 @@ module _ {S : Type 0} (answers : S → Frame → List ℕ → S → Type 0) wher
   ended_at before after all acts other ended follows = λ place.
       at_place (Follows after all) Ends acts other place (other == place) refl (here (course acts other) (follows other)) (λ differ. aside before after all other place (course acts place) differ (others place ended differ) (follows place))
     where
-      here : (there : Option Course) → Follows before all other there → Follows after all other (done_at Ends (clock acts) there)
+      here : (there : Option Course) → Follows before all other there → Follows after all other (done_at Ends there)
       here None follows = tt
       here (Some of) follows = (follows.0, λ opened fine. absurd (false≢true opened))
 
@@ -292,7 +293,7 @@ module _ {S : Type 0} (answers : S → Frame → List ℕ → S → Type 0) wher
 
   pub all_follow : (start : HubState S) (idle : ℕ) (acts : History) (after : HubState S) (all : List Line) → AreLines answers start acts after all → IsSoundHistory idle acts → AllFollow after all acts
   all_follow start idle [] after all are sound = λ place. tt
-  all_follow start idle (At pause now ∷ acts) after all are sound = all_follow start idle acts after all are sound.1
+  all_follow start idle (At pause now ∷ acts) after all are sound = λ place. rested_so now (course acts place) (Follows after all place) (λ of follows. follows) (all_follow start idle acts after all are sound.1 place)
   all_follow start idle (Ordered ∷ acts) after all are sound = all_follow start idle acts after all are sound
   all_follow start idle (Syncs kept ∷ acts) after all are sound = all_follow start idle acts after all are sound.1
   all_follow start idle (GoesOn ∷ acts) after all are sound = all_follow start idle acts after all are sound.1

@@ -6,7 +6,7 @@
 ghost use Rattle.std.specs.Prelude.{◌≡◌, ◌≢◌, ◌↔◌, ◌⊎◌, List, [], Err, IfErr, IsErr, None, false};
 ghost use Rattle.book.specs.Salts.{chacha_salts};
 ghost use Rattle.connections.specs.Fitting.{size_of, AreFree};
-ghost use Rattle.connections.specs.Histories.{History, of_connections};
+ghost use Rattle.connections.specs.Histories.{History};
 ghost use Rattle.connections.specs.Laws.{AlwaysWaitWithin};
 ghost use Rattle.connections.specs.Telling.{TellsLosses, TellsMemory};
 ghost use Rattle.hub.specs.Desks.{DeskAnswers};
@@ -76,7 +76,7 @@ where
     E: Write,
     requires { AreFree places }
     ensures tells { TellsMemory (E.contents errors.old) (E.contents errors.new) }
-    ensures shown { C.has connections.old [] → (acts : History) × C.has connections.new (of_connections acts)
+    ensures shown { C.has connections.old [] → (acts : History) × C.has connections.new acts
         × KeepsLimits limits.idle limits.count (size_of places) acts × AlwaysWaitWithin MAX_ANSWER_LEN acts
         × ((lines : List Line) × AreLines (DeskAnswers sha256 keyed_value keyed_signature chacha_salts K.kept K.failed) sessions.old.hub acts sessions.new.hub lines × ShownBy K.kept K.failed sessions.old.hub.service lines sessions.new.hub.service)
         × TellsLosses acts (E.contents errors.old) (E.contents errors.new) }

@@ -8,7 +8,7 @@ ghost use Rattle.std.specs.Io.{ReadsAtMost};
 
 use crate::disk::Disk;
 use crate::stopping::StopInput;
-use connections::{Connections, Ending, Reading, Writing};
+use connections::{Connections, Ending, Reading, Sessions, Writing};
 use mio::event::Event;
 use mio::net::{TcpListener, TcpStream};
 use mio::{Events, Interest, Poll, Token};
@@ -265,7 +265,9 @@ impl<N: Net + Clock, R: BufRead> Connections for Sockets<'_, N, R> {
     // Contracts do not know what happens to a socket.
     ghost has = { λ _ _. ⊤ };
 
-    fn wait(&mut self, most: u64) -> u64 {
+    ghost passes = { λ _ _ _ _ _ _. tt };
+
+    fn wait<S: Sessions>(&mut self, _sessions: &S, most: u64) -> u64 {
         let most = if self.stop.waits() { most } else { 0 };
         let timeout = Duration::from_millis(most);
         if self.poll.poll(&mut self.events, Some(timeout)).is_ok() {
@@ -274,7 +276,7 @@ impl<N: Net + Clock, R: BufRead> Connections for Sockets<'_, N, R> {
         millis_since(self.clock, self.start).unwrap_or(0)
     }
 
-    fn is_stopped(&mut self) -> bool {
+    fn is_stopped<S: Sessions>(&mut self, _sessions: &S) -> bool {
         self.stop.has_ended(self.poll.registry())
     }
 
@@ -317,7 +319,7 @@ impl<N: Net + Clock, R: BufRead> Connections for Sockets<'_, N, R> {
         }
     }
 
-    fn close(&mut self, place: usize, why: Ending) {
+    fn close<S: Sessions>(&mut self, _sessions: &S, place: usize, why: Ending) {
         let Some(slot) = self.places.get_mut(place) else {
             return;
         };
@@ -335,7 +337,7 @@ impl<N: Net + Clock, R: BufRead> Connections for Sockets<'_, N, R> {
         *slot = None;
     }
 
-    fn sync(&mut self) -> bool {
+    fn sync<S: Sessions>(&mut self, _sessions: &S) -> bool {
         match self.disk {
             Some(disk) => disk.sync().is_ok(),
             None => true,

@@ -7,7 +7,7 @@ use Rattle.connections.proofs.slots.tell.Goals as goal
 
 pub returns-clause-happens : goal.returns-clause-happens
 returns-clause-happens g c = λ acts known at time order here.
-    let a = c.in_ok-tell.ensures.tells c.args.round.idle acts known at time here in
+    let a = c.in_ok-tell.ensures.tells c.args.round.idle acts known at here in
     let stays = stays_adds c.args.place 0 acts a.0 a.1 in
     let not_due = c.in_ok-work.ensures.due a.0 c.args.place (stays.same_clock ∙ time) (stays.same_stop ∙ order)
     (λ unsynced. c.in_ok-tell.ensures.unsynced (synced_by c.args.round.is_synced false (sym at ∙ sym stays.same_stage ∙ unsynced))) a.3 in
@@ -15,7 +15,7 @@ returns-clause-happens g c = λ acts known at time order here.
 
 pub returns-in_err-work-clause-happens : goal.returns-in_err-work-clause-happens
 returns-in_err-work-clause-happens g c = λ acts known at time order here.
-    let a = c.in_ok-tell.ensures.tells c.args.round.idle acts known at time here in
+    let a = c.in_ok-tell.ensures.tells c.args.round.idle acts known at here in
     let stays = stays_adds c.args.place 0 acts a.0 a.1 in
     let due = c.in_err-work.ensures.due a.0 c.args.place (stays.same_clock ∙ time) (stays.same_stop ∙ order)
     (λ unsynced. c.in_ok-tell.ensures.unsynced (synced_by c.args.round.is_synced false (sym at ∙ sym stays.same_stage ∙ unsynced))) a.3 in

@@ -1,13 +1,13 @@
 use Rattle.std.proofs.Common.{◌≡◌, ◌≤◌, ◌∷◌, ◌++◌, List, ℕ, length, take, drop, arith, refl, sym, inl}
 use Rattle.std.proofs.lemmas.Grind.{common_steps}
-use Rattle.connections.specs.Histories.{Hears, On, Misses, clock, if_answered}
-use Rattle.connections.proofs.Steps.{active_is, next_hear, next_miss, stays_one}
+use Rattle.connections.specs.Histories.{Hears, On, Misses}
+use Rattle.connections.proofs.Steps.{adds_none, adds_one, next_hear, next_miss, stays_one}
 use Rattle.connections.proofs.talk.hear_part.Goals as goal
 
 pub returns-in-Err : goal.returns-in-Err
 returns-in-Err g c = (
   tt,
-  λ over idle start acts held hearing now here.
+  λ since over idle start acts held hearing here.
       let err = c.in-Err.ensures.err in
       let input : List ℕ = c.args.bytes.now in
       let part : List ℕ = take err.0 input in
@@ -16,20 +16,20 @@ returns-in-Err g c = (
       let most : err.0 ≤ length input = err.2 in
       let some : 1 ≤ length part = grind (arith, common_steps) in
       let split : input ≡ part ++ rest = grind (arith, common_steps) in
-      let next = next_miss idle acts c.args.place part rest input c.args.output.now.items c.args.active.now over c.in-Err.fault hearing some split c.requires.1 here in (
+      let next = next_miss idle acts c.args.place part rest input c.args.output.now.items since over c.in-Err.fault hearing some split c.requires.1 here in (
         On c.args.place (Misses part c.in-Err.fault) ∷ acts,
         stays_one c.args.place (Misses part c.in-Err.fault) acts,
-        refl,
+        adds_one c.args.place (Misses part c.in-Err.fault) acts acts tt (adds_none acts),
         ((c.args.sessions.now, held.0, err.3), (next.0, held.1)),
         rw c.ending_of.ensures next.1,
         tt,
       ),
 )
 
-pub returns : goal.returns
-returns g c = (
+pub returns-in-Ok : goal.returns-in-Ok
+returns-in-Ok g c = (
   (c.in-Ok.ensures.ok.0, c.in-Ok.ensures.ok.1),
-  λ over idle start acts held hearing now here.
+  λ since over idle start acts held hearing here.
       let ok = c.in-Ok.ensures.ok in
       let input : List ℕ = c.args.bytes.now in
       let part : List ℕ = take c.in-Ok.count input in
@@ -38,15 +38,12 @@ returns g c = (
       let least : 1 ≤ c.in-Ok.count = ok.0 in
       let some : 1 ≤ length part = grind (arith, common_steps) in
       let split : input ≡ part ++ rest = grind (arith, common_steps) in
-      let active : if_answered ok.2 (clock acts) c.args.active.now ≡ c.active_after.result =
-      rw now (active_is ok.2 c.args.output.now.items c.hear.new.output.items c.args.now c.args.active.now c.active_after.result ok.4
-      (λ more. c.active_after.ensures.longer (grind (arith, common_steps))) (λ more. c.active_after.ensures.same (grind (arith, common_steps)))) in
-      let next = next_hear idle acts c.args.place part rest ok.2 input c.args.output.now.items c.args.active.now over hearing some split c.requires.1 here in (
+      let next = next_hear idle acts c.args.place part rest ok.2 input c.args.output.now.items since over hearing some split c.requires.1 here in (
         On c.args.place (Hears part ok.2) ∷ acts,
         stays_one c.args.place (Hears part ok.2) acts,
-        refl,
+        adds_one c.args.place (Hears part ok.2) acts acts tt (adds_none acts),
         ((c.args.sessions.now, held.0, ok.3), (next.0, held.1)),
-        rw (sym {A = List ℕ} ok.4, active) at next.1,
+        rw (sym {A = List ℕ} ok.4) at next.1,
         λ so. (inl (refl, refl), refl),
       ),
 )
