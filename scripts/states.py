@@ -30,7 +30,7 @@ sys.dont_write_bytecode = True
 from asks import *
 from journaled import Log
 
-ROOT = pathlib.Path(__file__).resolve().parent.parent
+REPOSITORY = pathlib.Path(__file__).resolve().parent.parent
 # Kills on one state before another one is begun.
 KILLS_OF_A_STATE = 10
 # A moment within what follows a reply.
@@ -104,7 +104,7 @@ def lost(state, before, printed, text, stages):
 def built(name, folder):
     """A library of this folder."""
     order = '. scripts/library.sh && library "$1" "$2"'
-    subprocess.run(["bash", "-c", order, "bash", f"scripts/{name}.c", f"{folder}/{name}.so"], cwd=ROOT, check=True)
+    subprocess.run(["bash", "-c", order, "bash", f"scripts/{name}.c", f"{folder}/{name}.so"], cwd=REPOSITORY, check=True)
     return f"{folder}/{name}.so"
 
 
