@@ -57,7 +57,7 @@ for mask in 000 022 077; do
     (umask $mask && exec "$program" serve $keys --journal "$folder/of $mask" <"$folder/head" >/dev/null 2>&1)
     same "the mode of a journal under the mask $mask" 600 "$(stat -c %a "$folder/of $mask")"
 done
-for mode in 400 640 666; do
+for mode in 604 640 666; do
     chmod $mode "$folder/of 022"
     printf 'C\0\0' >>"$folder/of 022"
     ends "a journal of the mode $mode" 0 "$head" "journal: 1 records taken, 3 bytes cut off" "$folder/head" \
