@@ -2,8 +2,8 @@
 """Times the built programs and prints the tables of the scripts beside it. docs/SPEED.md says what
 the columns mean.
 
-usage: bench/bench.py root|tree|changes|replies|reconcile|epochs|journal|hub|serve|audit|client|play, at the top
-of the repository
+usage: bench/bench.py root|tree|changes|replies|reconcile|epochs|journal|hub|serve|audit|client|play|ask, at the
+top of the repository
 
 BEFORE, if it is set, is the top of another clone, in which directoryd and measure are built. `root` and
 `hub` then time the programs of both, in turn.
@@ -27,6 +27,7 @@ import time
 DIRECTORYD = "crates/directoryd/out/directoryd"
 MEASURE = "crates/measure/out/measure"
 LOAD = "bench/out/load"
+FREE_SYNCS = "bench/out/fail_disk.so"
 BEFORE = os.environ.get("BEFORE", "")
 # What `rt run` builds by, unless crates.txt says otherwise.
 BUILD = "x86-64-v2, by LLVM at -O3"
@@ -57,6 +58,8 @@ CHAIN_ROUNDS, CHAIN_RUNS = {10_000: 200, 100_000: 20}, 10
 # which they look all up, how often they are reconciled in a run. And the runs.
 CLIENT_NAMES, CLIENT_SHARED = 100, {"all": 100, "one in ten": 10, "none": 0}
 CLIENT_ROUNDS, CLIENT_RUNS = {10: 500, 100: 50, 1_000: 5}, 3
+# The registrations of a run of `ask`, and how often it is measured.
+ASKED, ASKED_RUNS = (100, 1_000, 4_000), 5
 # The script of `play`: its names, of which so many are watched; its closings; its look-ups; and the runs.
 PLAY_NAMES, PLAY_WATCHED, PLAY_CLOSINGS, PLAY_LOOK_UPS, PLAY_RUNS = 10_000, 10, 100, 10_000, 15
 # The lengths of other texts that are digested: an empty node, a body, a body that is signed, and a value.
@@ -1397,12 +1400,54 @@ def play(folder):
     table("directoryd play, seconds", head, [row])
 
 
+def asked(port, first, count, state=None, **more):
+    """The seconds of a run of `ask` for each of so many registrations, with a state in this file, if one is given."""
+    script = "".join(f"register {number:08x} 6b31\n" for number in range(first, first + count)).encode()
+    words = [DIRECTORYD, "ask", "--provider", SERVE_KEYS["sign-key"] * 32, *(["--state", state] if state else []), f"127.0.0.1:{port}"]
+    begun = time.perf_counter()
+    run = subprocess.run(words, input=script, capture_output=True, env={**os.environ, **more})
+    taken = time.perf_counter() - begun
+    if run.returncode != 0 or run.stdout != b"promise 1\n" * count:
+        sys.exit(f"directoryd ask: status {run.returncode}, {run.stderr}")
+    return taken / count
+
+
+def ask_row(port, folder, first, count):
+    ways = {"none": [], "free": [], "synced": []}
+    for turn in range(ASKED_RUNS):
+        for way, times in ways.items():
+            state = None if way == "none" else f"{folder}/{way} {count} {turn}"
+            free = {"LD_PRELOAD": os.path.abspath(FREE_SYNCS), "FREE_SYNCS": "1"} if way == "free" else {}
+            times.append(asked(port, first, count, state, **free))
+            first += count
+    none, free, synced = (Spread(times) for times in ways.values())
+    row = [f"{count:,}", *none.cells(1e6, 1), *free.cells(1e6, 1), f"{free.least / none.least:.2f}"]
+    return [*row, *synced.cells(1e6, 1)], first
+
+
+def ask(_folder):
+    words = [word for key, value in SERVE_KEYS.items() for word in (f"--{key}", value * 32)]
+    server = subprocess.Popen([DIRECTORYD, "listen", *words, "127.0.0.1:0"], stderr=subprocess.PIPE)
+    port = server.stderr.readline().rpartition(b":")[2].decode().strip()
+    rows, first = [], 0
+    try:
+        with tempfile.TemporaryDirectory(dir=".") as disk:
+            for count in ASKED:
+                row, first = ask_row(port, disk, first, count)
+                rows.append(row)
+    finally:
+        server.kill()
+    spread = ["median", "greatest"]
+    head = ["lines", "no state", *spread, "state, syncs free", *spread, "ratio", "state", *spread]
+    table("registrations in a run of directoryd ask, microseconds by the clock for each", head, rows)
+
+
 def main(which):
     with tempfile.TemporaryDirectory() as folder:
         print_machine()
         of = {"root": root, "tree": tree, "changes": changes, "replies": replies}
         of |= {"reconcile": reconcile, "epochs": epochs, "journal": journal, "hub": hub, "serve": serve}
-        of |= {"audit": audit, "client": client, "play": play}
+        of |= {"audit": audit, "client": client, "play": play, "ask": ask}
         of[which](folder)
     print(f"\nload at the end {os.getloadavg()[0]:.2f}")
 

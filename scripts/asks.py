@@ -11,6 +11,9 @@ status is 0 where none failed.
 """
 
 import argparse
+import contextlib
+import copy
+import itertools
 import os
 import pathlib
 import random
@@ -302,11 +305,17 @@ class Asked:
         return [root.write().hex() for root in self.client.chain.roots], kept
 
     def run(self, script):
-        """Asks the lines of a script. Returns whether it is one to its end."""
+        """Asks the lines of a script."""
+        for _ in self.stages(script):
+            pass
+
+    def stages(self, script):
+        """The same, with a stop after the beginning and after each line."""
         try:
             self.begin()
             self.follow()
             self.test_promises()
+            yield
             for place, line in enumerate(lines_of(script), 1):
                 try:
                     self.line(line)
@@ -314,6 +323,7 @@ class Asked:
                     self.words.append(f"line {place}: not a command")
                     self.status = max(self.status, 1)
                     return
+                yield
         except NoReply:
             self.words.append("no reply")
             self.status = max(self.status, 1)
@@ -331,7 +341,21 @@ class Provider:
     def __init__(self, lie=None):
         self.hub = Hub(keyed_directory(1, ZERO32, SIGNING_KEY, VUF_KEY, SALT_KEY), TOKEN)
         self.hub.open(0)
-        self.lie, self.count, self.is_cut, self.rest = lie, 0, False, b""
+        self.lie = lie
+        self.begin()
+
+    def begin(self):
+        """Begins a connection."""
+        self.count, self.is_cut, self.rest = 0, False, b""
+        self.hub.feeds[0] = Feed()
+
+    def copied(self):
+        """Another one that answers alike."""
+        directory = self.hub.directory
+        drawn, directory.salts = directory.salts, None
+        other = copy.deepcopy(self)
+        directory.salts, other.hub.directory.salts = itertools.tee(drawn)
+        return other
 
     def answer(self, request):
         """The bytes that are sent for the frame of a request. The connection may then be cut."""
@@ -462,42 +486,78 @@ LIES = nothing, altered, altered, altered, cut, bad_length, replayed, forked, fo
 # Runs ---------------------------------------------------------------------------------------------------------
 
 
-def ran(program, provider, script, folder, words=()):
-    """What the program does at a provider: output, words, status and files."""
+@contextlib.contextmanager
+def answering(provider):
+    """The address of a provider that answers one connection. Its client may be killed, or never come."""
+
+    def serve():
+        with contextlib.suppress(ConnectionError):
+            provider.serve(listener.accept()[0])
+
     with socket.create_server(("127.0.0.1", 0)) as listener:
-        thread = threading.Thread(target=lambda: provider.serve(listener.accept()[0]), daemon=True)
+        thread = threading.Thread(target=serve, daemon=True)
         thread.start()
-        address = "127.0.0.1:%d" % listener.getsockname()[1]
-        order = [program, "ask", "--provider", PROVIDER.hex(), "--state", f"{folder}/state", address, *words]
-        run = subprocess.run(order, input=script, capture_output=True, timeout=SECONDS + 30)
+        yield "127.0.0.1:%d" % listener.getsockname()[1]
+        # It waits still if no client came.
+        socket.create_connection(listener.getsockname()).close()
         thread.join(SECONDS)
+
+
+def asking(program, state, address, *words):
+    """The words of a run over a state."""
+    return [program, "ask", "--provider", PROVIDER.hex(), "--state", state, address, *words]
+
+
+def ran(program, provider, script, state, words=(), **how):
+    """What the program does at a provider: output, words and status."""
+    with answering(provider) as address:
+        run = subprocess.run(asking(program, state, address, *words), input=script, capture_output=True, timeout=SECONDS + 30, **how)
     return run.stdout.decode().splitlines(), run.stderr.decode().splitlines(), run.returncode
 
 
-def lines_in(path):
-    return path.read_text().splitlines() if path.exists() else []
+def paths(state):
+    return pathlib.Path(state), pathlib.Path(f"{state}.kept")
+
+
+def files_of(state):
+    """The lines of the two files of a state, but for last ones that were cut short."""
+    return [path.read_text().split("\n")[:-1] if path.exists() else [] for path in paths(state)]
+
+
+def cut_off(state):
+    """What is said of last lines that were cut short."""
+    sizes = [(path, len(path.read_bytes().rpartition(b"\n")[2])) for path in paths(state) if path.exists()]
+    return [f"state: {path}: {size} bytes cut off" for path, size in sizes if size]
 
 
 def difference(name, program, make_lie, runs):
     """What is otherwise than in the model in these runs over one state, or None."""
     with tempfile.TemporaryDirectory() as folder:
         provider, other = Provider(make_lie()), Provider(make_lie())
-        roots, kept = [], []
+        state = f"{folder}/state"
         for number, (script, words) in enumerate(runs):
             for each in provider, other:
-                each.count, each.is_cut, each.rest = 0, False, b""
-                each.hub.feeds[0] = Feed()
-            model = Asked(other, [bytes.fromhex(root) for root in roots], kept)
-            model.run(script)
-            got = ran(program, provider, b"" if words else script, folder, words)
-            wanted = model.text, model.words, model.status
-            for what, a, b in zip(("output", "words", "status"), wanted, got):
-                if a != b:
-                    return f"{name}, run {number}: {what}: wanted {a!r}, got {b!r}"
-            roots, kept = model.state()
-            files = lines_in(pathlib.Path(folder, "state")), lines_in(pathlib.Path(folder, "state.kept"))
-            if model.client is not None and (roots, kept) != files:
-                return f"{name}, run {number}: state: wanted {kept}, {len(roots)} roots, got {files[1]}, {len(files[0])} roots"
+                each.begin()
+            wrong = otherwise(program, provider, other, script, state, words)
+            if wrong is not None:
+                return f"{name}, run {number}: {wrong}"
+    return None
+
+
+def otherwise(program, provider, other, script, state, words=()):
+    """What the program does otherwise at a provider than the model at another one with the same answers, or None."""
+    said, (roots, kept) = cut_off(state), files_of(state)
+    model = Asked(other, [bytes.fromhex(root) for root in roots], kept)
+    model.run(script)
+    got = ran(program, provider, b"" if words else script, state, words)
+    wanted = model.text, [*said, *model.words], model.status
+    for what, a, b in zip(("output", "words", "status"), wanted, got):
+        if a != b:
+            return f"{what}: wanted {a!r}, got {b!r}"
+    # The lines of the second file come in any order, and a promise that was given twice is one.
+    (roots, kept), files = model.state(), files_of(state)
+    if (roots, set(kept)) != (files[0], set(files[1])):
+        return f"state: wanted {kept}, {len(roots)} roots, got {files[1]}, {len(files[0])} roots"
     return None
 
 

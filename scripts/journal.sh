@@ -36,6 +36,7 @@ zeros=$(printf '0%.0s' {1..64})
 scripts/formats.py --requests >"$folder/requests"
 scripts/formats.py --replies >"$folder/replies"
 all=$(od -An -v -tx1 "$folder/replies" | tr -d ' \n')
+head=$(head -c 185 "$folder/replies" | od -An -v -tx1 | tr -d ' \n')
 last=$(tail -c 185 "$folder/replies" | od -An -v -tx1 | tr -d ' \n')
 printf '\0\0\0\1\6' >"$folder/head"
 journal=$folder/journal
@@ -50,6 +51,20 @@ ends "a journal" 0 "$last" "journal: $count records taken" "$folder/head" serve 
 ends "a journal, another epoch" 0 "$last" "journal: $count records taken" "$folder/head" \
     serve $keys --journal "$journal" --epoch 9 --nonce "${zeros//0/1}"
 same "a journal that was only read" "" "$(cmp "$journal" "$folder/whole" 2>&1)"
+
+# It is made for its owner alone, and one that is there keeps its mode.
+for mask in 000 022 077; do
+    (umask $mask && exec "$program" serve $keys --journal "$folder/of $mask" <"$folder/head" >/dev/null 2>&1)
+    same "the mode of a journal under the mask $mask" 600 "$(stat -c %a "$folder/of $mask")"
+done
+for mode in 604 640 666; do
+    chmod $mode "$folder/of 022"
+    printf 'C\0\0' >>"$folder/of 022"
+    ends "a journal of the mode $mode" 0 "$head" "journal: 1 records taken, 3 bytes cut off" "$folder/head" \
+        serve $keys --journal "$folder/of 022"
+    same "the mode $mode of a journal" $mode "$(stat -c %a "$folder/of 022")"
+done
+rm "$folder"/of*
 
 # What follows the whole records is cut off.
 printf 'C\0\0' >>"$journal"

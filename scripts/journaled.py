@@ -377,7 +377,7 @@ class Call(NamedTuple):
     name: str
     descriptor: int
     is_well: bool
-    # What an fsync syncs.
+    # That of the descriptor; of a rename the new one.
     path: str
 
 

@@ -1,8 +1,9 @@
-// A library that is loaded before the C library, for scripts/journaled.py. It logs the calls that hand bytes to a file
-// or to a connection, or put them on a disk: a line each on the descriptor SYNC_LOG, with the call, its descriptor and
-// what it returned, and for fsync the path of what it syncs. The fdatasync of number FAIL_SYNC, counted from 1, does
-// nothing and fails, and so does the ftruncate of number FAIL_CUT. Each fdatasync first waits SLOW_SYNC milliseconds.
-// What is used of the C library is declared here, so that no header is needed.
+// A library that is loaded before the C library, for scripts/journaled.py and scripts/states.py. It logs the calls that
+// hand bytes to a file or to a connection, put them on a disk, or rename a file: a line each on the descriptor SYNC_LOG,
+// with the call, its descriptor, what it returned, and the path of the descriptor; of a rename the new path, and -1 for
+// the descriptor. The fdatasync of number FAIL_SYNC, counted from 1, does nothing and fails, and so does the ftruncate of
+// number FAIL_CUT. Each fdatasync first waits SLOW_SYNC milliseconds. What is used of the C library is declared here, so
+// that no header is needed.
 
 void *dlsym(void *handle, const char *name);
 char *getenv(const char *name);
@@ -36,7 +37,10 @@ __attribute__((constructor)) static void begin(void) {
 // The call is over, so `errno` is its own again once the line is written.
 static long logged(const char *name, int descriptor, long result) {
     int error = *__errno_location();
-    dprintf(log_to, "%s %d %ld\n", name, descriptor, result);
+    char own[64], path[1024];
+    snprintf(own, sizeof own, "/proc/self/fd/%d", descriptor);
+    long size = readlink(own, path, sizeof path);
+    dprintf(log_to, "%s %d %ld %.*s\n", name, descriptor, result, size < 0 ? 0 : (int)size, path);
     *__errno_location() = error;
     return result;
 }
@@ -53,13 +57,7 @@ long send(int descriptor, const void *bytes, unsigned long size, int flags) {
 
 int fsync(int descriptor) {
     int (*next)(int) = dlsym(NEXT, "fsync");
-    int result = next(descriptor), error = *__errno_location();
-    char own[64], path[1024];
-    snprintf(own, sizeof own, "/proc/self/fd/%d", descriptor);
-    long size = readlink(own, path, sizeof path);
-    dprintf(log_to, "fsync %d %d %.*s\n", descriptor, result, size < 0 ? 0 : (int)size, path);
-    *__errno_location() = error;
-    return result;
+    return (int)logged("fsync", descriptor, next(descriptor));
 }
 
 int fdatasync(int descriptor) {
@@ -79,4 +77,12 @@ int ftruncate(int descriptor, long size) {
         return (int)logged("ftruncate", descriptor, -1);
     }
     return (int)logged("ftruncate", descriptor, next(descriptor, size));
+}
+
+int rename(const char *from, const char *to) {
+    int (*next)(const char *, const char *) = dlsym(NEXT, "rename");
+    int result = next(from, to), error = *__errno_location();
+    dprintf(log_to, "rename -1 %d %s\n", result, to);
+    *__errno_location() = error;
+    return result;
 }

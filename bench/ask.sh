@@ -1,0 +1,18 @@
+#!/usr/bin/env bash
+# Measures `directoryd ask` over loopback: runs of 100, 1,000 and 4,000 registrations without a state, with a state
+# whose syncs are free, and with one on the disk of this folder.
+#
+#   bench/ask.sh
+#
+# Needs the kit (`rt` on the PATH) and Python 3.10, on Linux. Takes half a minute once both programs are proved and
+# built, which it does first. docs/SPEED.md says what the columns mean. The status is 0 unless something could not be
+# measured.
+set -euo pipefail
+cd "$(dirname "$0")/.."
+. bench/build.sh
+. scripts/library.sh
+
+build directoryd measure
+mkdir -p bench/out
+library scripts/fail_disk.c bench/out/fail_disk.so
+python3 bench/bench.py ask

@@ -1,0 +1,668 @@
+#!/usr/bin/env python3
+"""Runs `directoryd ask --state` that is killed, whose disk is full, or that finds another run at work, and compares the
+files of the state with what the model of the client remembers.
+
+    scripts/states.py PROGRAM [--kills N] [--seed N]
+
+Runs are killed at each call that changes a file, and at as many other moments as make N (200 unless given). After each
+of them, and after each call that fails, another run has to go on as the model does. The last line is `N passed, M
+failed`, and the status is 0 where none failed.
+"""
+
+import argparse
+import contextlib
+import os
+import pathlib
+import random
+import re
+import shutil
+import signal
+import stat
+import subprocess
+import sys
+import tempfile
+import threading
+from concurrent.futures import ThreadPoolExecutor
+from typing import NamedTuple
+
+sys.dont_write_bytecode = True
+
+from asks import *
+from journaled import Log
+
+REPOSITORY = pathlib.Path(__file__).resolve().parent.parent
+# Kills on one state before another one is begun.
+KILLS_OF_A_STATE = 10
+# A moment within what follows a reply.
+MOMENT = 0.006
+AT_ONCE = 8
+# Tests that run beside each other.
+BESIDE = 4
+ANOTHER = "another run has it"
+AS_WRITTEN = "not as a run wrote it"
+
+# What a client remembers ----------------------------------------------------------------------------------------
+
+
+class Remembered(NamedTuple):
+    # The lines that are printed by then.
+    printed: int
+    roots: list
+    promises: set
+    # The epoch of each name.
+    marks: dict
+
+
+def remembered(printed, roots, kept):
+    """The last mark of a name counts."""
+    marks = dict(line.split(" ")[1:] for line in kept if re.fullmatch("watched [0-9a-f]+ [0-9]+", line))
+    return Remembered(printed, roots, {line for line in kept if not line.startswith("watched ")}, marks)
+
+
+def expected(provider, state, script):
+    """What a client prints in a run, and what it remembers before it, after its beginning, and after each line."""
+    roots, kept = files_of(state)
+    model = Asked(provider.copied(), [bytes.fromhex(root) for root in roots], kept)
+    stages = [remembered(0, roots, kept)]
+    stages += [remembered(len(model.text), *model.state()) for _ in model.stages(script)]
+    return model.text, stages
+
+
+def lost(state, before, printed, text, stages):
+    """What is wrong in the files after a run that stopped before its end, or None: FILE had these bytes before, and
+    these lines were printed of the text."""
+    if printed != text[: len(printed)]:
+        return f"printed {printed}, wanted {text}"
+    reached = [place for place, stage in enumerate(stages) if stage.printed <= len(printed)][-1]
+    # Of a stage without a line nobody knows whether it is over.
+    first = next(place for place in range(reached, -1, -1) if place == 0 or stages[place].printed > stages[place - 1].printed)
+    could_be = stages[first : reached + 2]
+    roots, kept = files_of(state)
+    now = remembered(0, roots, kept)
+    whole = "".join(f"{root}\n" for root in stages[-1].roots).encode()
+    data = paths(state)[0].read_bytes() if paths(state)[0].exists() else b""
+    if not data.startswith(before) or not whole.startswith(data):
+        return f"{len(before)} bytes of roots became {len(data)} others"
+    if len(roots) < len(stages[first].roots):
+        return f"{len(roots)} roots, and {len(stages[first].roots)} were taken"
+    needed = set.intersection(*(stage.promises for stage in could_be))
+    if not needed <= now.promises:
+        return f"promises are lost: {needed - now.promises}, after {printed}"
+    known = set.union(*(stage.promises for stage in stages[: reached + 2]))
+    if not now.promises <= known:
+        return f"promises that nobody gave: {now.promises - known}"
+    for name in now.marks.keys() | stages[first].marks.keys():
+        # The mark of a line is kept once the line is printed.
+        if now.marks.get(name) not in [stage.marks.get(name) for stage in stages[max(first - 1, 0) : reached + 2]]:
+            return f"{name} is watched to {now.marks.get(name)}, after {printed}"
+    return None
+
+
+# Runs -------------------------------------------------------------------------------------------------------------
+
+
+def built(name, folder):
+    """A library of this folder."""
+    order = '. scripts/library.sh && library "$1" "$2"'
+    subprocess.run(["bash", "-c", order, "bash", f"scripts/{name}.c", f"{folder}/{name}.so"], cwd=REPOSITORY, check=True)
+    return f"{folder}/{name}.so"
+
+
+def preloaded(library, **words):
+    return {"env": {**os.environ, "LD_PRELOAD": library, **{name: str(word) for name, word in words.items()}}}
+
+
+def stopped(program, provider, state, script, place=0, seconds=0, **how):
+    """A run that is killed so long after the reply of this number, unless it ends before: the lines that it prints, its
+    words and its status."""
+    pipes = dict.fromkeys(("stdin", "stdout", "stderr"), subprocess.PIPE)
+    with answering(provider) as address:
+        run = subprocess.Popen(asking(program, state, address), umask=0o022, **pipes, **how)
+
+        def kill(provider, _request, reply):
+            if provider.count == place:
+                threading.Timer(seconds, run.kill).start()
+            return reply
+
+        provider.lie = kill
+        output, errors = run.communicate(script, timeout=SECONDS)
+    provider.lie = None
+    return output.decode().split("\n")[:-1], errors.decode().splitlines(), run.returncode
+
+
+class Life:
+    """A state and its provider, over several runs."""
+
+    def __init__(self, folder, rng):
+        self.state, self.rng, self.provider = f"{folder}/state", rng, Provider()
+        self.epoch, self.names = 1, []
+
+    def copied(self, folder):
+        """The same in another folder."""
+        life = Life(folder, random.Random(1))
+        life.provider, life.epoch = self.provider.copied(), self.epoch + 10
+        for path, other in zip(paths(self.state), paths(life.state)):
+            if path.exists():
+                shutil.copy2(path, other)
+        return life
+
+    def line(self):
+        kind = self.rng.choice(["register", "register", "change", "close", "close", "watch", "lookup", "head"])
+        if kind == "close":
+            self.epoch += 1
+            return f"close {self.epoch}"
+        if kind == "head":
+            return kind
+        if kind == "register" or not self.names:
+            self.names.append(f"{len(self.names):04x}")
+            return f"register {self.names[-1]} 6b31"
+        words = {"lookup": "0", "watch": "6b31", "change": self.rng.choice(["6b31", "6b32"])}
+        return f"{kind} {self.rng.choice(self.names)} {words[kind]}"
+
+    def script(self):
+        return "".join(f"{self.line()}\n" for _ in range(self.rng.randrange(4, 9))).encode()
+
+    def run(self, program, script):
+        """What the program does otherwise than the model in a run, or None."""
+        self.provider.begin()
+        return otherwise(program, self.provider, self.provider.copied(), script, self.state)
+
+    def stop(self, program, script, is_end, **how):
+        """Whether a run is stopped; and what is wrong after it, or None."""
+        self.provider.begin()
+        before = paths(self.state)[0].read_bytes() if paths(self.state)[0].exists() else b""
+        before = before[: before.rfind(b"\n") + 1]
+        text, stages = expected(self.provider, self.state, script)
+        printed, errors, status = stopped(program, self.provider, self.state, script, **how)
+        if not is_end(errors, status):
+            return False, f"status {status}, {errors}"
+        wrong = lost(self.state, before, printed, text, stages)
+        if wrong is None:
+            wrong = self.run(program, b"head\n" + self.script())
+            wrong = wrong and f"the next run: {wrong}"
+        return True, wrong
+
+
+def begun(program, folder):
+    """Two states with a script whose run is to be stopped: a new one; and one with roots, marks and promises, and last
+    lines that were cut short."""
+    script = b"watch 61 -\nregister 61 6b31\nclose 2\nlookup 61 0\nregister 62 6b31\nwatch 62 -\n"
+    yield "a new state", Life(folder, random.Random(1)), script
+    life = Life(folder, random.Random(1))
+    life.epoch, life.names = 3, ["61", "62", "63"]
+    runs = b"register 61 6b31\nregister 62 6b31\nclose 2\nwatch 61 6b31\n", b"change 61 6b32\nregister 63 6b31\nclose 3\n"
+    wrong = [life.run(program, script) for script in runs]
+    for path, rest in zip(paths(life.state), ("5201", "change 50")):
+        with open(path, "a") as file:
+            file.write(rest)
+    assert wrong == [None, None], wrong
+    script = b"watch 64 -\nregister 64 6b31\nwatch 61 6b32\nclose 9\nregister 65 6b31\nwatch 62 6b31\n"
+    yield "a state", life, script
+
+
+def calls(program, library, life, script):
+    """How many calls of a run change a file."""
+    with tempfile.TemporaryDirectory() as folder, tempfile.TemporaryFile() as count:
+        life = life.copied(folder)
+        how = preloaded(library, COUNT_TO=count.fileno())
+        stopped(program, life.provider, life.state, script, pass_fds=(count.fileno(),), **how)
+        count.seek(0)
+        return int(count.read() or 0)
+
+
+def at_each_call(program, library, ways, is_end):
+    """Runs that are stopped at each of their calls in turn, in each of these ways."""
+    with tempfile.TemporaryDirectory() as folder, ThreadPoolExecutor(BESIDE) as pool:
+        for name, life, script in begun(program, folder):
+            count = calls(program, library, life, script)
+            yield None if count > 15 else f"{name}: only {count} calls change a file"
+            cases = []
+            for way in ways:
+                for number in range(1, count + 1):
+                    os.mkdir(own := f"{folder}/{name}, {way} at call {number}")
+                    cases.append((own, life.copied(own), preloaded(library, FAIL_AT=number, FAIL_WAY=way)))
+
+            def stop(case):
+                own, life, how = case
+                wrong = life.stop(program, script, is_end, **how)[1]
+                return wrong and f"{os.path.basename(own)}: {wrong}"
+
+            yield from pool.map(stop, cases)
+
+
+def is_killed(_errors, status):
+    return status == -signal.SIGKILL
+
+
+def kills(program, library, seed, count):
+    """Kills at each call, and at other moments."""
+    found = list(at_each_call(program, library, ("kill", "torn"), is_killed))
+    yield from found
+    lives = range(seed, seed + max(count - len(found), 0) // KILLS_OF_A_STATE + 1)
+    with ThreadPoolExecutor(BESIDE) as pool:
+        for killed in pool.map(lambda each: killed_at_times(program, each), lives):
+            yield from killed
+
+
+def killed_at_times(program, seed):
+    """What comes of some kills, each at a moment after some reply."""
+    rng, found = random.Random(seed), []
+    with tempfile.TemporaryDirectory() as folder:
+        life = Life(folder, rng)
+        for _ in range(4 * KILLS_OF_A_STATE):
+            place, seconds = rng.randrange(1, 16), rng.random() * MOMENT
+            is_stopped, wrong = life.stop(program, life.script(), is_killed, place=place, seconds=seconds)
+            if is_stopped:
+                found.append(wrong and f"a kill {seconds:.4f} seconds after reply {place}, seed {seed}: {wrong}")
+                if len(found) == KILLS_OF_A_STATE:
+                    return found
+    return [*found, f"only {len(found)} runs are killed, seed {seed}"]
+
+
+def full_disk(program, library):
+    """Calls that fail: one alone, or it and all after it, or so that half of a write is written."""
+
+    def is_end(errors, status):
+        return status == 1 and errors[-1:] == ["cannot write"]
+
+    return at_each_call(program, library, ("once", "full", "short"), is_end)
+
+
+# One at a time ------------------------------------------------------------------------------------------------------
+
+
+@contextlib.contextmanager
+def directory(program):
+    """The address of a directory that listens."""
+    server, address = listening(program, 0)
+    try:
+        yield address
+    finally:
+        server.kill()
+        server.wait()
+        server.stderr.close()
+
+
+def done(program, state, address, script=b"", *words, **how):
+    """What a run does: its output, its errors and its status."""
+    run = subprocess.run(asking(program, state, address, *words), input=script, capture_output=True, timeout=SECONDS, **how)
+    return run.stdout.decode(), run.stderr.decode(), run.returncode
+
+
+def bytes_of(state):
+    """The bytes of the two files of a state, and None of one that is not there."""
+    return [path.read_bytes() if path.exists() else None for path in paths(state)]
+
+
+def refused_by(state):
+    """What a run does whose state another one has."""
+    return "", f"state: {state}: {ANOTHER}\ncannot write\n", 1
+
+
+def different(name, wanted, got):
+    return None if got == wanted else f"{name}: wanted {wanted}, got {got}"
+
+
+def held(program):
+    """While a run has FILE, others end, and change nothing."""
+    with directory(program) as address, tempfile.TemporaryDirectory() as folder:
+        state, pipes = f"{folder}/state", dict.fromkeys(("stdin", "stdout", "stderr"), subprocess.PIPE)
+        first = subprocess.Popen(asking(program, state, address), bufsize=0, **pipes)
+        timer = threading.Timer(SECONDS, first.kill)
+        timer.start()
+        first.stdin.write(b"register 61 6b31\n")
+        yield different("a run that waits", b"promise 1\n", first.stdout.readline())
+        before = bytes_of(state)
+        with ThreadPoolExecutor(AT_ONCE - 1) as pool:
+            others = list(pool.map(lambda number: done(program, state, address, b"", "register", f"{number:02x}", "6b31"), range(AT_ONCE - 1)))
+        yield different("runs beside one that waits", [refused_by(state)] * (AT_ONCE - 1), others)
+        yield different("the files beside a run that waits", before, bytes_of(state))
+        first.stdin.write(b"register 62 6b31\n")
+        first.stdin.close()
+        yield different("a run beside others", (b"promise 1\n", 0), (first.stdout.read(), first.wait(SECONDS)))
+        timer.cancel()
+        first.stdout.close()
+        first.stderr.close()
+        yield different("a run after it", ("root 1 after 0\n", "", 0), done(program, state, address, b"head\n"))
+        yield different("promises of a run beside others", 2, len(files_of(state)[1]))
+        # It is locked before it is cut.
+        for path in paths(state):
+            with open(path, "ab") as file:
+                file.write(b"52")
+        before = bytes_of(state)
+        order = ["flock", state, *asking(program, state, address, "head")]
+        run = subprocess.run(order, capture_output=True, timeout=SECONDS)
+        yield different("a file that another holds", refused_by(state), (run.stdout.decode(), run.stderr.decode(), run.returncode))
+        yield different("a cut file that another holds", before, bytes_of(state))
+
+
+def eight_at_once(program):
+    """Of runs that begin at once, each works, or says that another has FILE."""
+    with directory(program) as address, tempfile.TemporaryDirectory() as folder:
+        state, made = f"{folder}/state", {}
+
+        def run(number):
+            names = [f"{number:02x}{k:02x}" for k in range(5)]
+            script = "".join(f"register {name} 6b31\nlookup {name} 0\nwatch {name} -\n" for name in names)
+            output, errors, status = done(program, state, address, script.encode())
+            if status == 0:
+                made.update(dict.fromkeys(names))
+                epochs = output.splitlines()
+                lines = [line.split(" ")[0] for line in epochs]
+                return different("a run at once", ["promise", "absent", "kept"] * 5, lines)
+            return different("a run at once", refused_by(state), (output, errors, status))
+
+        for epoch in range(2, 6):
+            with ThreadPoolExecutor(AT_ONCE) as pool:
+                yield from pool.map(run, range(AT_ONCE * epoch, AT_ONCE * (epoch + 1)))
+            done(program, f"{folder}/operator {epoch}", address, b"", "close", str(epoch))
+        yield different("runs at once that worked", True, len(made) >= 20)
+        output, errors, status = done(program, state, address, b"head\n")
+        yield different("a run after runs at once", ("root 5 after 4\n", "", 0), (output, errors, status))
+        audit = [program, "audit", "--key", PROVIDER.hex()]
+        audited = subprocess.run(audit, input=paths(state)[0].read_bytes(), capture_output=True).stdout.decode().split("\n")
+        roots, kept = files_of(state)
+        yield different("the roots of runs at once", ["started", *["extended"] * (len(roots) - 1), ""], audited)
+        now = remembered(0, roots, kept)
+        # A name that is watched has its promise until its next watch.
+        names = sorted(SignedPromise.read(bytes.fromhex(line.split(" ")[1])).promise.name.hex() for line in now.promises)
+        yield different("promises of runs at once", sorted(made), names)
+        yield different("marks of runs at once", sorted(made), sorted(now.marks))
+
+
+# The files ----------------------------------------------------------------------------------------------------------
+
+
+def modes_of(state):
+    return [oct(path.stat().st_mode & 0o7777) if path.exists() else None for path in paths(state)]
+
+
+def modes(program):
+    """The files are made for their owner alone, and keep the modes that they have."""
+    with directory(program) as address, tempfile.TemporaryDirectory() as folder:
+        epoch = 1
+        for umask in (0o022, 0, 0o077):
+            state = f"{folder}/{umask}"
+            done(program, state, address, b"", "head", umask=umask)
+            yield different(f"modes under the mask {umask:o}", ["0o600", None], modes_of(state))
+            done(program, state, address, b"", "register", f"{umask:04x}", "6b31", umask=umask)
+            yield different(f"modes under the mask {umask:o}", ["0o600", "0o600"], modes_of(state))
+            epoch += 1
+            got = done(program, state, address, b"", "close", str(epoch), umask=umask)
+            yield different("a closing", (f"root {epoch} after {epoch - 1}\n", "", 0), got)
+            yield different("what is kept of a promise that was tested", [], files_of(state)[1])
+            yield different(f"modes under the mask {umask:o}, written anew", ["0o600", "0o600"], modes_of(state))
+        for umask in (0o022, 0o077):
+            for mode in (0o644, 0o640, 0o606):
+                state = f"{folder}/{umask} {mode}"
+                name = f"{umask:04x}{mode:04x}"
+                done(program, state, address, b"", "register", name, "6b31")
+                for path in paths(state):
+                    path.chmod(mode)
+                epoch += 1
+                got = done(program, state, address, f"close {epoch}\nregister {name}61 6b31\nwatch {name}61 -\n".encode(), umask=umask)
+                yield different("a run on files that are there", (f"root {epoch} after {epoch - 1}\npromise {epoch}\nkept {name}61 {epoch}\n", 0), got[::2])
+                yield different(f"what is kept under the mode {mode:o}", 2, len(files_of(state)[1]))
+                yield different(f"the mode {mode:o} under the mask {umask:o}", [oct(mode)] * 2, modes_of(state))
+
+
+class Kept(NamedTuple):
+    """The lines of a state of which a run adds nothing: roots of the epochs 1 to 3, and of epoch 2 a mark and a promise."""
+
+    roots: list
+    kept: list
+
+
+def kept_state(program, address, folder):
+    state = f"{folder}/begun"
+    done(program, state, address, b"register 61 6b31\nclose 2\nwatch 61 6b31\n")
+    done(program, state, address, b"change 61 6b32\n")
+    done(program, state, address, b"close 3\n")
+    roots, kept = files_of(state)
+    assert len(roots) == 3 and sorted(line.split(" ")[0] for line in kept) == ["change", "watched"], (roots, kept)
+    return Kept(roots, kept)
+
+
+def text_of(lines):
+    return "".join(f"{line}\n" for line in lines).encode()
+
+
+def put(state, roots, kept):
+    """Writes the bytes of the two files, unless they are None."""
+    for path, data in zip(paths(state), (roots, kept)):
+        if data is not None:
+            path.write_bytes(data)
+
+
+HEAD_3 = "root 3 after 2\n"
+
+
+def cut_lines(program):
+    """A last line that was cut short is dropped."""
+    with directory(program) as address, tempfile.TemporaryDirectory() as folder:
+        begun = kept_state(program, address, folder)
+        whole = text_of(begun.roots)
+
+        def check(case):
+            number, roots, kept, said, kept_then = case
+            state = f"{folder}/{number}"
+            put(state, roots, kept)
+            words = "".join(f"state: {state}{line}\n" for line in said)
+            got = done(program, state, address, b"head\n"), bytes_of(state)
+            return different(f"{len(roots or b'')} and {len(kept or b'')} bytes", ((HEAD_3, words, 0), [whole, kept_then]), got)
+
+        cases = []
+        text = text_of(begun.kept)
+        for left in range(1, len(begun.roots[2]) + 1):
+            roots = text_of(begun.roots[:2]) + begun.roots[2][:left].encode()
+            cases.append((roots, text, [f": {left} bytes cut off"], text))
+        for kept in (begun.kept, begun.kept[::-1]):
+            for left in range(1, len(kept[1]) + 1):
+                rest = text_of(kept[:1])
+                # A promise without a mark is tested.
+                then = rest if kept[0].startswith("watched ") else b""
+                cases.append((whole, rest + kept[1][:left].encode(), [f".kept: {left} bytes cut off"], then))
+        both = [": 17 bytes cut off", ".kept: 5 bytes cut off"]
+        cases.append((text_of(begun.roots[:2]) + begun.roots[2][:17].encode(), text + b"watch", both, text))
+        cases.append((whole, b"change 50", [".kept: 9 bytes cut off"], b""))
+        with ThreadPoolExecutor(BESIDE) as pool:
+            yield from pool.map(check, [(number, *case) for number, case in enumerate(cases)])
+        # Of the first line nothing is left.
+        for left in (1, 17, len(begun.roots[0])):
+            state = f"{folder}/first {left}"
+            put(state, begun.roots[0][:left].encode(), None)
+            words = f"state: {state}: {left} bytes cut off\nstate: begins at epoch 3\n"
+            got = done(program, state, address, b"head\n"), bytes_of(state)
+            yield different(f"{left} bytes of the first line", ((HEAD_3, words, 0), [text_of(begun.roots[2:]), None]), got)
+
+
+def bad_items(program):
+    """A line that no run wrote is told with the name of its file, and both files stay."""
+    with directory(program) as address, tempfile.TemporaryDirectory() as folder:
+        begun = kept_state(program, address, folder)
+        done(program, f"{folder}/other", address, b"register 62 6b31\n")
+        above = files_of(f"{folder}/other")[1]
+        with directory(program) as other:
+            done(program, f"{folder}/elsewhere", other, b"register 61 6b31\nrotate 2 %s\n" % (b"05" * 32))
+        (_, foreign), _ = files_of(f"{folder}/elsewhere")
+        (mark,) = (line for line in begun.kept if line.startswith("watched "))
+        (promise,) = (line for line in begun.kept if line.startswith("change "))
+        count = 0
+
+        def check(what, roots, kept, beside, number):
+            nonlocal count
+            count += 1
+            state = f"{folder}/{count}"
+            put(state, None if roots is None else text_of(roots), None if kept is None else text_of(kept))
+            before = bytes_of(state)
+            words = f"state: {state}{beside}: {AS_WRITTEN}\nline {number}: bad item\n"
+            got = done(program, state, address, b"watch 61 6b31\n"), bytes_of(state)
+            if roots is None:
+                # FILE may be there, and empty.
+                got[1][0] = got[1][0] or None
+            return different(what, (("", words, 1), before), got)
+
+        unlinked = {1: begun.roots[0][2:], 2: begun.roots[2], 3: foreign}
+        for number, root in enumerate(begun.roots, 1):
+            for bad in (root[:-2], root + "00", root[:-1], f"{root[:-1]}g", "x", changed_digit(root), unlinked[number]):
+                roots = [*begun.roots[: number - 1], bad, *begun.roots[number:]]
+                yield check(f"root {number} is {bad[:10]}..", roots, begun.kept, "", number)
+                yield check(f"root {number} is {bad[:10]}.. alone", roots, None, "", number)
+        lines = [
+            "x", "watched", "watched 61", "watched 6 2", "watched 6g 2", "watched 61 ", "watched 61 x", "watched 61 2 3", "watched  2",
+            f"watched {'61' * 256} 2", "watched 61 -1", "watched 61 18446744073709551616", "watch 61 2", f"promises {promise[7:]}",
+            f"change  {promise[7:]}", promise[:-2], promise[:-1], f"{promise}00", f"{promise[:-1]}g", changed_digit(promise), "promise", "change ",
+        ]
+        for bad in lines:
+            for number in (1, 2, 3):
+                kept = [mark, promise]
+                kept.insert(number - 1, bad)
+                yield check(f"line {number} of what is kept is {bad[:20]}", begun.roots, kept, ".kept", number)
+        # What is above FILE's last root.
+        for bad in ("watched 61 4", "watched 61 18446744073709551615", "watched 7a 4"):
+            for kept in ([mark, bad], [mark, bad, promise, mark]):
+                yield check(f"a mark above the head: {bad}", begun.roots, kept, ".kept", 2)
+        for bad in ("watched 61 3", *above):
+            yield check(f"above the head: {bad[:20]}", begun.roots[:2], [promise, mark, bad], ".kept", 3)
+        # FILE.kept without FILE.
+        for kept in (begun.kept, [mark], [promise]):
+            for roots in (None, []):
+                yield check(f"FILE is {roots}, and FILE.kept is there", roots, kept, "", 1)
+
+
+def changed_digit(line):
+    """With another digit in the middle of the last word."""
+    place = (len(line) + line.rfind(" ") + 1) // 2
+    return f"{line[:place]}{'0' if line[place] != '0' else '1'}{line[place + 1:]}"
+
+
+def beginnings(program):
+    """FILE is made at the beginning, and FILE.kept once there is something to keep."""
+    with directory(program) as address, tempfile.TemporaryDirectory() as folder:
+        state = f"{folder}/state"
+        for data, mode in (None, "0o600"), (b"", "0o640"):
+            put(state, data, None)
+            if data is not None:
+                os.chmod(state, 0o640)
+            wanted = ("root 1 after 0\n", "state: begins at epoch 1\n", 0), [mode, None]
+            yield different(f"FILE is {data}", wanted, (done(program, state, address, b"head\n"), modes_of(state)))
+            yield different("the roots", 1, len(files_of(state)[0]))
+            os.remove(state)
+        got = done(program, f"{folder}/none/state", address, b"head\n")
+        yield different("a folder that is not there", ("", "cannot write", 1), (got[0], *got[1].splitlines()[-1:], got[2]))
+    with tempfile.TemporaryDirectory() as folder:
+        state, provider = f"{folder}/state", Provider(cut(1, 1))
+        got = ran(program, provider, b"head\n", state), bytes_of(state)
+        yield different("no reply", (([], ["no reply"], 1), [b"", None]), got)
+        provider = Provider()
+        yield otherwise(program, provider, provider.copied(), b"head\n", state)
+
+
+def old_states(program, seed):
+    """States as they were written before lines were appended: promises and then marks, readable by all."""
+    for each in range(seed, seed + 20):
+        with tempfile.TemporaryDirectory() as folder:
+            state, provider = f"{folder}/state", Provider()
+            model = Asked(provider)
+            for script, _ in drawn_runs(random.Random(each)):
+                model = Asked(provider, *([bytes.fromhex(line) for line in lines] if number == 0 else lines for number, lines in enumerate(files_of(state))))
+                provider.begin()
+                model.run(script)
+                put(state, *map(text_of, model.state()))
+            provider.begin()
+            yield otherwise(program, provider, provider.copied(), b"head\nregister 7a 6b31\nclose 99\nwatch 61 6b31\n", state)
+
+
+def left_over(program):
+    """What a run that was killed left beside FILE.kept is not used."""
+    with tempfile.TemporaryDirectory() as folder:
+        state, provider = f"{folder}/state", Provider()
+        pathlib.Path(f"{state}.kept.new").write_text("watched 61 9\n" * 100)
+        for script in (b"register 61 6b31\nclose 2\n", b"watch 61 6b31\n"):
+            provider.begin()
+            yield otherwise(program, provider, provider.copied(), script, state)
+
+
+# The order of calls ---------------------------------------------------------------------------------------------------
+
+
+def logged(program, provider, library, folder, script):
+    """The calls of a run that concern its files and its lines, each by two words: what it does, and to what."""
+    log, state = Log(f"{folder}/log", library), f"{os.path.realpath(folder)}/state"
+    things = {state: "FILE", f"{state}.kept": "KEPT", f"{state}.kept.new": "NEW", os.path.dirname(state): "FOLDER"}
+    provider.begin()
+    printed, errors, status = ran(program, provider, script, state, **log.how)
+    log.file.close()
+    found = []
+    for call in log.calls():
+        what = "sync" if call.name in ("fsync", "fdatasync") else call.name
+        if call.name == "write" and call.descriptor == 1:
+            found.append("print")
+        elif call.path in things:
+            found.append(f"{what} {things[call.path]}")
+    # A folder is also synced where a file is made.
+    found = [call for place, call in enumerate(found) if call != "sync FOLDER" or found[place - 1 : place] == ["rename KEPT"]]
+    return found, status
+
+
+def ordered(program, library):
+    """A line is printed once its roots and promises are on the disk."""
+    adds, keeps, marks = ["write FILE", "sync FILE"], ["write KEPT", "sync KEPT"], ["print", "write KEPT", "sync KEPT"]
+    anew = ["write NEW", "sync NEW", "rename KEPT", "sync FOLDER"]
+    runs = [
+        ("a beginning", b"head\n", [*adds, "print"]),
+        ("nothing new", b"head\nlookup 61 0\nhistory 0 1\n", ["print"] * 3),
+        ("a registration", b"register 61 6b31\n", [*keeps, "print"]),
+        ("two lines", b"register 62 6b31\nlookup 61 0\nregister 63 6b31\n", [*keeps, "print", "print", *keeps, "print"]),
+        ("a watch", b"watch 61 -\n", marks),
+        ("no more to watch", b"watch 61 -\nhead\n", ["print"]),
+        ("a closing", b"close 2\n", [*adds, "print", *anew]),
+        ("a change and a closing", b"change 61 6b32\nclose 3\nchange 62 6b32\n", [*keeps, "print", *adds, "print", *keeps, "print"]),
+        ("two names", b"watch 61 6b31\nwatch 62 6b31\n", [*marks, *marks, *anew]),
+    ]
+    with tempfile.TemporaryDirectory() as folder:
+        provider = Provider()
+        for name, script, wanted in runs:
+            found, status = logged(program, provider, library, folder, script)
+            # What goes over in one call or several is the same.
+            found = [call for place, call in enumerate(found) if not call.startswith("write ") or found[place - 1 : place] != [call]]
+            yield different(f"the calls of {name}", (wanted, 0), (found, status))
+        others = provider.copied()
+        others.hub.directory.rotate(4, bytes([5]) * 32)
+        found, status = logged(program, others, library, folder, b"head\nregister 64 6b31\n")
+        yield different("the calls of a root and a promise", ([*adds, "print", *keeps, "print"], 0), (found, status))
+
+
+def main():
+    parser = argparse.ArgumentParser(usage=__doc__)
+    parser.add_argument("program")
+    for name, default in ("--kills", 200), ("--seed", 1):
+        parser.add_argument(name, type=int, default=default)
+    words = parser.parse_args()
+    program = os.path.abspath(words.program)
+    with tempfile.TemporaryDirectory() as folder:
+        fail_disk, sync_order = built("fail_disk", folder), built("sync_order", folder)
+        runs = {
+            "kills": lambda: kills(program, fail_disk, words.seed, words.kills),
+            "full disk": lambda: full_disk(program, fail_disk),
+            "order": lambda: ordered(program, sync_order),
+            "held": lambda: held(program),
+            "eight at once": lambda: eight_at_once(program),
+            "modes": lambda: modes(program),
+            "cut lines": lambda: cut_lines(program),
+            "bad items": lambda: bad_items(program),
+            "beginnings": lambda: beginnings(program),
+            "old states": lambda: old_states(program, words.seed),
+            "left over": lambda: left_over(program),
+        }
+        found = {name: list(run()) for name, run in runs.items()}
+    failures = [(name, difference) for name, differences in found.items() for difference in differences if difference is not None]
+    for name in runs:
+        for difference in [difference for each, difference in failures if each == name][:5]:
+            print(f"{name}: {difference}")
+    print(f"{sum(map(len, found.values())) - len(failures)} passed, {len(failures)} failed")
+    return 1 if failures else 0
+
+
+if __name__ == "__main__":
+    sys.exit(main())
