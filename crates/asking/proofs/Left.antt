@@ -1,6 +1,6 @@
 -- What comes of a run once the files of its state are left.
-use Rattle.std.proofs.Common.{◌≡◌, ◌⊎◌, Result, Ok, Err, inl, inr, subst, sym}
-use Rattle.std.specs.Prelude.{IfErr, OnErr, OnOk}
+use Rattle.std.proofs.Common.{◌≡◌, ◌⊎◌, Result, Ok, Err, inl, inr, subst}
+use Rattle.std.specs.Prelude.{IfErr, OnOk}
 use Rattle.textio.specs.declared.program_fault.ProgramFault.{ProgramFault}
 use Rattle.asking.specs.RunFaults.{IsFaultOfSaving, StopsOr}
 use Rattle.asking.specs.declared.ask_fault.RunFault.{RunFault}
