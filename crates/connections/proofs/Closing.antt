@@ -1,5 +1,5 @@
 -- A connection is taken and its session opened; a session is ended and its connection closed.
-use Rattle.std.proofs.Common.{◌≡◌, ◌≢◌, ◌⊎◌, ℕ, ◌+◌, ◌≤◌, List, [], ◌∷◌, ◌++◌, true, false, Option, Some, None, Result, Ok, Err, IfOk, refl, sym, subst, ap, ◌∙◌, arith, inl, inr, append-nil}
+use Rattle.std.proofs.Common.{◌≡◌, ◌⊎◌, ℕ, ◌+◌, ◌≤◌, List, [], ◌∷◌, ◌++◌, true, false, Option, Some, None, Result, Ok, Err, IfOk, refl, sym, subst, ap, ◌∙◌, arith, inl, inr, append-nil}
 use Rattle.connections.specs.declared.ending.Ending.{Ending}
 use Rattle.connections.specs.declared.ending.Ending.TheVariants.{Done, Fault, Idle, Stopped, Unsynced, Memory, Refused}
 use Rattle.connections.specs.declared.ending.SessionFault.{SessionFault}
@@ -31,11 +31,6 @@ none_fits there gone = rw gone tt
 pub fits_none : (there : Option Course) → Fits None there → there ≡ None
 fits_none None fits = refl
 fits_none (Some of) fits = absurd fits
-
-pub fits_used : (slot : Option Talk) (there : Option Course) → Fits slot there → slot ≢ None → there ≢ None
-fits_used None there fits some = absurd (some refl)
-fits_used (Some talk) None fits some = absurd fits
-fits_used (Some talk) (Some of) fits some = some_there of
 
 -- a reason to close stays one when the session is ended
 reason_kept : (idle : ℕ) (acts : History) (place : ℕ) (of : Course) (why : Ending) → IsReason idle acts why of → IsReason idle (On place Ends ∷ acts) why (record of { is_open = false; has_ended = true })

@@ -1,6 +1,5 @@
 -- Several parts that are heard, and both sides of an attendance.
 use Rattle.std.proofs.Common.{◌≡◌, ◌≢◌, ◌⊎◌, ◌||◌, ℕ, ◌<◌, ◌≤◌, List, [], ◌∷◌, length, drop, ◌+◌, ◌-◌, Bool, true, false, Option, Result, Ok, Err, IfOk, refl, sym, ap, subst, inl, inr, arith}
-use Rattle.std.proofs.lemmas.Bool.{false≢true}
 use Rattle.std.proofs.lemmas.Grind.{common_steps}
 use Rattle.connections.specs.declared.ending.Ending.{Ending}
 use Rattle.connections.specs.declared.ending.Ending.TheVariants.{Memory}
@@ -13,7 +12,7 @@ use Rattle.connections.specs.Rounds.{gives_turn, was_busy, InRound, IsUnread}
 use Rattle.connections.specs.Fitting.{Adds, Attends, GoesOrCloses, Has, Hearkens, HearsFrom, IsOfConnection, KeepsCourse, KeepsTalk, Knows, Stays}
 use Rattle.connections.specs.Histories.{On, Deed, Comes, Opens, Refuses, Reads, IsOver, IsSilent, Hears, Misses, Lacks, Takes, TakesNone, Fails, Ends, Closes, History, Course, course, Leads}
 use Rattle.connections.specs.Soundness.{Here, IsHearing}
-use Rattle.connections.proofs.Steps.{adds_both, adds_none, adds_one, attended, next_lack, not_read, passes_all, stays_both, stays_counted, stays_none, stays_one, still_hearing, Passes}
+use Rattle.connections.proofs.Steps.{adds_both, adds_one, attended, next_lack, not_read, passes_all, stays_both, stays_counted, stays_none, stays_one, still_hearing, Passes}
 
 drops : (n m : ℕ) (bytes : List ℕ) → drop m (drop n bytes) ≡ drop (n + m) bytes
 drops n m bytes = grind (arith, common_steps)
@@ -81,9 +80,6 @@ or_full over acts place output (inl gone) = inl gone
 or_full over acts place output (inr more) = inr (inr more)
 
 module _ {S : Type 0} (opens : S → ℕ → S → Type 0) (refuses : S → ℕ → SessionFault → Type 0) (hears : S → ℕ → List ℕ → List ℕ → S → Type 0) (misses : S → ℕ → List ℕ → SessionFault → S → Type 0) (ends : S → ℕ → S → Type 0) where
-  pub hearkens_none : (place : ℕ) (old : S) (talk : Talk) → Hearkens opens refuses hears misses ends {X = Bool} (λ done. done) place old (KeepsTalk talk) (Ok false) old (λ _. KeepsTalk talk)
-  hearkens_none place old talk = λ idle start acts held hearing here. (acts, stays_none place 0 acts, adds_none acts, held, here, λ never. absurd (false≢true never))
-
   -- a part more is heard
   pub hears_more : (place : ℕ) (old : S) (input output : List ℕ) (heard : ℕ) (middle : S) (output_then : List ℕ) (count : ℕ) (new : S) (output_new : List ℕ)
       → HearsFrom opens refuses hears misses ends place old input output (Ok heard) middle output_then
@@ -109,20 +105,6 @@ module _ {S : Type 0} (opens : S → ℕ → S → Type 0) (refuses : S → ℕ 
         let b = two.1 since over idle start a.0 a.3 (still_hearing place 0 0 0 acts a.0 a.1 hearing) a.4 in
         (b.0, stays_both place 0 0 0 0 0 acts a.0 b.0 a.1 b.1, adds_both acts a.0 b.0 a.2 b.2, b.3, b.4, tt),
   )
-
-  -- what is heard of what waits, and what then waits
-  pub heard_some : {X : Type 0} (test : X → Bool) (done : X) (place : ℕ) (old : S) (input output : List ℕ) (since : Option ℕ) (over : Bool) (count : ℕ) (new : S) (rest output_new : List ℕ)
-      → HearsFrom opens refuses hears misses ends place old input output (Ok count) new output_new → rest ≡ drop count input
-      → Hearkens opens refuses hears misses ends {X = X} test place old (KeepsCourse input output since over) (Ok done) new (λ _. KeepsCourse rest output_new since over)
-  heard_some test done place old input output since over count new rest output_new one same = λ idle start acts held hearing here.
-      let a = one.1 since over idle start acts held hearing here in
-      (a.0, a.1, a.2, a.3, subst (λ (t : List ℕ). Here (course a.0 place) (KeepsCourse t output_new since over)) (sym same) a.4, λ so. a.5 refl)
-
-  pub heard_stop : {X : Type 0} (test : X → Bool) (why : Ending) (place : ℕ) (old : S) (input output : List ℕ) (since : Option ℕ) (over : Bool) (new : S) (output_new : List ℕ) (Then : X → Course → Type 0)
-      → HearsFrom opens refuses hears misses ends place old input output (Err why) new output_new
-      → Hearkens opens refuses hears misses ends {X = X} test place old (KeepsCourse input output since over) (Err why) new Then
-  heard_stop test why place old input output since over new output_new Then one = λ idle start acts held hearing here.
-      let a = one.1 since over idle start acts held hearing here in (a.0, a.1, a.2, a.3, a.4, tt)
 
   -- what is left cannot be kept
   pub heard_lost : {X : Type 0} (test : X → Bool) (place : ℕ) (old : S) (input output : List ℕ) (since : Option ℕ) (over : Bool) (count : ℕ) (new : S) (output_new : List ℕ) (Then : X → Course → Type 0)

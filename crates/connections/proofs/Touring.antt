@@ -17,7 +17,7 @@ use Rattle.connections.specs.Histories.{At, Ordered, GoesOn, Syncs, History, Cou
 use Rattle.connections.specs.Pauses.{IsPause, MayStay, pause_of, until_due, until_idle, until_stopped}
 use Rattle.connections.specs.Soundness.{Here, IsReason, IsTaken}
 use Rattle.connections.specs.Telling.{losses, TellsLosses, TellsTimes}
-use Rattle.connections.proofs.Closing.{fits_none, fits_used}
+use Rattle.connections.proofs.Closing.{fits_none}
 use Rattle.connections.proofs.Steps.{lasts_both, lasts_none, some_there}
 use Rattle.connections.proofs.Wanting.{tells_times}
 
@@ -115,10 +115,6 @@ more_heard place came wanting wanting_new is_busy is_busy_new before after stays
 pub more_taken : (place came wanting wanting_new : ℕ) (is_busy is_busy_new : Bool) (before after : History) → Stays place came wanting wanting_new before after → AreUsed place before × AreUnread before × IsKnownBusy is_busy before
     → IsUsed after place × IsUnread place after × IsKnownBusy is_busy_new after → AreUsed (place + 1) after × AreUnread after × IsKnownBusy is_busy_new after
 more_taken place came wanting wanting_new is_busy is_busy_new before after stays (below, unread, busy) (used, none, busy_new) = (more_used place came wanting wanting_new before after stays below used, unread_all place came wanting wanting_new before after stays unread none, busy_new)
-
--- a place that has a connection is used
-pub used_here : (places : List (Option Talk)) (place : ℕ) (acts : History) → get_or places place None ≢ None → FitAll places acts → AreUsed place acts → AreUsed (place + 1) acts
-used_here places place acts some fit below = below_more (λ other. IsUsed acts other) place below (inl (fits_used (get_or places place None) (course acts place) (fit place) some))
 
 -- the connections of a round are heard, once none more are taken and each had its turn
 pub are_heard : (count size left places wanting wanting_new : ℕ) (taken heard : History) → StaysInRound places 0 0 wanting wanting_new taken heard → comers taken + left ≡ most_comers count
@@ -309,36 +305,6 @@ paused idle longest pause false places acts fit same known = (
 abbrev pub RestedTo : ℕ → ℕ → List (Option Talk) → List (Option Talk) → Type 0
 RestedTo now place old new = (other : ℕ) → (other < place → (there : Option Course) → Fits (get_or old other None) there → Fits (get_or new other None) (rested now there))
     × (place ≤ other → get_or new other None ≡ get_or old other None)
-
-pub more_rested : (now place : ℕ) (old new : List (Option Talk)) (item slot : Option Talk) → place < length new → item ≡ get_or new place item → RestedTo now place old new
-    → ((there : Option Course) → Fits (get_or new place item) there → Fits slot (rested now there)) → RestedTo now (place + 1) old (set new place slot)
-more_rested now place old new item slot inside is so_far rests = λ other. by_place other (other == place) refl
-  where
-    by_place : (other : ℕ) (here : Bool) → (other == place) ≡ here
-        → (other < place + 1 → (there : Option Course) → Fits (get_or old other None) there → Fits (get_or (set new place slot) other None) (rested now there)) × (place + 1 ≤ other → get_or (set new place slot) other None ≡ get_or old other None)
-    by_place other true is_here =
-        let same : other ≡ place = eqb-true other place is_here in (
-          λ less there fits.
-              subst (λ (n : ℕ). Fits (get_or (set new place slot) n None) (rested now there)) (sym same)
-              (subst (λ (kept : Option Talk). Fits kept (rested now there)) (sym (get_or-set_same new place slot None inside))
-              (rests there (subst (λ (kept : Option Talk). Fits kept there) (sym ((so_far place).1 (omega arith)) ∙ sym (get_or_read new place item inside is None) ∙ is) (subst (λ (n : ℕ). Fits (get_or old n None) there) same fits)))),
-          λ past. absurd (omega arith),
-        )
-    by_place other false is_here =
-        let differs : other ≢ place = eqb-false other place is_here in
-        let kept : get_or (set new place slot) other None ≡ get_or new other None = get_or-set_other new place other slot None differs in (
-          λ less there fits. subst (λ (slot : Option Talk). Fits slot (rested now there)) (sym kept) ((so_far other).0 (omega arith) there fits),
-          λ past. kept ∙ (so_far other).1 (omega arith),
-        )
-
-pub all_rested : (now place : ℕ) (old new : List (Option Talk)) → length old ≤ place → length new ≡ length old → RestedTo now place old new → (acts : History) (pause : ℕ) → FitAll old acts → FitAll new (At pause now ∷ acts)
-all_rested now place old new end size all acts pause fit = λ other. by_size other (cases_lt other place)
-  where
-    by_size : (other : ℕ) → (other < place) ⊎ (place ≤ other) → Fits (get_or new other None) (rested now (course acts other))
-    by_size other (inl less) = (all other).0 less (course acts other) (fit other)
-    by_size other (inr past) =
-        let none : course acts other ≡ None = fits_none (course acts other) (subst (λ (slot : Option Talk). Fits slot (course acts other)) (get_or_past old other None (omega arith)) (fit other)) in
-        subst (λ (slot : Option Talk). Fits slot (rested now (course acts other))) (sym (get_or_past new other None (omega arith))) (rw none tt)
 
 begins_at : (acts : History) (pause now : ℕ) → Begins now acts (At pause now ∷ acts)
 begins_at acts pause now = record {
