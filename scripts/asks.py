@@ -296,12 +296,19 @@ class Asked:
         kept = [f"{word[signed.write() in own]} {signed.write().hex()}" for signed in self.client.promises]
         marks = {}
         for monitor in self.monitors:
-            following = monitor.next_epoch()
-            epoch = self.client.head().epoch if following is None else self.client.chain.at(following).body.previous_epoch
+            chain, following = monitor.client.chain, monitor.next_epoch()
+            epoch = monitor.client.head().epoch if following is None else chain.at(following).body.previous_epoch
             marks[monitor.name] = min(epoch, marks.get(monitor.name, epoch))
+        marks = {**self.marks, **marks}
         kept += [f"watched {name.hex()} {epoch}" for name, epoch in marks.items()]
-        watched = {monitor.name for monitor in self.monitors}
-        kept += [f"watched {name.hex()} {epoch}" for name, epoch in self.marks.items() if name not in watched]
+        # A change is expected until its name was watched above the promise.
+        left = {signed.write() for signed in self.client.promises}
+        awaited = [
+            signed
+            for signed in [*self.earlier, *self.changes]
+            if signed.write() not in left and marks.get(signed.promise.name, MAX_EPOCH + 1) <= signed.promise.epoch
+        ]
+        kept += [f"change {signed.write().hex()}" for signed in awaited]
         return [root.write().hex() for root in self.client.chain.roots], kept
 
     def run(self, script):
@@ -476,12 +483,27 @@ def forgetful(_place, _seed):
     return lie
 
 
+def older_first(place, _seed):
+    """From this reply on, a list of roots has the directory's first root in front, which a client passes over as known."""
+
+    def lie(provider, _request, reply):
+        [(kind, body)], _, _ = split_frames(reply)
+        if kind != ROOTS or provider.count < place:
+            return reply
+        roots = read_response(kind, body)
+        if not 1 <= len(roots) < MAX_ROOTS or roots[0].body.epoch == 1:
+            return reply
+        return frame(ROOTS, write_list([provider.hub.directory.pages[0].root, *roots]))
+
+    return lie
+
+
 def nothing(_place, _seed):
     """No lie."""
     return None
 
 
-LIES = nothing, altered, altered, altered, cut, bad_length, replayed, forked, forgetful
+LIES = nothing, altered, altered, altered, cut, bad_length, replayed, forked, forgetful, older_first
 
 # Runs ---------------------------------------------------------------------------------------------------------
 
@@ -625,6 +647,58 @@ def lying(program, lies, seed):
         yield difference(f"{lie.__name__} {each}", program, lambda: lie(place, other), runs)
 
 
+def robbed_unseen():
+    """Somebody else changes the key of a watched name, and the list with the new root begins with an older one."""
+    older, robbed = older_first(1, 0), False
+
+    def lie(provider, request, reply):
+        nonlocal robbed
+        if request[4] == REQUEST_KINDS["lookup"] and not robbed:
+            robbed = True
+            provider.hub.open(1)
+            provider.hub.bytes(1, request_frame("change", b"a", b"ev"))
+        return older(provider, request, reply)
+
+    return lie
+
+
+def late_proof():
+    """The first proof of epoch 3 is altered."""
+    altered_once = False
+
+    def lie(_provider, request, reply):
+        nonlocal altered_once
+        if altered_once or request[4] != REQUEST_KINDS["lookup"] or read_response(reply[4], reply[5:]).body.epoch != 3:
+            return reply
+        altered_once = True
+        return reply[:-1] + bytes([reply[-1] ^ 1])
+
+    return lie
+
+
+WATCH = ["watch", "61", "6b31"]
+STORED_LIES = {
+    # The mark is no further than the chain of the monitor, so the next run finds the change.
+    "an epoch that no monitor looked at": (
+        robbed_unseen, [(b"register 61 6b31\nclose 2\nclose 3\nwatch 61 6b31\nclose 4\n", ()), (b"", WATCH)], ["alarm 61 4 6576"]),
+    # The change stays expected until it was watched, though its promise was tested.
+    "a change whose monitor was held up": (
+        late_proof, [(b"register 61 6b31\nclose 2\nwatch 61 6b31\nchange 61 6b32\nclose 3\n", ()), (b"", WATCH)], ["kept 61 3"]),
+}
+
+
+def stored_lies(program):
+    """Runs over one state in which a directory cheats, and what the last one has to print."""
+    for name, (make_lie, runs, last) in STORED_LIES.items():
+        yield difference(name, program, make_lie, runs)
+        provider, text = Provider(make_lie()), None
+        with tempfile.TemporaryDirectory() as folder:
+            for script, words in runs:
+                provider.begin()
+                text, _, _ = ran(program, provider, b"" if words else script, f"{folder}/state", words)
+        yield None if text == last else f"{name}: the last run wanted {last}, got {text}"
+
+
 def silent(program):
     """A directory that takes a connection, and says nothing."""
     with socket.create_server(("127.0.0.1", 0)) as listener:
@@ -725,7 +799,7 @@ def main():
     waited = []
     thread = threading.Thread(target=lambda: waited.append(silent(program)))
     thread.start()
-    found = [*honest(program, words.drawn, words.seed), *lying(program, words.lies, words.seed)]
+    found = [*honest(program, words.drawn, words.seed), *lying(program, words.lies, words.seed), *stored_lies(program)]
     thread.join()
     waited += [run(program) for run in OTHERS]
     failures = [difference for difference in [*found, *waited] if difference is not None]

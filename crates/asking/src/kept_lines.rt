@@ -1,10 +1,13 @@
 // What the second file of a state has, and what is left of it. While a run goes on lines are only appended. So a line
-// that no longer holds, as that of a promise which was tested or of an earlier mark, stays until the end of the run.
+// that no longer holds, as that of a promise which was tested or of an earlier mark, stays until the end of the run. The
+// promise of a change of a watched name is left until each monitor of the name has watched an epoch above it, also if it
+// was tested: a monitor that begins in a later run expects the change by it.
 
 use crate::Asker;
 use crate::asker::Mark;
 use crate::lines::{promise_text, push_mark, set_mark};
 use nodehash::NodeHash;
+use rootchain::SignedPromise;
 use sigiface::Verifier;
 use std::alloc::{AllocError, Global};
 use std::collections::BTreeSet;
@@ -29,6 +32,8 @@ pub(crate) struct KeptLines {
     /// The head, and how many monitors there were, when marks were last looked at.
     head: u64,
     monitors: usize,
+    /// Whether a mark is new since `settle`.
+    is_marked: bool,
 }
 
 impl KeptLines {
@@ -43,6 +48,7 @@ impl KeptLines {
             marks: Vec::new(alloc),
             head: 0,
             monitors: 0,
+            is_marked: false,
         }
     }
 
@@ -122,6 +128,7 @@ impl KeptLines {
             if set_mark(&mut self.marks, name, epoch)? {
                 let name = name.copied();
                 push_mark(&mut text, &Mark { name, epoch })?;
+                self.is_marked = true;
             }
         }
         self.monitors = asker.monitors.len();
@@ -129,7 +136,7 @@ impl KeptLines {
         Ok(text)
     }
 
-    /// Looks which promises are left, if some may have been tested since the last time.
+    /// Looks which promises are left, if some may have been tested, or names watched, since the last time.
     pub(crate) fn settle<H, V, S>(&mut self, asker: &Asker<H, V, S>) -> Result<(), AllocError>
     where
         H: NodeHash + Drop,
@@ -137,7 +144,8 @@ impl KeptLines {
         S: Verifier + Drop,
     {
         let count = asker.client.promises().len();
-        if asker.head() != self.head || count < self.count.saturating_add(self.added) {
+        let is_tested = count < self.count.saturating_add(self.added);
+        if asker.head() != self.head || is_tested || self.is_marked {
             self.head = asker.head();
             return self.count_left(asker);
         }
@@ -153,8 +161,9 @@ impl KeptLines {
         V: VufCheck + Drop,
         S: Verifier + Drop,
     {
+        let promises = asker.client.promises();
         let mut left = Vec::new(self.alloc);
-        for signed in asker.client.promises() {
+        for signed in promises {
             let change = promise_text(self.alloc, b"change ", signed)?;
             if self.promises.contains(&change) {
                 left.extend_from_slice(&change)?;
@@ -162,10 +171,22 @@ impl KeptLines {
                 left.extend_from_slice(&promise_text(self.alloc, b"promise ", signed)?)?;
             }
         }
+        for signed in asker.earlier.iter().chain(asker.changes.iter()) {
+            if self.is_awaited(signed) && promises.iter().all(|other| other != signed) {
+                left.extend_from_slice(&promise_text(self.alloc, b"change ", signed)?)?;
+            }
+        }
         self.left = left;
-        self.count = asker.client.promises().len();
+        self.count = promises.len();
         self.added = 0;
+        self.is_marked = false;
         Ok(())
+    }
+
+    /// Whether a promise is for a name that was watched, and not above its epoch.
+    fn is_awaited(&self, signed: &SignedPromise) -> bool {
+        let promise = &signed.promise;
+        self.marks.iter().any(|mark| mark.name == promise.name && mark.epoch <= promise.epoch)
     }
 
     /// What the file is to have, if it has lines that no longer hold.

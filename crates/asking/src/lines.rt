@@ -8,6 +8,7 @@ use crate::Asker;
 use crate::asker::Mark;
 use encoding::Name;
 use hex::FromHexError;
+use monitor::Monitor;
 use nodehash::NodeHash;
 use play::{next_line, push_hex, push_number};
 use rootchain::SignedPromise;
@@ -205,17 +206,10 @@ where
         let mut least = self.head();
         for monitor in self.monitors.iter() {
             if monitor.name() == name {
-                if let Some(epoch) = self.epoch_before(monitor.next_epoch()) {
-                    least = least.min(epoch);
-                }
+                least = least.min(watched_by(monitor));
             }
         }
         least
-    }
-
-    /// The epoch before one of the chain.
-    fn epoch_before(&self, next: Option<u64>) -> Option<u64> {
-        Some(self.client.chain().at(next?)?.body.previous_epoch)
     }
 
     /// Whether a promise is for a change of this client.
@@ -233,6 +227,24 @@ where
             b"promise "
         };
         promise_text(self.alloc, word, signed)
+    }
+}
+
+/// The last epoch up to which a monitor has watched each root of its chain. Its chain may end before the client's:
+/// a monitor refuses lists of roots that its client takes.
+fn watched_by<H, V, S>(monitor: &Monitor<H, V, S>) -> u64
+where
+    H: NodeHash + Drop,
+    V: VufCheck + Drop,
+    S: Verifier + Drop,
+{
+    let chain = monitor.client().chain();
+    match monitor.next_epoch() {
+        Some(next) => match chain.at(next) {
+            Some(root) => root.body.previous_epoch,
+            None => 0,
+        },
+        None => chain.head().body.epoch,
     }
 }
 
