@@ -5,7 +5,7 @@
 
 use crate::Asker;
 use crate::asker::Mark;
-use crate::lines::{promise_text, push_mark, set_mark};
+use crate::lines::{is_awaited, promise_text, push_mark, set_mark};
 use nodehash::NodeHash;
 use rootchain::SignedPromise;
 use sigiface::Verifier;
@@ -17,38 +17,39 @@ use vrfiface::VufCheck;
 #[derive(Drop)]
 pub(crate) struct KeptLines {
     alloc: Global,
-    /// How many bytes the file has.
-    size: usize,
-    /// Its lines of promises, each with its LF.
+    /// How many bytes the file has, if that is known.
+    size: Option<usize>,
+    /// Its lines of promises, each with its LF, and those of them that are left.
     promises: BTreeSet<Vec<u8>>,
-    /// Those of the promises that are left, in their order.
-    left: Vec<u8>,
-    /// How many promises are left.
+    left: BTreeSet<Vec<u8>>,
+    /// How many promises the client keeps, and how many of them are new, as of `settle`.
     count: usize,
-    /// How many of them are new since `settle`.
     added: usize,
+    /// Whether a promise is left that the client no longer keeps.
+    has_awaited: bool,
     /// How far names were watched.
     marks: Vec<Mark>,
     /// The head, and how many monitors there were, when marks were last looked at.
     head: u64,
     monitors: usize,
-    /// Whether a mark is new since `settle`.
-    is_marked: bool,
+    /// Whether a new mark may change which promises are left.
+    is_stale: bool,
 }
 
 impl KeptLines {
     pub(crate) fn new(alloc: Global) -> Self {
         KeptLines {
             alloc,
-            size: 0,
+            size: Some(0),
             promises: BTreeSet::new(alloc),
-            left: Vec::new(alloc),
+            left: BTreeSet::new(alloc),
             count: 0,
             added: 0,
+            has_awaited: false,
             marks: Vec::new(alloc),
             head: 0,
             monitors: 0,
-            is_marked: false,
+            is_stale: false,
         }
     }
 
@@ -70,8 +71,18 @@ impl KeptLines {
             let _new = set_mark(&mut self.marks, &mark.name, mark.epoch)?;
         }
         self.head = asker.head();
-        self.size = size;
-        self.count_left(asker)
+        self.count_left(asker)?;
+        self.size = Some(size);
+        Ok(())
+    }
+
+    /// Forgets how many bytes the file has: a write to it failed.
+    pub(crate) fn forget_size(&mut self) {
+        self.size = None;
+    }
+
+    fn grow(&mut self, count: usize) {
+        self.size = self.size.map(|size| size.saturating_add(count));
     }
 
     /// The lines of the promises that the file does not have yet.
@@ -88,7 +99,10 @@ impl KeptLines {
         // New promises stand at the end of the list.
         let mut known = promises.len();
         for signed in promises.iter().rev() {
-            if self.promises.contains(&asker.promise_line(signed)?) {
+            let line = asker.promise_line(signed)?;
+            if self.promises.contains(&line) {
+                // It may be one that was tested, and was given once more.
+                let _new = self.left.insert(line)?;
                 break;
             }
             known = known.saturating_sub(1);
@@ -97,11 +111,11 @@ impl KeptLines {
         for signed in promises.iter().skip(known) {
             let line = asker.promise_line(signed)?;
             text.extend_from_slice(&line)?;
+            let _new = self.left.insert(line.clone()?)?;
             let _new = self.promises.insert(line)?;
             self.added = self.added.saturating_add(1);
         }
-        self.left.extend_from_slice(&text)?;
-        self.size = self.size.saturating_add(text.len());
+        self.grow(text.len());
         Ok(text)
     }
 
@@ -127,12 +141,13 @@ impl KeptLines {
             let epoch = asker.watched(name);
             if set_mark(&mut self.marks, name, epoch)? {
                 let name = name.copied();
-                push_mark(&mut text, &Mark { name, epoch })?;
-                self.is_marked = true;
+                let mark = Mark { name, epoch };
+                push_mark(&mut text, &mark)?;
+                self.is_stale = self.is_stale || self.has_awaited || asker.awaits(&mark);
             }
         }
         self.monitors = asker.monitors.len();
-        self.size = self.size.saturating_add(text.len());
+        self.grow(text.len());
         Ok(text)
     }
 
@@ -145,7 +160,7 @@ impl KeptLines {
     {
         let count = asker.client.promises().len();
         let is_tested = count < self.count.saturating_add(self.added);
-        if asker.head() != self.head || is_tested || self.is_marked {
+        if asker.head() != self.head || is_tested || self.is_stale {
             self.head = asker.head();
             return self.count_left(asker);
         }
@@ -154,7 +169,7 @@ impl KeptLines {
         Ok(())
     }
 
-    /// Takes the lines of the promises that are left.
+    /// Takes the lines of the promises that are left: those that the client keeps, and those that monitors still need.
     fn count_left<H, V, S>(&mut self, asker: &Asker<H, V, S>) -> Result<(), AllocError>
     where
         H: NodeHash + Drop,
@@ -162,40 +177,47 @@ impl KeptLines {
         S: Verifier + Drop,
     {
         let promises = asker.client.promises();
-        let mut left = Vec::new(self.alloc);
+        let mut left = BTreeSet::new(self.alloc);
         for signed in promises {
             let change = promise_text(self.alloc, b"change ", signed)?;
-            if self.promises.contains(&change) {
-                left.extend_from_slice(&change)?;
+            let line = if self.promises.contains(&change) {
+                change
             } else {
-                left.extend_from_slice(&promise_text(self.alloc, b"promise ", signed)?)?;
-            }
+                promise_text(self.alloc, b"promise ", signed)?
+            };
+            let _new = left.insert(line)?;
         }
+        let mut has_awaited = false;
         for signed in asker.earlier.iter().chain(asker.changes.iter()) {
-            if self.is_awaited(signed) && promises.iter().all(|other| other != signed) {
-                left.extend_from_slice(&promise_text(self.alloc, b"change ", signed)?)?;
+            if self.is_awaited(signed) && !asker.keeps(signed) {
+                let _new = left.insert(promise_text(self.alloc, b"change ", signed)?)?;
+                has_awaited = true;
             }
         }
         self.left = left;
+        self.has_awaited = has_awaited;
         self.count = promises.len();
         self.added = 0;
-        self.is_marked = false;
+        self.is_stale = false;
         Ok(())
     }
 
     /// Whether a promise is for a name that was watched, and not above its epoch.
     fn is_awaited(&self, signed: &SignedPromise) -> bool {
-        let promise = &signed.promise;
-        self.marks.iter().any(|mark| mark.name == promise.name && mark.epoch <= promise.epoch)
+        self.marks.iter().any(|mark| is_awaited(signed, mark))
     }
 
     /// What the file is to have, if it has lines that no longer hold.
     pub(crate) fn rest(&self) -> Result<Option<Vec<u8>>, AllocError> {
-        let mut text = self.left.clone()?;
+        let mut text = Vec::new(self.alloc);
+        for line in self.left.iter() {
+            text.extend_from_slice(line)?;
+        }
         for mark in self.marks.iter() {
             push_mark(&mut text, mark)?;
         }
-        if text.len() == self.size {
+        // The file has at least these lines, so that it has no other ones where it is as long.
+        if self.size == Some(text.len()) {
             return Ok(None);
         }
         Ok(Some(text))

@@ -1,5 +1,5 @@
 // The lines of the files in which a client's chain and what it keeps are stored between runs.
-ghost use Rattle.std.specs.Prelude.{◌≡◌, IfErr, IfOk, OnOk};
+ghost use Rattle.std.specs.Prelude.{◌≡◌, ◌↔◌, ◌≤◌, IfErr, IfOk, IsTrue, OnOk};
 ghost use Rattle.asking.specs.RunFaults.{IsFaultOfState};
 ghost use Rattle.client.specs.Clients.{with_promise};
 ghost use Rattle.asking.specs.Runs.{IsSameAsker, StillKeeps};
@@ -219,6 +219,22 @@ where
             || self.earlier.iter().any(|own| own == signed)
     }
 
+    /// Whether the client keeps a promise.
+    pub(crate) fn keeps(&self, signed: &SignedPromise) -> bool {
+        self.client.promises().iter().any(|kept| kept == signed)
+    }
+
+    /// Whether monitors of a name still need a promise that the client no longer keeps.
+    pub(crate) fn awaits(&self, mark: &Mark) -> bool {
+        self.earlier
+            .iter()
+            .any(|signed| is_awaited(signed, mark) && !self.keeps(signed))
+            || self
+                .changes
+                .iter()
+                .any(|signed| is_awaited(signed, mark) && !self.keeps(signed))
+    }
+
     /// The line of a promise.
     pub(crate) fn promise_line(&self, signed: &SignedPromise) -> Result<Vec<u8>, AllocError> {
         let word: &[u8] = if self.is_own(signed) {
@@ -228,6 +244,13 @@ where
         };
         promise_text(self.alloc, word, signed)
     }
+}
+
+/// Whether a promise is for the name of a mark, which has not passed its epoch.
+pub(crate) fn is_awaited(signed: &SignedPromise, mark: &Mark) -> bool
+    ensures { IsTrue result ↔ ((mark.now.name ≡ (signed.now).promise.name) × (mark.now.epoch ≤ (signed.now).promise.epoch)) }
+{
+    mark.name == signed.promise.name && mark.epoch <= signed.promise.epoch
 }
 
 /// The last epoch up to which a monitor has watched each root of its chain. Its chain may end before the client's:

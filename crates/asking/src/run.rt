@@ -240,7 +240,7 @@ where
     }
 
     /// Leaves the files of the state without lines that no longer hold. Returns what came of the questions, or the fault
-    /// of this if all was asked.
+    /// of this if all was asked: after another fault the files have at least what they are to have.
     fn leave(&mut self, asked: Result<(), RunFault>) -> Result<(), RunFault>
         ensures ok { OnOk result (asked ≡ Ok tt) }
         ensures err { IfErr result (λ fault. (asked ≡ Err fault) ⊎ ((asked ≡ Ok tt) × StopsOr IsFaultOfSaving fault)) }

@@ -19,6 +19,7 @@ use play::push_number;
 use sigiface::Verifier;
 use std::alloc::{AllocError, Global};
 use std::fs::{File, Files};
+use std::io::ErrorKind;
 use textio::{ProgramFault, read_whole};
 use vrfiface::VufCheck;
 
@@ -98,6 +99,14 @@ fn drop_rest(
     what.extend_from_slice(b" bytes cut off")?;
     tell_file(said, path, &what)?;
     cut(&read.file, whole)
+}
+
+/// Whether there is a file of this path.
+fn is_there<F: Files<File = File>>(files: &F, path: &str) -> bool {
+    match files.metadata(path) {
+        Ok(_) => true,
+        Err(error) => error.kind() != ErrorKind::NotFound,
+    }
 }
 
 /// Opens the file of the roots, made empty if it is not there, locks it, and reads it.
@@ -224,6 +233,9 @@ impl<'a> State<'a> {
         ensures said { report_of said.new ≡ report_of said.old }
         ensures err { IfErr result IsFaultOfState }
     {
+        if is_there(files, self.beside.as_str()) && !is_there(files, self.path) {
+            return Err(fault_in(self.path, ProgramFault::BadItem(1), said));
+        }
         let roots = open_roots(alloc, files, self.path, said)?;
         let second = open_second(alloc, files, self.beside.as_str())?;
         let lines = whole_lines(&roots.bytes);
@@ -338,6 +350,10 @@ impl<'a> State<'a> {
     ) -> Result<(), ProgramFault>
         ensures { IfErr result IsFaultOfSaving }
     {
+        // If the state was not loaded, the file has what this run does not know.
+        if self.roots.is_none() {
+            return Ok(());
+        }
         match self.lines.rest()? {
             Some(text) => replace(alloc, files, self.beside.as_str(), &text),
             None => Ok(()),
@@ -363,6 +379,9 @@ impl<'a> State<'a> {
             },
         };
         let written = append(&mut file, lines);
+        if written.is_err() {
+            self.lines.forget_size();
+        }
         self.kept = Some(file);
         written
     }

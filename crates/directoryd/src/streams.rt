@@ -8,8 +8,8 @@ use std::os::fd::AsRawFd;
 /// How many standard streams there are: input, output and errors, with the descriptors 0, 1 and 2.
 const STREAMS: usize = 3;
 
-/// Opens /dev/null in the place of each standard stream that is closed. Each stays open as long as what is returned.
-/// Called before anything else is opened.
+/// Opens /dev/null for each standard stream that is closed: a file gets the lowest descriptor that is free. Each stays
+/// open as long as what is returned. Called before anything else is opened.
 ///
 /// # Errors
 ///
@@ -22,7 +22,7 @@ pub(crate) fn hold_streams<F: Files<File = File>>(
     options.read(true).write(true);
     for place in 0..STREAMS {
         let file = options.open(files, "/dev/null")?;
-        // The lowest descriptor that is free is taken first.
+        // All standard streams are open.
         if file.as_raw_fd() >= STREAMS as i32 {
             break;
         }

@@ -5,7 +5,7 @@ ghost use Rattle.textio.specs.declared.program_fault.ProgramFault.TheVariants.{C
 use crate::opening::{OWNER_ALONE, sync_folder};
 use std::alloc::Global;
 use std::fs::{self, File, Files, OpenOptions};
-use std::io::{self, Write};
+use std::io::{self, ErrorKind, Write};
 use std::os::unix::fs::OpenOptionsExt;
 use textio::{ProgramFault, write_text};
 
@@ -64,7 +64,11 @@ pub fn replace<F: Files<File = File>>(
     let _removed = fs::remove_file(files, beside.as_str());
     match write_new(files, path, beside.as_str(), bytes) {
         Ok(()) => Ok(()),
-        Err(_) => Err(ProgramFault::CannotWrite),
+        Err(_) => {
+            // It would take room on a disk that is full.
+            let _removed = fs::remove_file(files, beside.as_str());
+            Err(ProgramFault::CannotWrite)
+        }
     }
 }
 
@@ -79,8 +83,13 @@ fn write_new<F: Files<File = File>>(
     options.write(true).create_new(true);
     options.mode(OWNER_ALONE);
     let mut file = options.open(files, beside)?;
-    if let Ok(replaced) = files.metadata(path) {
-        file.set_permissions(replaced.permissions())?;
+    match files.metadata(path) {
+        Ok(replaced) => file.set_permissions(replaced.permissions())?,
+        Err(error) => {
+            if error.kind() != ErrorKind::NotFound {
+                return Err(error);
+            }
+        }
     }
     file.write_all(bytes)?;
     file.sync_all()?;
