@@ -676,14 +676,14 @@ def late_proof():
     return lie
 
 
-WATCH = ["watch", "61", "6b31"]
+WATCH = b"watch 61 6b31", ["watch", "61", "6b31"]
 STORED_LIES = {
     # The mark is no further than the chain of the monitor, so the next run finds the change.
     "an epoch that no monitor looked at": (
-        robbed_unseen, [(b"register 61 6b31\nclose 2\nclose 3\nwatch 61 6b31\nclose 4\n", ()), (b"", WATCH)], ["alarm 61 4 6576"]),
+        robbed_unseen, [(b"register 61 6b31\nclose 2\nclose 3\nwatch 61 6b31\nclose 4\n", ()), WATCH], ["alarm 61 4 6576"]),
     # The change stays expected until it was watched, though its promise was tested.
     "a change whose monitor was held up": (
-        late_proof, [(b"register 61 6b31\nclose 2\nwatch 61 6b31\nchange 61 6b32\nclose 3\n", ()), (b"", WATCH)], ["kept 61 3"]),
+        late_proof, [(b"register 61 6b31\nclose 2\nwatch 61 6b31\nchange 61 6b32\nclose 3\n", ()), WATCH], ["kept 61 3"]),
 }
 
 

@@ -68,14 +68,16 @@ def expected(provider, state, script):
     return model.text, stages
 
 
-def lost(state, before, printed, text, stages):
+def lost(state, before, printed, text, stages, is_told):
     """What is wrong in the files after a run that stopped before its end, or None: FILE had these bytes before, and
-    these lines were printed of the text."""
+    these lines were printed of the text. If it told that it cannot write, the last line need not be kept."""
     if printed != text[: len(printed)]:
         return f"printed {printed}, wanted {text}"
     reached = [place for place, stage in enumerate(stages) if stage.printed <= len(printed)][-1]
     # Of a stage without a line nobody knows whether it is over.
     first = next(place for place in range(reached, -1, -1) if place == 0 or stages[place].printed > stages[place - 1].printed)
+    if is_told:
+        first = max((place for place in range(first) if stages[place].printed < stages[first].printed), default=0)
     could_be = stages[first : reached + 2]
     roots, kept = files_of(state)
     now = remembered(0, roots, kept)
@@ -176,7 +178,7 @@ class Life:
         printed, errors, status = stopped(program, self.provider, self.state, script, **how)
         if not is_end(errors, status):
             return False, f"status {status}, {errors}"
-        wrong = lost(self.state, before, printed, text, stages)
+        wrong = lost(self.state, before, printed, text, stages, errors[-1:] == ["cannot write"])
         if wrong is None:
             wrong = self.run(program, b"head\n" + self.script())
             wrong = wrong and f"the next run: {wrong}"
