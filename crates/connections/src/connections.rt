@@ -31,18 +31,21 @@ pub enum Writing {
 /// waits for a peer, and none but `sync` for a disk.
 ///
 /// `wait`, `is_stopped`, `close` and `sync` are passed the sessions. Their clauses hold of a history that leads to
-/// the sessions as they are then, so what was done to sessions before such a call stands before its act.
-pub trait Connections {
+/// the sessions as they are then, so what was done to sessions before such a call stands before its act. The type
+/// of the sessions is a parameter of the trait, so that code which is generic over both cannot pass sessions of
+/// a type of its own. `take`, `read` and `write` are not passed them, and say nothing of how what was done to
+/// sessions stands to their acts: what they read and write depends on what the sessions heard and answered.
+pub trait Connections<S: Sessions> {
     // These acts have happened, the latest first. Of what happens to sessions it says nothing.
     ghost has: { Self → List Act → Type 0 };
 
     /// Waits until a connection may be taken, read or written, or a stop may have been ordered, but for
     /// at most so many milliseconds. Returns the time, in milliseconds since some start.
-    fn wait<S: Sessions>(&mut self, sessions: &S, most: u64) -> u64
+    fn wait(&mut self, sessions: &S, most: u64) -> u64
         ensures { (start : S) (acts : List Act) → Leads S.opens S.refuses S.hears S.misses S.ends start acts sessions.now → has self.old acts → has self.new (At most result ∷ acts) };
 
     /// Whether a stop has been ordered.
-    fn is_stopped<S: Sessions>(&mut self, sessions: &S) -> bool
+    fn is_stopped(&mut self, sessions: &S) -> bool
         ensures yes { result ≡ true → (start : S) (acts : List Act) → Leads S.opens S.refuses S.hears S.misses S.ends start acts sessions.now → has self.old acts → has self.new (Ordered ∷ acts) }
         ensures no { result ≡ false → (start : S) (acts : List Act) → Leads S.opens S.refuses S.hears S.misses S.ends start acts sessions.now → has self.old acts → has self.new (GoesOn ∷ acts) };
 
@@ -70,11 +73,11 @@ pub trait Connections {
         ensures fault { result ≡ Writing.Fault → (acts : List Act) → has self.old acts → has self.new (On place Fails ∷ acts) };
 
     /// Closes the connection at a place, which is free again.
-    fn close<S: Sessions>(&mut self, sessions: &S, place: usize, why: Ending)
+    fn close(&mut self, sessions: &S, place: usize, why: Ending)
         ensures { (start : S) (acts : List Act) → Leads S.opens S.refuses S.hears S.misses S.ends start acts sessions.now → has self.old acts → has self.new (On place (Closes why) ∷ acts) };
 
     /// Puts on its disk what the answers so far tell of, and says whether it is there.
-    fn sync<S: Sessions>(&mut self, sessions: &S) -> bool
+    fn sync(&mut self, sessions: &S) -> bool
         ensures { (start : S) (acts : List Act) → Leads S.opens S.refuses S.hears S.misses S.ends start acts sessions.now → has self.old acts → has self.new (Syncs result ∷ acts) };
 
     // What happens to a session leaves the connections as they are.

@@ -67,7 +67,7 @@ pub(crate) fn rest_all(places: &mut [Option<Talk>], now: u64)
 }
 
 /// Takes connections that wait into the free places, at most so many. Returns how many more may be taken.
-pub(crate) fn take_all<S: Sessions, C: Connections>(
+pub(crate) fn take_all<S: Sessions, C: Connections<S>>(
     alloc: Global,
     places: &mut [Option<Talk>],
     sessions: &mut S,
@@ -107,7 +107,7 @@ pub(crate) fn take_all<S: Sessions, C: Connections>(
 }
 
 /// Reads and hears each connection.
-pub(crate) fn hear_all<S: Sessions, C: Connections>(
+pub(crate) fn hear_all<S: Sessions, C: Connections<S>>(
     alloc: Global,
     places: &mut [Option<Talk>],
     sessions: &mut S,
@@ -137,7 +137,7 @@ pub(crate) fn hear_all<S: Sessions, C: Connections>(
 }
 
 /// Tells each connection, and closes those whose time it is.
-pub(crate) fn tell_all<S: Sessions, C: Connections>(
+pub(crate) fn tell_all<S: Sessions, C: Connections<S>>(
     alloc: Global,
     places: &mut [Option<Talk>],
     sessions: &mut S,

@@ -21,7 +21,7 @@ use std::io::Write;
 use textio::{PIECE_SIZE, write_text};
 
 /// When a stop was ordered, if one was by now, where this was known before.
-fn stop_by<S: Sessions, C: Connections>(
+fn stop_by<S: Sessions, C: Connections<S>>(
     sessions: &S,
     connections: &mut C,
     now: u64,
@@ -41,7 +41,7 @@ fn stop_by<S: Sessions, C: Connections>(
 }
 
 /// Takes new connections, unless a stop was ordered. Returns how many more may be taken.
-fn take_new<S: Sessions, C: Connections>(
+fn take_new<S: Sessions, C: Connections<S>>(
     alloc: Global,
     places: &mut [Option<Talk>],
     sessions: &mut S,
@@ -62,7 +62,7 @@ fn take_new<S: Sessions, C: Connections>(
 }
 
 /// Reads and hears each connection, unless a stop was ordered.
-fn hear_new<S: Sessions, C: Connections>(
+fn hear_new<S: Sessions, C: Connections<S>>(
     alloc: Global,
     places: &mut [Option<Talk>],
     sessions: &mut S,
@@ -150,7 +150,7 @@ fn is_finished(state: State, places: &[Option<Talk>]) -> bool
 }
 
 /// Begins a round: waits, and asks whether a stop was ordered. By then the last round is over.
-fn begin<S: Sessions, C: Connections>(
+fn begin<S: Sessions, C: Connections<S>>(
     places: &mut [Option<Talk>],
     sessions: &S,
     connections: &mut C,
@@ -174,7 +174,7 @@ fn begin<S: Sessions, C: Connections>(
 }
 
 /// One round.
-fn turn<S: Sessions, C: Connections>(
+fn turn<S: Sessions, C: Connections<S>>(
     alloc: Global,
     places: &mut [Option<Talk>],
     sessions: &mut S,
@@ -204,7 +204,7 @@ fn turn<S: Sessions, C: Connections>(
 
 /// Round after round, over places that are free, until no more connections are taken and those that were
 /// taken have ended.
-fn turn_all<S: Sessions, C: Connections, E: Write>(
+fn turn_all<S: Sessions, C: Connections<S>, E: Write>(
     alloc: Global,
     places: &mut [Option<Talk>],
     sessions: &mut S,
@@ -236,7 +236,7 @@ fn turn_all<S: Sessions, C: Connections, E: Write>(
 /// is sound: each connection takes a beginning of what its session was answered, in order, and is closed for
 /// a reason that holds; and each round gives each connection its turn, until the loop is over. A connection
 /// that is closed for want of memory is told of in a line to the errors.
-pub fn answer_all<S: Sessions, C: Connections, E: Write>(
+pub fn answer_all<S: Sessions, C: Connections<S>, E: Write>(
     alloc: Global,
     places: Places,
     sessions: &mut S,

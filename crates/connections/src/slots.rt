@@ -66,7 +66,7 @@ impl Work {
 }
 
 /// Ends the session of a connection, and closes it.
-fn close<S: Sessions, C: Connections>(
+fn close<S: Sessions, C: Connections<S>>(
     sessions: &mut S,
     connections: &mut C,
     place: usize,
@@ -91,7 +91,7 @@ pub(crate) fn rest_at(slot: &mut Option<Talk>, now: u64)
 
 /// Takes the next connection into a free place, if one waits, and says whether one did. If its session
 /// cannot be opened, it is closed.
-pub(crate) fn take_at<S: Sessions, C: Connections>(
+pub(crate) fn take_at<S: Sessions, C: Connections<S>>(
     alloc: Global,
     slot: &mut Option<Talk>,
     sessions: &mut S,
@@ -126,7 +126,7 @@ pub(crate) fn take_at<S: Sessions, C: Connections>(
 }
 
 /// Reads and hears the connection at a place.
-pub(crate) fn hear_at<S: Sessions, C: Connections>(
+pub(crate) fn hear_at<S: Sessions, C: Connections<S>>(
     alloc: Global,
     slot: &mut Option<Talk>,
     sessions: &mut S,
@@ -156,7 +156,7 @@ pub(crate) fn hear_at<S: Sessions, C: Connections>(
 }
 
 /// Tells the connection at a place, and closes it if it is time.
-pub(crate) fn tell_at<S: Sessions, C: Connections>(
+pub(crate) fn tell_at<S: Sessions, C: Connections<S>>(
     alloc: Global,
     slot: &mut Option<Talk>,
     sessions: &mut S,
@@ -181,7 +181,7 @@ pub(crate) fn tell_at<S: Sessions, C: Connections>(
 }
 
 /// Tells a connection, and says why it is to be closed, if it is.
-fn tell<C: Connections>(
+fn tell<S: Sessions, C: Connections<S>>(
     alloc: Global,
     talk: &mut Talk,
     connections: &mut C,

@@ -116,7 +116,7 @@ impl Talk {
 
     /// Reads a piece, if none waits and its answers have room, and has the session hear it. Says whether
     /// anything was done.
-    pub(crate) fn attend<S: Sessions, C: Connections>(
+    pub(crate) fn attend<S: Sessions, C: Connections<S>>(
         &mut self,
         alloc: Global,
         sessions: &mut S,
@@ -145,7 +145,11 @@ impl Talk {
     }
 
     /// Writes what the connection takes of the output, and says whether it took any.
-    fn write<C: Connections>(&mut self, connections: &mut C, place: usize) -> Result<bool, Ending>
+    fn write<S: Sessions, C: Connections<S>>(
+        &mut self,
+        connections: &mut C,
+        place: usize,
+    ) -> Result<bool, Ending>
         requires { self.old.output.items ≢ [] }
         ensures writes { (idle : ℕ) (acts : History) → Knows C.has idle connections.old acts → stage acts ≡ Telling true
             → Here (course acts place) (KeepsTalk self.old)
@@ -165,7 +169,7 @@ impl Talk {
     }
 
     /// Writes output, if there is any and it may leave. Says whether any left.
-    pub(crate) fn tell<C: Connections>(
+    pub(crate) fn tell<S: Sessions, C: Connections<S>>(
         &mut self,
         alloc: Global,
         connections: &mut C,

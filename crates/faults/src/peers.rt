@@ -216,7 +216,7 @@ impl<'a> Peers<'a> {
     }
 }
 
-impl Connections for Peers<'_> {
+impl<S: Sessions> Connections<S> for Peers<'_> {
     ghost use Rattle.std.specs.Prelude.{⊤};
 
     // What happens is told by the script, and contracts know nothing of it.
@@ -224,7 +224,7 @@ impl Connections for Peers<'_> {
 
     ghost passes = { λ _ _ _ _ _ _. tt };
 
-    fn wait<S: Sessions>(&mut self, _sessions: &S, most: u64) -> u64 {
+    fn wait(&mut self, _sessions: &S, most: u64) -> u64 {
         self.is_synced = true;
         if self.done >= self.script.len() {
             if most > 0 {
@@ -237,7 +237,7 @@ impl Connections for Peers<'_> {
         self.now
     }
 
-    fn is_stopped<S: Sessions>(&mut self, _sessions: &S) -> bool {
+    fn is_stopped(&mut self, _sessions: &S) -> bool {
         self.is_stopped
     }
 
@@ -273,7 +273,7 @@ impl Connections for Peers<'_> {
         }
     }
 
-    fn close<S: Sessions>(&mut self, _sessions: &S, place: usize, why: Ending) {
+    fn close(&mut self, _sessions: &S, place: usize, why: Ending) {
         if let Some(peer) = self.at(place) {
             peer.ending = Some(why);
         }
@@ -282,7 +282,7 @@ impl Connections for Peers<'_> {
         }
     }
 
-    fn sync<S: Sessions>(&mut self, _sessions: &S) -> bool {
+    fn sync(&mut self, _sessions: &S) -> bool {
         self.is_synced
     }
 }

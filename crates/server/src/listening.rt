@@ -72,7 +72,7 @@ fn answer_crowd<K, C, E>(
 )
 where
     K: Keeper + Drop,
-    C: Connections,
+    C: Connections<HubSessions<ServedDesk<K>>>,
     E: Write,
     requires { AreFree places }
     ensures tells { TellsMemory (E.contents errors.old) (E.contents errors.new) }
@@ -117,7 +117,7 @@ fn answer_ordered<K, C, E>(
 )
 where
     K: Keeper + Drop,
-    C: Connections,
+    C: Connections<HubSessions<ServedDesk<K>>>,
     E: Write,
     requires free { AreFree places }
     requires size { size_of places ≡ most_open (connections_of order) }

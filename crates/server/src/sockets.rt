@@ -259,7 +259,7 @@ impl<'a, N: Net + Clock, R: BufRead> Sockets<'a, N, R> {
     }
 }
 
-impl<N: Net + Clock, R: BufRead> Connections for Sockets<'_, N, R> {
+impl<N: Net + Clock, R: BufRead, S: Sessions> Connections<S> for Sockets<'_, N, R> {
     ghost use Rattle.std.specs.Prelude.{⊤};
 
     // Contracts do not know what happens to a socket.
@@ -267,7 +267,7 @@ impl<N: Net + Clock, R: BufRead> Connections for Sockets<'_, N, R> {
 
     ghost passes = { λ _ _ _ _ _ _. tt };
 
-    fn wait<S: Sessions>(&mut self, _sessions: &S, most: u64) -> u64 {
+    fn wait(&mut self, _sessions: &S, most: u64) -> u64 {
         let most = if self.stop.waits() { most } else { 0 };
         let timeout = Duration::from_millis(most);
         if self.poll.poll(&mut self.events, Some(timeout)).is_ok() {
@@ -276,7 +276,7 @@ impl<N: Net + Clock, R: BufRead> Connections for Sockets<'_, N, R> {
         millis_since(self.clock, self.start).unwrap_or(0)
     }
 
-    fn is_stopped<S: Sessions>(&mut self, _sessions: &S) -> bool {
+    fn is_stopped(&mut self, _sessions: &S) -> bool {
         self.stop.has_ended(self.poll.registry())
     }
 
@@ -319,7 +319,7 @@ impl<N: Net + Clock, R: BufRead> Connections for Sockets<'_, N, R> {
         }
     }
 
-    fn close<S: Sessions>(&mut self, _sessions: &S, place: usize, why: Ending) {
+    fn close(&mut self, _sessions: &S, place: usize, why: Ending) {
         let Some(slot) = self.places.get_mut(place) else {
             return;
         };
@@ -337,7 +337,7 @@ impl<N: Net + Clock, R: BufRead> Connections for Sockets<'_, N, R> {
         *slot = None;
     }
 
-    fn sync<S: Sessions>(&mut self, _sessions: &S) -> bool {
+    fn sync(&mut self, _sessions: &S) -> bool {
         match self.disk {
             Some(disk) => disk.sync().is_ok(),
             None => true,
