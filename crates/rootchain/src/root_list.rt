@@ -66,6 +66,16 @@ impl<'a> RootList<'a> {
         self.left
     }
 
+    /// The list once more: what is taken from one of the two stays in the other.
+    pub fn copied(&self) -> RootList<'a>
+        ensures { result ≡ self.now }
+    {
+        RootList {
+            left: self.left,
+            cursor: self.cursor.copied(),
+        }
+    }
+
     /// Takes the first root that is left, if there is one.
     pub fn next(&mut self) -> Option<SignedRoot>
         ensures { MatchOption result ((self.old ≡ []) × (self.new ≡ [])) (λ root. self.old ≡ root ∷ self.new) }
