@@ -1,27 +1,26 @@
 -- A line that was asked.
-use Rattle.std.proofs.Common.{◌≡◌, ◌∙◌, ◌-◌, ◌<◌, ◌++◌, ◌∷◌, [], ℕ, List, Option, Some, Result, Ok, Err, Global, Vec, arith, inl, inr, length, refl, rules, subst, sym}
+use Rattle.std.proofs.Common.{◌≡◌, ◌∙◌, ◌⊎◌, ◌-◌, ◌<◌, ◌≤◌, ◌++◌, ◌∷◌, [], ℕ, List, Option, Some, Result, Ok, Err, Global, Vec, ap, arith, inl, inr, length, refl, rules, subst, sym}
 use Rattle.std.specs.Prelude.{slice_get, OnOk}
-use Rattle.std.specs.List.{AllZip}
 use Rattle.std.proofs.lemmas.Option.{slice_get_cases}
 use Rattle.commands.specs.declared.edit.Verb.{Verb}
 use Rattle.rootchain.specs.Chains.{IsHead}
 use Rattle.rootchain.specs.declared.signed_promise.SignedPromise.{SignedPromise}
 use Rattle.rootchain.specs.declared.signed_root.SignedRoot.{SignedRoot}
+use Rattle.client.specs.Clients.{Client}
 use Rattle.monitor.specs.Monitors.{Monitor}
 use Rattle.wire.specs.Frames.{Frame}
-use Rattle.wire.specs.Requests.{RequestContent, Put}
+use Rattle.commands.specs.Operations.{Head}
+use Rattle.wire.specs.Requests.{RequestContent, Put, Query}
 use Rattle.play.specs.Scripts.{with_token}
 use Rattle.asking.specs.declared.asker.Asker.{Asker}
 use Rattle.asking.specs.declared.asker.Mark.{Mark}
 use Rattle.asking.specs.declared.said.Said.{Said}
-use Rattle.asking.specs.Asking.{AsksDirectory, CatchesUp, GoesOnAbove, Hands, HandsTo, Notes, SpeaksOf}
+use Rattle.asking.specs.Asking.{AsksDirectory, CatchesUp, FindsHead, GetsReply, GoesOnAbove, Hands, HandsAll, Notes, SpeaksOf}
 use Rattle.asking.specs.Checking.{HearsFrame}
-use Rattle.asking.specs.Scenes.{scene}
-use Rattle.asking.specs.Reports.{Report, Tells}
+use Rattle.asking.specs.Scenes.{scene, Scene}
+use Rattle.asking.specs.Reports.{Report, Tells, report_of, silent, told_after, unless_fine}
 use Rattle.asking.proofs.Going.{told_onto}
-
-one-promise : (x y : SignedPromise) (o : Option SignedPromise) → o ≡ Some x → o ≡ Some y → x ≡ y
-one-promise x y o one other = search (rules, sym one ∙ other)
+use Rattle.asking.proofs.Handed.{hands_none, told_silent}
 
 -- a list that is not empty has a last element
 last-of : {X : Type 0} (xs : List X) → 0 < length xs → (x : X) × (slice_get xs (length xs - 1) ≡ Some x)
@@ -49,49 +48,95 @@ notes_as asked before after first noted noted' last old new notes =
     subst (λ (all : Vec SignedPromise Global). Notes asked before after first.items all.items) (sym new) from
 
 module _ (hash : List ℕ → List ℕ) (accepted verified : List ℕ → List ℕ → List ℕ → Type 0) where
-  -- the last promise was handed out, whichever it is called
-  pub hands_last : {A E : Type 0} (result : Result A E) (last : Option SignedPromise) (own : SignedPromise) (promise : List ℕ) (before given after back : List Monitor) → last ≡ Some own → given ≡ before
-      → back ≡ after → OnOk result (AllZip (HandsTo hash accepted verified own promise) given after)
-      → OnOk result ((signed : SignedPromise) → last ≡ Some signed → AllZip (HandsTo hash accepted verified signed promise) before back)
-  hands_last (Ok done) last own promise before given after back is old same zip =
-      λ signed named.
-      let one : own ≡ signed = one-promise own signed last is named in
-      let behind = subst (λ (ms : List Monitor). AllZip (HandsTo hash accepted verified own promise) given ms) (sym same) zip in
-      let from = subst (λ (ms : List Monitor). AllZip (HandsTo hash accepted verified own promise) ms back) old behind in
-      subst (λ (p : SignedPromise). AllZip (HandsTo hash accepted verified p promise) before back) one from
-  hands_last (Err fault) last own promise before given after back is old same zip = tt
-
-  -- and it is one that was kept
-  pub hands_kept : {A E : Type 0} (result : Result A E) (asked : RequestContent) (promise : List ℕ) (before kept after : List SignedPromise) (given back : List Monitor) → IsPut asked
-      → length before < length kept → after ≡ kept
-      → OnOk result ((signed : SignedPromise) → slice_get kept (length kept - 1) ≡ Some signed → AllZip (HandsTo hash accepted verified signed promise) given back)
-      → OnOk result (Hands hash accepted verified asked promise before after given back)
-  hands_kept (Ok done) asked promise before kept after given back (verb, name, key, put) more same hands =
+  -- a promise for a change was kept and handed out, and what the monitors refuse was told behind it
+  pub hands_kept : {A E : Type 0} (result : Result A E) (held : ℕ) (asked : RequestContent) (frame : Frame) (client after : Client) (kept : List SignedPromise) (given back : List Monitor) (told : Report) (said middle said' : Said)
+      → IsPut asked → length client.promises < length kept → after.promises ≡ kept → HearsFrame hash accepted verified held client asked frame told after → Tells said told middle
+      → OnOk result ((signed : SignedPromise) → slice_get kept (length kept - 1) ≡ Some signed → (handed : Report) × HandsAll hash accepted verified signed frame.body given silent handed back × Tells middle handed said')
+      → OnOk result ((told : Report) × (handed : Report) × HearsFrame hash accepted verified held client asked frame told after
+      × Hands hash accepted verified asked frame.body client.promises after.promises given handed back × (report_of said' ≡ told_after (told_after (report_of said) told) handed))
+  hands_kept (Ok done) held asked frame client after kept given back told said middle said' (verb, name, key, put) more same hears tells hands =
       let last = last-of kept (omega (arith, more)) in
-      let of_last : Hands hash accepted verified (Put verb name key) promise before kept given back = inr (more, (last.0, last.1, hands last.0 last.1)) in
-      let of_all = subst (λ (all : List SignedPromise). Hands hash accepted verified (Put verb name key) promise before all given back) (sym same) of_last in
-      subst (λ (r : RequestContent). Hands hash accepted verified r promise before after given back) (sym put) of_all
-  hands_kept (Err fault) asked promise before kept after given back put more same hands = tt
+      let (handed, all, tells') = hands last.0 last.1 in
+      let of_last : Hands hash accepted verified (Put verb name key) frame.body client.promises kept given handed back = inr (more, (last.0, last.1, all)) in
+      let of_all = subst (λ (promises : List SignedPromise). Hands hash accepted verified (Put verb name key) frame.body client.promises promises given handed back) (sym same) of_last in (
+        told,
+        handed,
+        hears,
+        subst (λ (r : RequestContent). Hands hash accepted verified r frame.body client.promises after.promises given handed back) (sym put) of_all,
+        told_onto middle said' handed tells' ∙ ap (λ (r : Report). told_after r handed) (told_onto said middle told tells),
+      )
+  hands_kept (Err fault) held asked frame client after kept given back told said middle said' put more same hears tells hands = tt
+
+  -- none was handed out
+  pub heard_only : (held : ℕ) (asked : RequestContent) (frame : Frame) (client after : Client) (monitors : List Monitor) (told : Report) (said said' : Said)
+      → (¬ IsPut asked) ⊎ (length after.promises ≤ length client.promises) → HearsFrame hash accepted verified held client asked frame told after → Tells said told said'
+      → (told : Report) × (handed : Report) × HearsFrame hash accepted verified held client asked frame told after
+      × Hands hash accepted verified asked frame.body client.promises after.promises monitors handed monitors × (report_of said' ≡ told_after (told_after (report_of said) told) handed)
+  heard_only held asked frame client after monitors told said said' none hears tells = (
+    told,
+    silent,
+    hears,
+    hands_none hash accepted verified asked frame.body client.promises after.promises monitors none,
+    told_onto said said' told tells ∙ sym (told_silent (told_after (report_of said) told)),
+  )
+
+  -- a frame came back for what was asked when the chain had a head of an epoch
+  pub reply_to : {T : Type 0} (exchanged : T → RequestContent → Frame → T → Type 0) (token : List ℕ) (asked : RequestContent) (before : Scene T) (sent : T) (frame : Frame) (head : SignedRoot) (low epoch : ℕ)
+      → IsHead before.client.chain head → low ≡ head.body.epoch → exchanged before.stream (with_token token asked) frame sent → SpeaksOf low asked frame epoch → GetsReply exchanged token asked before
+  reply_to exchanged token asked before sent frame head low epoch is at exchange speaks = record {
+    head = head;
+    is = is;
+    frame = frame;
+    stream = sent;
+    exchange = exchange;
+    epoch = epoch;
+    speaks = subst (λ (n : ℕ). SpeaksOf n asked frame epoch) at speaks;
+  }
 
   -- the steps of a question, in their order
   pub asks_all : {A E H V S T : Type 0} (exchanged : T → RequestContent → Frame → T → Type 0) (result : Result A E) (first ready heard last : Asker H V S) (said caught told_to said' : Said)
-      (stream sent later end : T) (asked : RequestContent) (frame : Frame) (head : SignedRoot) (low epoch : ℕ) (told : Report)
-      → IsHead first.client.chain head → low ≡ head.body.epoch → exchanged stream (with_token first.token asked) frame sent → SpeaksOf asked frame epoch
+      (stream sent later end : T) (asked : RequestContent) (frame : Frame) (head : SignedRoot) (low epoch : ℕ) (told handed : Report)
+      → IsHead first.client.chain head → low ≡ head.body.epoch → exchanged stream (with_token first.token asked) frame sent → SpeaksOf low asked frame epoch
       → CatchesUp hash accepted verified exchanged epoch (scene first said sent) (scene ready caught later)
-      → HearsFrame hash accepted verified ready.client asked frame told heard.client → Tells caught told told_to
-      → Hands hash accepted verified asked frame.body ready.client.promises heard.client.promises ready.monitors.items heard.monitors.items
+      → HearsFrame hash accepted verified low ready.client asked frame told heard.client
+      → Hands hash accepted verified asked frame.body ready.client.promises heard.client.promises ready.monitors.items handed heard.monitors.items
+      → report_of told_to ≡ told_after (told_after (report_of caught) told) handed
       → Notes asked ready.client.promises heard.client.promises first.changes.items last.changes.items → heard.marks ≡ first.marks
       → OnOk result (GoesOnAbove hash accepted verified exchanged heard.marks.items low (scene heard told_to later) (scene last said' end))
       → OnOk result (AsksDirectory hash accepted verified exchanged first.marks.items first.token asked first.changes.items last.changes.items (scene first said stream) (scene last said' end))
-  asks_all exchanged (Ok done) first ready heard last said caught told_to said' stream sent later end asked frame head low epoch told is at exchange speaks catches hears tells hands notes marks goes =
+  asks_all exchanged (Ok done) first ready heard last said caught told_to said' stream sent later end asked frame head low epoch told handed is at exchange speaks catches hears hands tells notes marks goes =
       let above = subst (λ (m : Vec Mark Global). GoesOnAbove hash accepted verified exchanged m.items low (scene heard told_to later) (scene last said' end)) marks goes in
       record {
-        reply = record { head = head; is = is; frame = frame; stream = sent; exchange = exchange; epoch = epoch; speaks = speaks };
+        reply = reply_to exchanged first.token asked (scene first said stream) sent frame head low epoch is at exchange speaks;
         ready = scene ready caught later;
         catches = catches;
         heard = scene heard told_to later;
-        hears = record { told = told; hears = hears; tells = told_onto caught told_to told tells; hands = hands; stream = refl };
+        hears = record {
+          told = told;
+          hears = subst (λ (n : ℕ). HearsFrame hash accepted verified n ready.client asked frame told heard.client) at hears;
+          handed = handed;
+          hands = hands;
+          tells = tells;
+          stream = refl;
+        };
         notes = notes;
         goes = subst (λ (n : ℕ). GoesOnAbove hash accepted verified exchanged first.marks.items n (scene heard told_to later) (scene last said' end)) at above;
       }
-  asks_all exchanged (Err fault) first ready heard last said caught told_to said' stream sent later end asked frame head low epoch told is at exchange speaks catches hears tells hands notes marks goes = tt
+  asks_all exchanged (Err fault) first ready heard last said caught told_to said' stream sent later end asked frame head low epoch told handed is at exchange speaks catches hears hands tells notes marks goes = tt
+
+  -- the latest root was asked for, and it is in the chain or refused
+  pub finds_all : {A E H V S T : Type 0} (exchanged : T → RequestContent → Frame → T → Type 0) (result : Result A E) (first ready last : Asker H V S) (said caught said' : Said) (stream sent later : T) (frame : Frame)
+      (head : SignedRoot) (low epoch : ℕ) → IsHead first.client.chain head → low ≡ head.body.epoch → exchanged stream (with_token first.token (Query Head)) frame sent → SpeaksOf low (Query Head) frame epoch
+      → CatchesUp hash accepted verified exchanged epoch (scene first said sent) (scene ready caught later) → last.monitors ≡ ready.monitors
+      → OnOk result ((told : Report) × HearsFrame hash accepted verified low ready.client (Query Head) frame told last.client × (report_of said' ≡ told_after (report_of caught) (unless_fine told)))
+      → OnOk result (FindsHead hash accepted verified exchanged first.token (scene first said stream) (scene last said' later))
+  finds_all exchanged (Ok done) first ready last said caught said' stream sent later frame head low epoch is at exchange speaks catches same (told, hears, tells) = record {
+    reply = reply_to exchanged first.token (Query Head) (scene first said stream) sent frame head low epoch is at exchange speaks;
+    ready = scene ready caught later;
+    catches = catches;
+    told = told;
+    hears = subst (λ (n : ℕ). HearsFrame hash accepted verified n ready.client (Query Head) frame told last.client) at hears;
+    tells = tells;
+    same = (ap (λ (ms : Vec Monitor Global). ms.items) same, refl);
+  }
+  finds_all exchanged (Err why) first ready last said caught said' stream sent later frame head low epoch is at exchange speaks catches same finds = tt

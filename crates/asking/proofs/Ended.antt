@@ -1,6 +1,6 @@
 -- How a run ends before all is asked.
 use Rattle.std.proofs.Common.{◌≡◌, ◌≢◌, ◌∙◌, ◌<◌, ◌≤◌, ℕ, true, List, [], ◌∷◌, ◌++◌, Option, None, Some, Result, Ok, Err, ap, append-nil, append_assoc, arith, inl, inr, refl, rules, subst, sym}
-use Rattle.std.specs.Prelude.{IfErr, IfOk, IfSome, OnErr, OnOk}
+use Rattle.std.specs.Prelude.{Bor, IfErr, IfOk, IfSome, OnErr, OnOk, option_map}
 use Rattle.std.specs.Io.KnownBytes.{Appends}
 use Rattle.std.proofs.KnownBytes.{Appends-nil, Appends-trans, Keeps-refl}
 use Rattle.std.proofs.lemmas.Bool.Decides.{nat_tests}
@@ -14,7 +14,8 @@ use Rattle.textio.specs.Output.{WritesBeginning, WritesSome}
 use Rattle.textio.specs.declared.stream_fault.StreamFault.{StreamFault}
 use Rattle.textio.specs.declared.stream_fault.StreamFault.TheVariants as device
 use Rattle.wire.specs.Frames.{Frame}
-use Rattle.wire.specs.Requests.{RequestContent}
+use Rattle.commands.specs.Operations.{Head}
+use Rattle.wire.specs.Requests.{RequestContent, Query}
 use Rattle.play.specs.Reading.{TakesWholeLine}
 use Rattle.play.specs.Scripts.{ScriptLine, Ask, Watch, line_of}
 use Rattle.asking.specs.declared.ask_fault.AskFault.{AskFault}
@@ -26,13 +27,13 @@ use Rattle.asking.specs.declared.run.RunEnd.{RunEnd}
 use Rattle.asking.specs.declared.run.RunEnd.TheVariants.{Whole, Stopped}
 use Rattle.asking.specs.declared.said.Said.{Said}
 use Rattle.asking.specs.AskOptions.{AskOptions, ask_keys_of, ask_values}
-use Rattle.asking.specs.Asking.{AsksDirectory, AsksSome, StopsAsking}
-use Rattle.asking.specs.Ending.{AsksNext, AsksOverSocket, AsksPart, AsksSomeLine, BeginsNone, DoesSome, end_status, EndsEarly, FailsAs, FailsOverSocket, HoldsBack, PreparesSome, RunsAs, stopped_status}
+use Rattle.asking.specs.Asking.{AsksDirectory, AsksSome, FindsSome, StopsAsking}
+use Rattle.asking.specs.Ending.{AsksNext, AsksOverSocket, AsksPart, AsksSomeLine, BeginsNone, DoesSome, end_status, EndsEarly, FailsAs, FailsOverSocket, HoldsBack, PreparesSome, RunEndsAt, RunsAs, stopped_status, TakesSomeNew}
 use Rattle.asking.specs.Exchanges.{ExchangesFrames}
-use Rattle.asking.specs.Following.{Follows, StopsAfter, TakesSome}
+use Rattle.asking.specs.Following.{StopsAfter, TakesSome}
 use Rattle.asking.specs.Joining.{BeginsSome, BeginsWatch}
 use Rattle.asking.specs.Reports.{Report, report_of}
-use Rattle.asking.specs.Runs.{AsksLines, BeginsAsking, StartsRun, emptied, Background, lines_asked, Prepares, RunsWhole, Writes}
+use Rattle.asking.specs.Runs.{AsksLines, BeginsAsking, StartsRun, emptied, Background, lines_asked, Prepares, RunsWhole, TakesNew, Writes}
 use Rattle.asking.specs.Scenes.{HaltsAfter, Scene, StopsAtHead}
 use Rattle.asking.specs.Visiting.{TestsAll, TestsSome}
 use Rattle.asking.proofs.Ran.{LeadsOn, none_before}
@@ -120,26 +121,36 @@ module _ (hash : List ℕ → List ℕ) (accepted verified : List ℕ → List �
   module _ (background : Background) where
     -- ---- which scene is reached
 
-    -- the roots are taken, or some
-    pub taken_reaches : {H V S A : Type 0} (result : Result A AskFault) (before after : Scene T) (asker : Asker H V S) (said : Said) → report_of said ≡ after.told
-        → OnOk result ((count : ℕ) × Follows hash verified exchanged count before after)
-        → (result ≡ Err fault.Stopped → (count : ℕ) × StopsAfter hash verified exchanged count before after)
-        → IfErr result (λ why. why ≢ fault.Stopped → HaltsAfter (TakesSome hash verified exchanged before) why asker said)
-        → (reached : Scene T) × PreparesSome hash accepted verified exchanged background before reached × (report_of said ≡ reached.told)
-    taken_reaches (Ok done) before after asker said same (count, follows) stops halts = (after, inr (inr (inr (count, after, follows, (0, refl)))), same)
-    taken_reaches (Err fault.NoReply) before after asker said same follows stops halts = let (reached, takes, halted) = halts no-reply in (reached, inr (inl takes), halted.0)
-    taken_reaches (Err fault.Stopped) before after asker said same follows stops halts = (after, inr (inr (inl (stops refl))), same)
-    taken_reaches (Err fault.OutOfMemory) before after asker said same follows stops halts = let (reached, takes, halted) = halts no-memory in (reached, inr (inl takes), halted.0)
+    module _ (HasNoState : Type 0) where
+      -- some roots are taken, where there is no state
+      pub some_followed : {H V S A : Type 0} (result : Result A AskFault) (before after : Scene T) (asker : Asker H V S) (said : Said) → HasNoState → report_of said ≡ after.told
+          → (result ≡ Err fault.Stopped → (count : ℕ) × StopsAfter hash verified exchanged count before after)
+          → IfErr result (λ why. why ≢ fault.Stopped → HaltsAfter (TakesSome hash verified exchanged before) why asker said)
+          → OnErr result ((reached : Scene T) × TakesSomeNew hash accepted verified exchanged background HasNoState before reached × (report_of said ≡ reached.told))
+      some_followed (Ok done) before after asker said none same stops halts = tt
+      some_followed (Err fault.NoReply) before after asker said none same stops halts = let (reached, takes, halted) = halts no-reply in (reached, inl (none, inl takes), halted.0)
+      some_followed (Err fault.Stopped) before after asker said none same stops halts = (after, inl (none, inr (stops refl)), same)
+      some_followed (Err fault.OutOfMemory) before after asker said none same stops halts = let (reached, takes, halted) = halts no-memory in (reached, inl (none, inl takes), halted.0)
 
-    -- and the promises tested, or some
-    pub tested_reaches : {H V S A : Type 0} (marks : List Mark) (result : Result A AskFault) (count : ℕ) (before middle after : Scene T) (asker : Asker H V S) (said : Said) → report_of said ≡ after.told → marks ≡ background.marks
-        → Follows hash verified exchanged count before middle
-        → OnOk result (TestsAll hash accepted exchanged marks middle after) → IfErr result (λ why. HaltsAfter (TestsSome hash accepted exchanged marks middle) why asker said)
-        → (reached : Scene T) × PreparesSome hash accepted verified exchanged background before reached × (report_of said ≡ reached.told)
-    tested_reaches marks (Ok done) count before middle after asker said same is follows tests halts =
-        (after, inl (count, middle, follows, subst (λ (m : List Mark). TestsAll hash accepted exchanged m middle after) is tests), same)
-    tested_reaches marks (Err why) count before middle after asker said same is follows tests (reached, some, halted) =
-        (reached, inr (inr (inr (count, middle, follows, subst (λ (m : List Mark). TestsSome hash accepted exchanged m middle reached) is some))), halted.0)
+      -- or some up to the latest one, where there is one
+      pub some_found : {H V S A : Type 0} (result : Result A AskFault) (before after : Scene T) (asker : Asker H V S) (said : Said) → ¬ HasNoState → report_of said ≡ after.told
+          → (result ≡ Err fault.Stopped → StopsAsking hash accepted verified exchanged background.token (Query Head) before after)
+          → IfErr result (λ why. why ≢ fault.Stopped → HaltsAfter (FindsSome hash accepted verified exchanged background.token before) why asker said)
+          → OnErr result ((reached : Scene T) × TakesSomeNew hash accepted verified exchanged background HasNoState before reached × (report_of said ≡ reached.told))
+      some_found (Ok done) before after asker said some same stops halts = tt
+      some_found (Err fault.NoReply) before after asker said some same stops halts = let (reached, finds, halted) = halts no-reply in (reached, inr (some, inl finds), halted.0)
+      some_found (Err fault.Stopped) before after asker said some same stops halts = (after, inr (some, inr (stops refl)), same)
+      some_found (Err fault.OutOfMemory) before after asker said some same stops halts = let (reached, finds, halted) = halts no-memory in (reached, inr (some, inl finds), halted.0)
+
+      -- and the promises tested, or some
+      pub tested_reaches : {H V S A : Type 0} (marks : List Mark) (result : Result A AskFault) (before middle after : Scene T) (asker : Asker H V S) (said : Said) → report_of said ≡ after.told → marks ≡ background.marks
+          → TakesNew hash accepted verified exchanged background HasNoState before middle
+          → OnOk result (TestsAll hash accepted exchanged marks middle after) → IfErr result (λ why. HaltsAfter (TestsSome hash accepted exchanged marks middle) why asker said)
+          → (reached : Scene T) × PreparesSome hash accepted verified exchanged background HasNoState before reached × (report_of said ≡ reached.told)
+      tested_reaches marks (Ok done) before middle after asker said same is takes tests halts =
+          (after, inl (middle, takes, subst (λ (m : List Mark). TestsAll hash accepted exchanged m middle after) is tests), same)
+      tested_reaches marks (Err why) before middle after asker said same is takes tests (reached, some, halted) =
+          (reached, inr (inr (middle, takes, subst (λ (m : List Mark). TestsSome hash accepted exchanged m middle reached) is some)), halted.0)
 
     -- a line is asked, or some of it
     pub asked_reaches : {H V S A : Type 0} (asked : RequestContent) (noted noted' : List SignedPromise) (result : Result A AskFault) (before after : Scene T) (asker : Asker H V S) (said : Said) → report_of said ≡ after.told
@@ -248,12 +259,12 @@ module _ (hash : List ℕ → List ℕ) (accepted verified : List ℕ → List �
 
     module _ (background : Background) (start : Scene T) (new : Option (List ℕ)) (said : Said) (first : Report) (begun : first ≡ emptied 0 → StartsRun hash accepted verified exchanged key token HasNoState stream background start) where
       -- it ends while what is new is followed
-      pub early_preparing : (reached : Scene T) × PreparesSome hash accepted verified exchanged background start reached × HoldsBack new said reached.told old
+      pub early_preparing : (reached : Scene T) × PreparesSome hash accepted verified exchanged background HasNoState start reached × HoldsBack new said reached.told old
           → first ≡ emptied 0 → EndsEarly hash accepted verified exchanged key token options HasNoState stream input old (HoldsBack new said)
       early_preparing (reached, some, leaves) none = (reached.told, old, leaves, inr (background, start, begun none, inl (reached, some, refl, refl)))
 
       -- it ends at a line
-      pub early_asking : (background' : Background) (ready : Scene T) (now : Option (List ℕ)) → Writes (Prepares hash accepted verified exchanged background) start old now ready → background' ≡ background
+      pub early_asking : (background' : Background) (ready : Scene T) (now : Option (List ℕ)) → Writes (Prepares hash accepted verified exchanged background HasNoState) start old now ready → background' ≡ background
           → IfSome (lines_asked options.words input) (λ lines. (told : Report) × (next : Option (List ℕ)) × AsksPart hash accepted verified exchanged background' lines ready told now next × HoldsBack new said told next)
           → first ≡ emptied 0 → EndsEarly hash accepted verified exchanged key token options HasNoState stream input old (HoldsBack new said)
       early_asking background' ready now prepares same part none =
@@ -268,13 +279,38 @@ module _ (hash : List ℕ → List ℕ) (accepted verified : List ℕ → List �
 
   -- ---- with the state that an order names
 
-  module _ (key token : List ℕ) (options : AskOptions) (NoState None' : Type 0) (without : None' → NoState) where
+  module _ (key token : List ℕ) (options : AskOptions) (NoState None' : Type 0) (without : None' → NoState) (within : NoState → None') where
     begun-with : (background : Background) (stream : T) (start : Scene T) → StartsRun hash accepted verified exchanged key token NoState stream background start → StartsRun hash accepted verified exchanged key token None' stream background start
     begun-with background stream start begun = record { silent = begun.silent; begins = by begun.begins; knows = begun.knows }
       where
         by : BeginsAsking hash accepted verified exchanged key token NoState stream background start.client start.stream → BeginsAsking hash accepted verified exchanged key token None' stream background start.client start.stream
         by (inl head) = inl head
         by (inr (state, same, sound, kept)) = inr ((λ none. state (without none)), same, sound, kept)
+
+    new-with : (background : Background) (before after : Scene T) → TakesNew hash accepted verified exchanged background NoState before after → TakesNew hash accepted verified exchanged background None' before after
+    new-with background before after (inl (none, follows)) = inl (within none, follows)
+    new-with background before after (inr (some, finds)) = inr ((λ none. some (without none)), finds)
+
+    some-new-with : (background : Background) (before after : Scene T) → TakesSomeNew hash accepted verified exchanged background NoState before after → TakesSomeNew hash accepted verified exchanged background None' before after
+    some-new-with background before after (inl (none, takes)) = inl (within none, takes)
+    some-new-with background before after (inr (some, finds)) = inr ((λ none. some (without none)), finds)
+
+    prepares-with : (background : Background) (before after : Scene T) → Prepares hash accepted verified exchanged background NoState before after → Prepares hash accepted verified exchanged background None' before after
+    prepares-with background before after (middle, takes, tests) = (middle, new-with background before middle takes, tests)
+
+    pub some_prepares_with : (background : Background) (before after : Scene T) → PreparesSome hash accepted verified exchanged background NoState before after → PreparesSome hash accepted verified exchanged background None' before after
+    some_prepares_with background before after (inl prepares) = inl (prepares-with background before after prepares)
+    some_prepares_with background before after (inr (inl takes)) = inr (inl (some-new-with background before after takes))
+    some_prepares_with background before after (inr (inr (middle, takes, tests))) = inr (inr (middle, new-with background before middle takes, tests))
+
+    pub writes_with : (background : Background) (before : Scene T) (old now : Option (List ℕ)) (after : Scene T) → Writes (Prepares hash accepted verified exchanged background NoState) before old now after
+        → Writes (Prepares hash accepted verified exchanged background None') before old now after
+    writes_with background before old now after (done, prepares, written) = (done, prepares-with background before done prepares, written)
+
+    ends-with : (background : Background) (input : Option (List ℕ)) (start : Scene T) (old : Option (List ℕ)) (told : Report) (now : Option (List ℕ))
+        → RunEndsAt hash accepted verified exchanged background options NoState input start old told now → RunEndsAt hash accepted verified exchanged background options None' input start old told now
+    ends-with background input start old told now (inl (reached, some, is, same)) = inl (reached, some_prepares_with background start reached some, is, same)
+    ends-with background input start old told now (inr (ready, next, prepares, asks)) = inr (ready, next, writes_with background start old next ready prepares, asks)
 
     whole-with : (stream stream' : T) (input old new : Option (List ℕ)) (status : ℕ)
         → RunsWhole hash accepted verified exchanged key token options NoState stream stream' input status old new → RunsWhole hash accepted verified exchanged key token options None' stream stream' input status old new
@@ -284,7 +320,7 @@ module _ (hash : List ℕ → List ℕ) (accepted verified : List ℕ → List �
       begun = begun-with run.background stream run.start run.begun;
       ready = run.ready;
       now = run.now;
-      prepares = run.prepares;
+      prepares = writes_with run.background run.start old run.now run.ready run.prepares;
       last = run.last;
       asks = run.asks;
       status_is = run.status_is;
@@ -294,7 +330,7 @@ module _ (hash : List ℕ → List ℕ) (accepted verified : List ℕ → List �
     early-with : (Before After : Report → Option (List ℕ) → Type 0) (stream : T) (input old : Option (List ℕ)) → ((told : Report) (now : Option (List ℕ)) → Before told now → After told now)
         → EndsEarly hash accepted verified exchanged key token options NoState stream input old Before → EndsEarly hash accepted verified exchanged key token options None' stream input old After
     early-with Before After stream input old leads (told, now, holds, inl none) = (told, now, leads told now holds, inl none)
-    early-with Before After stream input old leads (told, now, holds, inr (background, start, begun, at)) = (told, now, leads told now holds, inr (background, start, begun-with background stream start begun, at))
+    early-with Before After stream input old leads (told, now, holds, inr (background, start, begun, at)) = (told, now, leads told now holds, inr (background, start, begun-with background stream start begun, ends-with background input start old told now at))
 
     pub runs_with : (stream stream' : T) (input old new : Option (List ℕ)) (ended : RunEnd)
         → RunsAs hash accepted verified exchanged key token options NoState stream stream' input ended old new → RunsAs hash accepted verified exchanged key token options None' stream stream' input ended old new
@@ -363,7 +399,7 @@ over_socket order key token socket socket' input old new ended are run =
       ended,
       refl,
       runs_with sha256 KeyedAccepts KeyedVerifies (ExchangesFrames {T = TcpStream} (λ _. None) (λ _. None)) key token (ask_values order) (order.state ≡ None) ((ask_values order).state ≡ None)
-          (none_before (λ text. text.now) order.state) socket socket' input old new ended run,
+          (none_before (λ text. text.now) order.state) (λ none. ap (λ (state : Option (Bor (List ℕ))). option_map (λ text. text.now) state) none) socket socket' input old new ended run,
     )
 
 pub fails_over_socket : (order : AskOrder) (key token : List ℕ) (socket : TcpStream) (input old new : Option (List ℕ)) → ask_keys_of (ask_values order) ≡ Some (key, token)
@@ -376,7 +412,7 @@ fails_over_socket order key token socket input old new are run =
       are,
       socket,
       fails_with sha256 KeyedAccepts KeyedVerifies (ExchangesFrames {T = TcpStream} (λ _. None) (λ _. None)) key token (ask_values order) (order.state ≡ None) ((ask_values order).state ≡ None)
-          (none_before (λ text. text.now) order.state) socket input old new run,
+          (none_before (λ text. text.now) order.state) (λ none. ap (λ (state : Option (Bor (List ℕ))). option_map (λ text. text.now) state) none) socket input old new run,
     )
 
 pub unwritten : (options : AskOptions) (input old : Option (List ℕ)) → FailsOverSocket options input old old

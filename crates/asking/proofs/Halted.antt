@@ -6,22 +6,23 @@ use Rattle.rootchain.specs.declared.signed_promise.SignedPromise.{SignedPromise}
 use Rattle.rootchain.specs.declared.signed_root.SignedRoot.{SignedRoot}
 use Rattle.monitor.specs.Monitors.{Monitor}
 use Rattle.wire.specs.Frames.{Frame}
-use Rattle.wire.specs.Requests.{RequestContent}
+use Rattle.commands.specs.Operations.{Head}
+use Rattle.wire.specs.Requests.{RequestContent, Query}
 use Rattle.play.specs.Scripts.{with_token}
 use Rattle.asking.specs.declared.asker.Asker.{Asker}
 use Rattle.asking.specs.declared.asker.Mark.{Mark}
 use Rattle.asking.specs.declared.ask_fault.AskFault.{AskFault}
 use Rattle.asking.specs.declared.ask_fault.AskFault.TheVariants.{NoReply, OutOfMemory, Stopped}
 use Rattle.asking.specs.declared.said.Said.{Said}
-use Rattle.asking.specs.Asking.{AsksSome, CatchesSome, CatchesUp, GoesSomeAbove, Hands, HearsSome, Notes, SpeaksOf}
+use Rattle.asking.specs.Asking.{AsksSome, CatchesSome, CatchesUp, FindsSome, GoesSomeAbove, Hands, HearsSome, Notes, SpeaksOf}
 use Rattle.asking.specs.Checking.{HearsFrame}
 use Rattle.asking.specs.Following.{TakesSome}
 use Rattle.asking.specs.Joining.{BeginsAt, BeginsSome, BeginsSomeAt, IsJoined, IsUnwatched}
-use Rattle.asking.specs.Reports.{Report, Tells, report_of}
+use Rattle.asking.specs.Reports.{Report, report_of, told_after}
 use Rattle.asking.specs.Scenes.{HaltsAfter, Scene, scene}
 use Rattle.asking.specs.Visiting.{TestsSome}
 use Rattle.asking.specs.Watching.{GoesSome, StepsSome}
-use Rattle.asking.proofs.Going.{told_onto}
+use Rattle.asking.proofs.Asked.{reply_to}
 use Rattle.asking.proofs.Joined.{scene_of}
 
 -- no reply came, and nothing changed
@@ -51,26 +52,40 @@ module _ {H V S T : Type 0} (hash : List ℕ → List ℕ) (accepted verified : 
   halts_above (Ok done) marks asker last said said' stream head epoch is high halts = tt
   halts_above (Err fault) marks asker last said said' stream head epoch is high (reached, goes, halts) = (reached, (head, is, high, goes), halts)
 
-  module _ (marks : Vec Mark Global) (first : Asker H V S) (said : Said) (stream sent : T) (asked : RequestContent) (frame : Frame) (head : SignedRoot) (epoch : ℕ) where
-    asks-on : (noted' : List SignedPromise) (after : Scene T) → IsHead first.client.chain head → exchanged stream (with_token first.token asked) frame sent → SpeaksOf asked frame epoch
+  module _ (marks : Vec Mark Global) (first : Asker H V S) (said : Said) (stream sent : T) (asked : RequestContent) (frame : Frame) (head : SignedRoot) (low epoch : ℕ) (at : low ≡ head.body.epoch) where
+    asks-on : (noted' : List SignedPromise) (after : Scene T) → IsHead first.client.chain head → exchanged stream (with_token first.token asked) frame sent → SpeaksOf low asked frame epoch
         → ((noted' ≡ first.changes.items) × CatchesSome hash accepted verified exchanged epoch (scene first said sent) after)
         ⊎ ((ready : Scene T) × CatchesUp hash accepted verified exchanged epoch (scene first said sent) ready × HearsSome hash accepted verified exchanged marks.items head.body.epoch asked frame first.changes.items noted' ready after)
         → AsksSome hash accepted verified exchanged marks.items first.token asked first.changes.items noted' (scene first said stream) after
-    asks-on noted' after is exchange speaks steps = inr (record { reply = record { head = head; is = is; frame = frame; stream = sent; exchange = exchange; epoch = epoch; speaks = speaks }; steps = steps })
+    asks-on noted' after is exchange speaks steps = inr (record { reply = reply_to hash accepted verified exchanged first.token asked (scene first said stream) sent frame head low epoch is at exchange speaks; steps = steps })
 
     -- roots were taken
-    pub halts_catching : (fault : AskFault) (last : Asker H V S) (said' : Said) → IsHead first.client.chain head → exchanged stream (with_token first.token asked) frame sent → SpeaksOf asked frame epoch
+    pub halts_catching : (fault : AskFault) (last : Asker H V S) (said' : Said) → IsHead first.client.chain head → exchanged stream (with_token first.token asked) frame sent → SpeaksOf low asked frame epoch
         → last.changes ≡ first.changes → HaltsAfter (CatchesSome hash accepted verified exchanged epoch (scene first said sent)) fault last said'
         → HaltsAfter (AsksSome hash accepted verified exchanged marks.items first.token asked first.changes.items last.changes.items (scene first said stream)) fault last said'
     halts_catching fault last said' is exchange speaks still (reached, some, halts) =
         (reached, asks-on last.changes.items reached is exchange speaks (inl (ap (λ (all : Vec SignedPromise Global). all.items) still, some)), halts)
 
+    -- the latest root was asked for, and the chain is on its way to it
+    pub halts_finding : (fault : AskFault) (last : Asker H V S) (said' : Said) → asked ≡ Query Head → IsHead first.client.chain head → exchanged stream (with_token first.token asked) frame sent → SpeaksOf low asked frame epoch
+        → HaltsAfter (CatchesSome hash accepted verified exchanged epoch (scene first said sent)) fault last said'
+        → HaltsAfter (FindsSome hash accepted verified exchanged first.token (scene first said stream)) fault last said'
+    halts_finding fault last said' refl is exchange speaks (reached, some, halts) =
+        (reached, inr (reply_to hash accepted verified exchanged first.token (Query Head) (scene first said stream) sent frame head low epoch is at exchange speaks, inl some), halts)
+
     module _ (ready : Asker H V S) (caught : Said) (later : T) where
+      -- the chain is there, and memory ran out before the root was told
+      pub halts_found : (fault : AskFault) (last : Asker H V S) (said' : Said) → asked ≡ Query Head → IsHead first.client.chain head → exchanged stream (with_token first.token asked) frame sent → SpeaksOf low asked frame epoch
+          → CatchesUp hash accepted verified exchanged epoch (scene first said sent) (scene ready caught later) → fault ≢ NoReply → report_of said' ≡ report_of caught
+          → HaltsAfter (FindsSome hash accepted verified exchanged first.token (scene first said stream)) fault last said'
+      halts_found fault last said' refl is exchange speaks catches not same =
+          (scene ready caught later, inr (reply_to hash accepted verified exchanged first.token (Query Head) (scene first said stream) sent frame head low epoch is at exchange speaks, inr catches), (same, λ none. absurd (not none)))
+
       -- the frame was heard, and perhaps told
-      pub halts_hearing : (fault : AskFault) (last : Asker H V S) (said' : Said) → IsHead first.client.chain head → exchanged stream (with_token first.token asked) frame sent → SpeaksOf asked frame epoch
+      pub halts_hearing : (fault : AskFault) (last : Asker H V S) (said' : Said) → IsHead first.client.chain head → exchanged stream (with_token first.token asked) frame sent → SpeaksOf low asked frame epoch
           → CatchesUp hash accepted verified exchanged epoch (scene first said sent) (scene ready caught later) → fault ≢ NoReply → ready.changes ≡ first.changes
           → (last.changes.items ≡ ready.changes.items) ⊎ Notes asked ready.client.promises last.client.promises ready.changes.items last.changes.items
-          → ((report_of said' ≡ report_of caught) × (last.changes.items ≡ ready.changes.items)) ⊎ ((told : Report) × HearsFrame hash accepted verified ready.client asked frame told last.client × Tells caught told said')
+          → ((report_of said' ≡ report_of caught) × (last.changes.items ≡ ready.changes.items)) ⊎ ((told : Report) × HearsFrame hash accepted verified low ready.client asked frame told last.client × (report_of said' ≡ told_after (report_of caught) told))
           → HaltsAfter (AsksSome hash accepted verified exchanged marks.items first.token asked first.changes.items last.changes.items (scene first said stream)) fault last said'
       halts_hearing fault last said' is exchange speaks catches not still noted (inl (same, none)) =
           let here : Scene T = scene ready caught later in
@@ -81,22 +96,23 @@ module _ {H V S T : Type 0} (hash : List ℕ → List ℕ) (accepted verified : 
           (λ (all : Vec SignedPromise Global). (last.changes.items ≡ all.items) ⊎ Notes asked ready.client.promises last.client.promises all.items last.changes.items) still noted in
           let reached : Scene T = record { client = last.client; monitors = ready.monitors.items; told = report_of said'; stream = later } in (
             reached,
-            asks-on last.changes.items reached is exchange speaks (inr (scene ready caught later, catches, inr (inl (notes, told, hears, told_onto caught said' told tells, refl, refl)))),
+            asks-on last.changes.items reached is exchange speaks (inr (scene ready caught later, catches, inr (inl (notes, told, subst (λ (n : ℕ). HearsFrame hash accepted verified n ready.client asked frame told last.client) at hears, tells, refl, refl)))),
             (refl, λ none. absurd (not none)),
           )
 
       -- the frame was heard, and monitors and promises went on
-      pub halts_going : {A : Type 0} (result : Result A AskFault) (heard last : Asker H V S) (told_to said' : Said) (low : ℕ) (told : Report) → IsHead first.client.chain head
-          → exchanged stream (with_token first.token asked) frame sent → SpeaksOf asked frame epoch
-          → CatchesUp hash accepted verified exchanged epoch (scene first said sent) (scene ready caught later) → low ≡ head.body.epoch
-          → HearsFrame hash accepted verified ready.client asked frame told heard.client → Tells caught told told_to
-          → Hands hash accepted verified asked frame.body ready.client.promises heard.client.promises ready.monitors.items heard.monitors.items
+      pub halts_going : {A : Type 0} (result : Result A AskFault) (heard last : Asker H V S) (told_to said' : Said) (told handed : Report) → IsHead first.client.chain head
+          → exchanged stream (with_token first.token asked) frame sent → SpeaksOf low asked frame epoch
+          → CatchesUp hash accepted verified exchanged epoch (scene first said sent) (scene ready caught later)
+          → HearsFrame hash accepted verified low ready.client asked frame told heard.client
+          → Hands hash accepted verified asked frame.body ready.client.promises heard.client.promises ready.monitors.items handed heard.monitors.items
+          → report_of told_to ≡ told_after (told_after (report_of caught) told) handed
           → Notes asked ready.client.promises heard.client.promises first.changes.items last.changes.items → heard.marks ≡ marks
           → IfErr result (λ fault. HaltsAfter (GoesSomeAbove hash accepted verified exchanged heard.marks.items low (scene heard told_to later)) fault last said')
           → IfErr result (λ fault. fault ≢ Stopped
           → HaltsAfter (AsksSome hash accepted verified exchanged marks.items first.token asked first.changes.items last.changes.items (scene first said stream)) fault last said')
-      halts_going (Ok done) heard last told_to said' low told is exchange speaks catches at hears tells hands notes same halts = tt
-      halts_going (Err fault) heard last told_to said' low told is exchange speaks catches at hears tells hands notes same (reached, goes, halts) =
+      halts_going (Ok done) heard last told_to said' told handed is exchange speaks catches hears hands tells notes same halts = tt
+      halts_going (Err fault) heard last told_to said' told handed is exchange speaks catches hears hands tells notes same (reached, goes, halts) =
           let there : Scene T = scene heard told_to later in
           let above = subst (λ (m : Vec Mark Global). GoesSomeAbove hash accepted verified exchanged m.items low there reached) same goes in
           let from_head = subst (λ (n : ℕ). GoesSomeAbove hash accepted verified exchanged marks.items n there reached) at above in
@@ -105,7 +121,7 @@ module _ {H V S T : Type 0} (hash : List ℕ → List ℕ) (accepted verified : 
             asks-on last.changes.items reached is exchange speaks (inr (
               scene ready caught later,
               catches,
-              inr (inr (there, record { told = told; hears = hears; tells = told_onto caught told_to told tells; hands = hands; stream = refl }, notes, from_head)),
+              inr (inr (there, record { told = told; hears = subst (λ (n : ℕ). HearsFrame hash accepted verified n ready.client asked frame told heard.client) at hears; handed = handed; hands = hands; tells = tells; stream = refl }, notes, from_head)),
             )),
             halts,
           )

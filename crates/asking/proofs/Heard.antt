@@ -11,7 +11,7 @@ use Rattle.client.specs.Looking.{Looks}
 use Rattle.client.specs.Promising.{KeepsPromise}
 use Rattle.client.specs.declared.client_refusal.Refusal.{Refusal}
 use Rattle.client.specs.declared.client_refusal.Refusal.TheVariants.{Root, Proof, UnknownRoot, RootDiffers, Memory, NoPromise}
-use Rattle.asking.specs.Answering.{IsAnswerTo}
+use Rattle.asking.specs.Answering.{IsAnswerAt}
 use Rattle.asking.specs.Checking.{look_told, promise_told, HearsResponse, IsTellable}
 use Rattle.asking.specs.Reports.{Report}
 
@@ -35,24 +35,25 @@ keeps_same hash verified before after bytes (Proof why) never = absurd never
 keeps_same hash verified before after bytes (RootDiffers roots) never = absurd never
 keeps_same hash verified before after bytes NoPromise never = absurd never
 
-module _ (hash : List ℕ → List ℕ) (accepted verified : List ℕ → List ℕ → List ℕ → Type 0) (before after : Client) (body : List ℕ) where
+module _ (hash : List ℕ → List ℕ) (accepted verified : List ℕ → List ℕ → List ℕ → Type 0) (held : ℕ) (before after : Client) (body : List ℕ) where
   -- a promise was heard, or nothing changed
-  pub hears_promise : (asked : RequestContent) (signed : SignedPromise) → IsAnswerTo asked (response.Promise signed)
+  pub hears_promise : (asked : RequestContent) (signed : SignedPromise) → IsAnswerAt held asked (response.Promise signed)
       → (after ≡ before) ⊎ ((answer : Result (Unit {0}) Refusal) × KeepsPromise hash verified before body answer after × IsTellable answer)
-      → (after ≡ before) ⊎ ((told : Report) × HearsResponse hash accepted verified before body asked (response.Promise signed) told after)
+      → (after ≡ before) ⊎ ((told : Report) × HearsResponse hash accepted verified held before body asked (response.Promise signed) told after)
   hears_promise (Put verb name key) signed answers (inl same) = inl same
   hears_promise (Put verb name key) signed answers (inr (answer, keeps, tellable)) =
       inr (promise_told (response.Promise signed) answer, inr (answers, (answer, (keeps, tellable), refl)))
   hears_promise (Query (Promise name)) signed answers (inl same) = inl same
   hears_promise (Query (Promise name)) signed answers (inr (answer, keeps, tellable)) =
       inr (promise_told (response.Promise signed) answer, inr (answers, (answer, (keeps, tellable), refl)))
-  hears_promise _ signed answers kept = absurd answers
+  hears_promise _ signed (answers, timely) kept = absurd answers
 
   -- a reply to a look-up was heard, or nothing changed
-  pub hears_look : (name spelled : List ℕ) (epoch : ℕ) (reply : Reply) → IsAnswerTo (Query (Lookup name epoch)) (response.Proof reply) → spelled ≡ name
-      → (after ≡ before) ⊎ ((answer : Result Statement Refusal) × Looks hash accepted before spelled epoch body answer after × IsTellable answer)
-      → (after ≡ before) ⊎ ((told : Report) × HearsResponse hash accepted verified before body (Query (Lookup name epoch)) (response.Proof reply) told after)
-  hears_look name spelled epoch reply answers named (inl same) = inl same
-  hears_look name spelled epoch reply answers named (inr (answer, looks, tellable)) =
-      let found = subst (λ (n : List ℕ). Looks hash accepted before n epoch body answer after) named looks in
+  pub hears_look : (name spelled : List ℕ) (epoch at : ℕ) (reply : Reply) → IsAnswerAt held (Query (Lookup name epoch)) (response.Proof reply) → spelled ≡ name → at ≡ reply.body.epoch
+      → (after ≡ before) ⊎ ((answer : Result Statement Refusal) × Looks hash accepted before spelled at body answer after × IsTellable answer)
+      → (after ≡ before) ⊎ ((told : Report) × HearsResponse hash accepted verified held before body (Query (Lookup name epoch)) (response.Proof reply) told after)
+  hears_look name spelled epoch at reply answers named own (inl same) = inl same
+  hears_look name spelled epoch at reply answers named own (inr (answer, looks, tellable)) =
+      let there = subst (λ (n : List ℕ). Looks hash accepted before n at body answer after) named looks in
+      let found = subst (λ (e : ℕ). Looks hash accepted before name e body answer after) own there in
       inr (look_told reply.body.epoch answer, inr (answers, (answer, (found, tellable), refl)))

@@ -4,6 +4,7 @@ pub mod Ended
 pub mod Faulty
 pub mod Going
 pub mod Halted
+pub mod Handed
 pub mod Heard
 pub mod Joined
 pub mod Left

@@ -137,7 +137,7 @@ begins_run hash accepted verified exchanged key token HasNoState background stre
 pub whole : {T E : Type 0} (hash : List ℕ → List ℕ) (accepted verified : List ℕ → List ℕ → List ℕ → Type 0) (exchanged : T → RequestContent → Frame → T → Type 0) (key token : List ℕ) (options : AskOptions) (HasNoState : Type 0)
     (result : Result (Unit {0}) E) (background background' : Background) (stream : T) (start ready last : Scene T) (input old now new : Option (List ℕ)) (first : Report)
     → (first ≡ emptied 0 → StartsRun hash accepted verified exchanged key token HasNoState stream background start)
-    → Writes (Prepares hash accepted verified exchanged background) start old now ready → background' ≡ background
+    → Writes (Prepares hash accepted verified exchanged background HasNoState) start old now ready → background' ≡ background
     → OnOk result (IfSome (lines_asked options.words input) (λ lines. AsksLines hash accepted verified exchanged background' lines ready now new last))
     → OnOk result (first ≡ emptied 0 → RunsWhole hash accepted verified exchanged key token options HasNoState stream last.stream input last.told.status old new)
 whole hash accepted verified exchanged key token options HasNoState (Err why) background background' stream start ready last input old now new first begun prepares same asks = tt

@@ -4,11 +4,12 @@ use Rattle.std.specs.Prelude.{IfErr, OnOk}
 use Rattle.rootchain.specs.declared.signed_promise.SignedPromise.{SignedPromise}
 use Rattle.rootchain.specs.declared.signed_root.SignedRoot.{SignedRoot}
 use Rattle.wire.specs.Frames.{Frame}
-use Rattle.wire.specs.Requests.{RequestContent}
-use Rattle.asking.specs.Asking.{replied, AsksDirectory, AsksOn, AsksSome, CatchesSome, CatchesUp, GoesOnAbove, HearsSome, StopsAsking}
+use Rattle.commands.specs.Operations.{Head}
+use Rattle.wire.specs.Requests.{RequestContent, Query}
+use Rattle.asking.specs.Asking.{replied, AsksDirectory, AsksOn, AsksSome, CatchesSome, CatchesUp, FindsHead, FindsSome, GoesOnAbove, HearsSome, StopsAsking}
 use Rattle.asking.specs.Following.{Follows, StopsAfter, TakesList, TakesLists, TakesSome}
 use Rattle.asking.specs.Joining.{BeginsAt, BeginsSome, BeginsWatch}
-use Rattle.asking.specs.Reports.{Report, report_of, told_after, worse}
+use Rattle.asking.specs.Reports.{Report, report_of, told_after, unless_fine, worse}
 use Rattle.asking.specs.Scenes.{HaltsAfter, Scene, StopsAtHead}
 use Rattle.asking.specs.Visiting.{TestsAll, TestsFrom, TestsSome, Visits, VisitsOn}
 use Rattle.asking.specs.Watching.{AllStep, GoesOn, GoesSome, SomeStep, StepsOn, StepsOnce, StepsSome, StepsThrough}
@@ -57,6 +58,10 @@ module _ (hash : List ℕ → List ℕ) (accepted verified : List ℕ → List �
 
   more-told : (before after : Scene T) (told : Report) → after.told ≡ told_after before.told told → Rises before after
   more-told before after told is = subst (λ (r : Report). before.told.status ≤ r.status) (sym is) (worse-above before.told.status told.status)
+
+  twice-told : (before after : Scene T) (told more : Report) → after.told ≡ told_after (told_after before.told told) more → Rises before after
+  twice-told before after told more is = subst (λ (r : Report). before.told.status ≤ r.status) (sym is)
+      (rises_on before.told.status (worse before.told.status told.status) (worse (worse before.told.status told.status) more.status) (worse-above before.told.status told.status) (worse-above (worse before.told.status told.status) more.status))
 
   then-rises : (before middle after : Scene T) → Rises before middle → Rises middle after → Rises before after
   then-rises before middle after one other = rises_on before.told.status middle.told.status after.told.status one other
@@ -170,12 +175,12 @@ module _ (hash : List ℕ → List ℕ) (accepted verified : List ℕ → List �
   hears-some-rises marks epoch asked frame noted noted' before after (inl (none, same)) = same-scene before after same
   hears-some-rises marks epoch asked frame noted noted' before after (inr (inl (notes, told, hears, tells, monitors, stream))) = more-told before after told tells
   hears-some-rises marks epoch asked frame noted noted' before after (inr (inr (heard, hears, notes, (head, is, high, goes)))) =
-      then-rises before heard after (more-told before heard hears.told hears.tells) (goes-some-rises marks heard after goes)
+      then-rises before heard after (twice-told before heard hears.told hears.handed hears.tells) (goes-some-rises marks heard after goes)
 
   module _ (marks : List Mark) (token : List ℕ) (asked : RequestContent) (noted noted' : List SignedPromise) (before after : Scene T) where
     pub asks_rises : AsksDirectory hash accepted verified exchanged marks token asked noted noted' before after → Rises before after
     asks_rises asks = then-rises before asks.ready after (catches-rises asks.reply.epoch (replied asks.reply) asks.ready asks.catches)
-        (then-rises asks.ready asks.heard after (more-told asks.ready asks.heard asks.hears.told asks.hears.tells) (above-rises marks asks.reply.head.body.epoch asks.heard after asks.goes))
+        (then-rises asks.ready asks.heard after (twice-told asks.ready asks.heard asks.hears.told asks.hears.handed asks.hears.tells) (above-rises marks asks.reply.head.body.epoch asks.heard after asks.goes))
 
     on-rises : AsksOn hash accepted verified exchanged marks token asked noted noted' before after → Rises before after
     on-rises asks = by asks.steps
@@ -194,6 +199,16 @@ module _ (hash : List ℕ → List ℕ) (accepted verified : List ℕ → List �
   pub stops_asking_rises : (token : List ℕ) (asked : RequestContent) (before after : Scene T) → StopsAsking hash accepted verified exchanged token asked before after → Rises before after
   stops_asking_rises token asked before after asks = let (head, is, high, (count, stops)) = asks.stops in stops-rises count (replied asks.reply) after stops
 
+  -- ---- the latest root
+
+  finds-rises : (token : List ℕ) (before after : Scene T) → FindsHead hash accepted verified exchanged token before after → Rises before after
+  finds-rises token before after finds = then-rises before finds.ready after (catches-rises finds.reply.epoch (replied finds.reply) finds.ready finds.catches) (more-told finds.ready after (unless_fine finds.told) finds.tells)
+
+  finds-some-rises : (token : List ℕ) (before after : Scene T) → FindsSome hash accepted verified exchanged token before after → Rises before after
+  finds-some-rises token before after (inl same) = same-scene before after same
+  finds-some-rises token before after (inr (reply, inl (head, is, high, some))) = some-rise (replied reply) after some
+  finds-some-rises token before after (inr (reply, inr catches)) = catches-rises reply.epoch (replied reply) after catches
+
   -- ---- however it ends
 
   halted : {H V S : Type 0} (Reached : Scene T → Type 0) (before : Scene T) (fault : AskFault) (asker : Asker H V S) (said : Said) → ((reached : Scene T) → Reached reached → Rises before reached)
@@ -210,6 +225,17 @@ module _ (hash : List ℕ → List ℕ) (accepted verified : List ℕ → List �
       (λ stopped. let all = stops stopped in stops-rises all.0 before after all.1)
       (err-then (λ fault. fault ≢ Stopped → HaltsAfter (TakesSome hash verified exchanged before) fault asker said) (λ fault. fault ≢ Stopped → Rises before after) result halts (λ fault halts unstopped.
       subst (λ (r : Report). before.told.status ≤ r.status) same (halted (TakesSome hash verified exchanged before) before fault asker said (some-rise before) (halts unstopped))))
+
+  -- or those up to the latest one
+  pub find_rises : {H V S A : Type 0} (token : List ℕ) (result : Result A AskFault) (before after : Scene T) (asker : Asker H V S) (said : Said) → report_of said ≡ after.told
+      → OnOk result (FindsHead hash accepted verified exchanged token before after)
+      → (result ≡ Err Stopped → StopsAsking hash accepted verified exchanged token (Query Head) before after)
+      → IfErr result (λ fault. fault ≢ Stopped → HaltsAfter (FindsSome hash accepted verified exchanged token before) fault asker said) → Rises before after
+  find_rises token result before after asker said same finds stops halts = rises_ever before.told.status after.told.status result
+      (ok_then {Q = Rises before after} result finds (λ all. finds-rises token before after all))
+      (λ stopped. stops_asking_rises token (Query Head) before after (stops stopped))
+      (err-then (λ fault. fault ≢ Stopped → HaltsAfter (FindsSome hash accepted verified exchanged token before) fault asker said) (λ fault. fault ≢ Stopped → Rises before after) result halts (λ fault halts unstopped.
+      subst (λ (r : Report). before.told.status ≤ r.status) same (halted (FindsSome hash accepted verified exchanged token before) before fault asker said (finds-some-rises token before) (halts unstopped))))
 
   pub test_rises : {H V S A : Type 0} (marks : List Mark) (result : Result A AskFault) (before after : Scene T) (asker : Asker H V S) (said : Said) → report_of said ≡ after.told
       → OnOk result (TestsAll hash accepted exchanged marks before after) → IfErr result (λ fault. fault ≢ Stopped)

@@ -1,25 +1,27 @@
 -- What comes of a line that asks.
-use Rattle.std.specs.Prelude.{◌≡◌, ◌≢◌, ◌⊎◌, ℕ, ◌<◌, ◌≤◌, ◌-◌, List, [], ◌∷◌, ◌++◌, length, Some, Result, Err, slice_get}
-use Rattle.std.specs.List.{AllZip}
+use Rattle.std.specs.Prelude.{◌≡◌, ◌≢◌, ◌⊎◌, ℕ, ◌<◌, ◌≤◌, ◌-◌, List, [], ◌∷◌, ◌++◌, length, Option, None, Some, Ok, Err, codes, slice_get}
 use Rattle.rootchain.specs.Chains.{IsHead}
 use Rattle.rootchain.specs.declared.signed_promise.SignedPromise.{SignedPromise}
 use Rattle.rootchain.specs.declared.signed_root.SignedRoot.{SignedRoot}
 use Rattle.client.specs.declared.client_refusal.Refusal.TheVariants.{Memory}
 use Rattle.monitor.specs.Expecting.{Expects}
 use Rattle.monitor.specs.Monitors.{Monitor}
+use Rattle.monitor.specs.Refusals.{monitor_refusal_number}
 use Rattle.monitor.specs.declared.monitor_refusal.Refusal.{Refusal}
 use Rattle.monitor.specs.declared.monitor_refusal.Refusal.TheVariants.{Client}
+use Rattle.commands.specs.Operations.{Head}
 use Rattle.wire.specs.Frames.{Frame}
-use Rattle.wire.specs.Requests.{RequestContent, Put}
+use Rattle.wire.specs.Requests.{RequestContent, Put, Query}
 use Rattle.wire.specs.Responses.{ResponseContent, Promise, Proof, Roots, Root, Refused, Responds, ReadsResponse}
 use Rattle.wire.specs.declared.message_refusals.ReadRefusal.{ReadRefusal}
 use Rattle.play.specs.Scripts.{with_token}
 use Rattle.asking.specs.declared.asker.Mark.{Mark}
-use Rattle.asking.specs.Answering.{IsAnswerTo}
+use Rattle.asking.specs.Answering.{IsAnswerAt}
 use Rattle.asking.specs.Checking.{HearsFrame}
 use Rattle.asking.specs.Following.{Follows, StopsAfter, TakesSome}
 use Rattle.asking.specs.Scenes.{Scene}
-use Rattle.asking.specs.Reports.{Report, told_after}
+use Rattle.asking.specs.Refused.{refuses_text}
+use Rattle.asking.specs.Reports.{Report, refused, silent, told_after, unless_fine}
 use Rattle.asking.specs.Watching.{GoesOn, GoesSome}
 
 -- the epoch of a response
@@ -30,11 +32,11 @@ response_epoch (Root root) = root.body.epoch
 response_epoch (Roots roots) = 0
 response_epoch (Refused code) = 0
 
--- the epoch of a frame that answers what was asked, or 0
-abbrev pub SpeaksOf : RequestContent → Frame → ℕ → Type 0
-SpeaksOf asked frame epoch =
+-- the epoch of a frame that answers what was asked when the chain had a head of some epoch, or 0
+abbrev pub SpeaksOf : ℕ → RequestContent → Frame → ℕ → Type 0
+SpeaksOf held asked frame epoch =
     ((responded : ResponseContent) × Responds frame.kind frame.body responded
-    × ((IsAnswerTo asked responded × (epoch ≡ response_epoch responded)) ⊎ ((¬ IsAnswerTo asked responded) × (epoch ≡ 0))))
+    × ((IsAnswerAt held asked responded × (epoch ≡ response_epoch responded)) ⊎ ((¬ IsAnswerAt held asked responded) × (epoch ≡ 0))))
     ⊎ (((why : ReadRefusal) × ReadsResponse frame.kind frame.body (Err why)) × (epoch ≡ 0))
 
 -- The line is asked, with this token of the operator, and a frame comes back, which speaks of an epoch. The
@@ -46,7 +48,7 @@ pub record GetsReply {T : Type 0} (exchanged : T → RequestContent → Frame �
   pub stream : T
   pub exchange : exchanged before.stream (with_token token asked) frame stream
   pub epoch : ℕ
-  pub speaks : SpeaksOf asked frame epoch
+  pub speaks : SpeaksOf head.body.epoch asked frame epoch
 
 -- the scene once the frame has come
 abbrev pub replied : {T : Type 0} {exchanged : T → RequestContent → Frame → T → Type 0} {token : List ℕ} {asked : RequestContent} {before : Scene T} → GetsReply exchanged token asked before → Scene T
@@ -63,19 +65,34 @@ Notes (Put verb name key) before after noted noted' =
     ((length after ≤ length before) × (noted' ≡ noted)) ⊎ ((length before < length after) × NotesLast after noted noted')
 Notes asked before after noted noted' = noted' ≡ noted
 
+-- what is told of a promise that a monitor is given: nothing, or that it refuses it
+abbrev pub handed_told : Option Refusal → Report
+handed_told None = silent
+handed_told (Some why) = refused (refuses_text (codes "client refuses promise") (monitor_refusal_number why))
+
 module _ (hash : List ℕ → List ℕ) (accepted verified : List ℕ → List ℕ → List ℕ → Type 0) where
-  -- a monitor of the promise's name is given it, and the others are left alone
-  abbrev pub HandsTo : SignedPromise → List ℕ → Monitor → Monitor → Type 0
-  HandsTo signed promise before after =
-      ((before.name ≡ signed.promise.name) × ((answer : Result (Unit {0}) Refusal) × (answer ≢ Err (Client Memory)) × Expects hash verified before signed.promise.key promise answer after))
+  -- a monitor of the promise's name is given it, and may refuse it; the others are left alone
+  abbrev pub HandsTo : SignedPromise → List ℕ → Monitor → Option Refusal → Monitor → Type 0
+  HandsTo signed promise before None after =
+      ((before.name ≡ signed.promise.name) × Expects hash verified before signed.promise.key promise {A = Unit {0}} (Ok tt) after)
       ⊎ ((before.name ≢ signed.promise.name) × (after ≡ before))
+  HandsTo signed promise before (Some why) after =
+      (before.name ≡ signed.promise.name) × (why ≢ Client Memory) × Expects hash verified before signed.promise.key promise {A = Unit {0}} (Err why) after
+
+  -- each of these monitors is given it, and what they refuse is told behind what was
+  abbrev pub HandsAll : SignedPromise → List ℕ → List Monitor → Report → Report → List Monitor → Type 0
+  HandsAll signed promise [] told told' [] = told' ≡ told
+  HandsAll signed promise [] told told' (monitor' ∷ more') = ⊥
+  HandsAll signed promise (monitor ∷ more) told told' [] = ⊥
+  HandsAll signed promise (monitor ∷ more) told told' (monitor' ∷ more') =
+      (why : Option Refusal) × HandsTo signed promise monitor why monitor' × HandsAll signed promise more (told_after told (handed_told why)) told' more'
 
   -- a promise for a change of the client's own that it kept, the last of those it has, is handed to the monitors
-  abbrev pub Hands : RequestContent → List ℕ → List SignedPromise → List SignedPromise → List Monitor → List Monitor → Type 0
-  Hands (Put verb name key) promise before after monitors monitors' =
-      ((length after ≤ length before) × (monitors' ≡ monitors))
-      ⊎ ((length before < length after) × ((signed : SignedPromise) × (slice_get after (length after - 1) ≡ Some signed) × AllZip (HandsTo signed promise) monitors monitors'))
-  Hands asked promise before after monitors monitors' = monitors' ≡ monitors
+  abbrev pub Hands : RequestContent → List ℕ → List SignedPromise → List SignedPromise → List Monitor → Report → List Monitor → Type 0
+  Hands (Put verb name key) promise before after monitors told monitors' =
+      ((length after ≤ length before) × (told ≡ silent) × (monitors' ≡ monitors))
+      ⊎ ((length before < length after) × ((signed : SignedPromise) × (slice_get after (length after - 1) ≡ Some signed) × HandsAll signed promise monitors silent told monitors'))
+  Hands asked promise before after monitors told monitors' = (told ≡ silent) × (monitors' ≡ monitors)
 
   module _ {T : Type 0} (exchanged : T → RequestContent → Frame → T → Type 0) where
     -- the chain has a root of this epoch or a later one, or all roots that are new are taken
@@ -83,12 +100,13 @@ module _ (hash : List ℕ → List ℕ) (accepted verified : List ℕ → List �
     CatchesUp epoch before after = (head : SignedRoot) × IsHead before.client.chain head
         × (((epoch ≤ head.body.epoch) × (after ≡ before)) ⊎ ((head.body.epoch < epoch) × ((count : ℕ) × Follows hash verified exchanged count before after)))
 
-    -- what the client makes of a frame, and what the monitors are given of it
-    pub record HearsOne (asked : RequestContent) (frame : Frame) (before after : Scene T) : Type 0 where
+    -- what the client makes of a frame, and what the monitors are given of it and refuse
+    pub record HearsOne (held : ℕ) (asked : RequestContent) (frame : Frame) (before after : Scene T) : Type 0 where
       pub told : Report
-      pub hears : HearsFrame hash accepted verified before.client asked frame told after.client
-      pub tells : after.told ≡ told_after before.told told
-      pub hands : Hands asked frame.body before.client.promises after.client.promises before.monitors after.monitors
+      pub hears : HearsFrame hash accepted verified held before.client asked frame told after.client
+      pub handed : Report
+      pub hands : Hands asked frame.body before.client.promises after.client.promises before.monitors handed after.monitors
+      pub tells : after.told ≡ told_after (told_after before.told told) handed
       pub stream : after.stream ≡ before.stream
 
     -- if the chain has epochs above this one, the monitors watch, and the promises are tested
@@ -103,9 +121,19 @@ module _ (hash : List ℕ → List ℕ) (accepted verified : List ℕ → List �
       pub ready : Scene T
       pub catches : CatchesUp reply.epoch (replied reply) ready
       pub heard : Scene T
-      pub hears : HearsOne asked reply.frame ready heard
+      pub hears : HearsOne reply.head.body.epoch asked reply.frame ready heard
       pub notes : Notes asked ready.client.promises heard.client.promises noted noted'
       pub goes : GoesOnAbove marks reply.head.body.epoch heard after
+
+    -- The latest root is asked for. Then the chain gets as far as it, and it is told only if it is refused.
+    pub record FindsHead (token : List ℕ) (before after : Scene T) : Type 0 where
+      pub reply : GetsReply exchanged token (Query Head) before
+      pub ready : Scene T
+      pub catches : CatchesUp reply.epoch (replied reply) ready
+      pub told : Report
+      pub hears : HearsFrame hash accepted verified reply.head.body.epoch ready.client (Query Head) reply.frame told after.client
+      pub tells : after.told ≡ told_after ready.told (unless_fine told)
+      pub same : (after.monitors ≡ ready.monitors) × (after.stream ≡ ready.stream)
 
     -- the chain has no root of this epoch or a later one, and a frame stops the taking of roots
     abbrev pub StopsBelow : ℕ → Scene T → Scene T → Type 0
@@ -121,8 +149,8 @@ module _ (hash : List ℕ → List ℕ) (accepted verified : List ℕ → List �
     CatchesSome epoch before after = (head : SignedRoot) × IsHead before.client.chain head × (head.body.epoch < epoch) × TakesSome hash verified exchanged before after
 
     -- what the client makes of a frame is told and perhaps noted, and the monitors are given nothing of it yet
-    abbrev pub HearsOnly : RequestContent → Frame → List SignedPromise → List SignedPromise → Scene T → Scene T → Type 0
-    HearsOnly asked frame noted noted' before after = ((noted' ≡ noted) ⊎ Notes asked before.client.promises after.client.promises noted noted') × (told : Report) × HearsFrame hash accepted verified before.client asked frame told after.client
+    abbrev pub HearsOnly : ℕ → RequestContent → Frame → List SignedPromise → List SignedPromise → Scene T → Scene T → Type 0
+    HearsOnly held asked frame noted noted' before after = ((noted' ≡ noted) ⊎ Notes asked before.client.promises after.client.promises noted noted') × (told : Report) × HearsFrame hash accepted verified held before.client asked frame told after.client
         × (after.told ≡ told_after before.told told) × (after.monitors ≡ before.monitors) × (after.stream ≡ before.stream)
 
     -- the chain has epochs above this one, and monitors and promises are at some point
@@ -131,14 +159,19 @@ module _ (hash : List ℕ → List ℕ) (accepted verified : List ℕ → List �
 
     -- a frame is heard, up to some point: it is not told yet; it is told; or monitors and promises go on
     abbrev pub HearsSome : List Mark → ℕ → RequestContent → Frame → List SignedPromise → List SignedPromise → Scene T → Scene T → Type 0
-    HearsSome marks epoch asked frame noted noted' before after = ((noted' ≡ noted) × (after ≡ before)) ⊎ (HearsOnly asked frame noted noted' before after
-        ⊎ ((heard : Scene T) × HearsOne asked frame before heard × Notes asked before.client.promises heard.client.promises noted noted' × GoesSomeAbove marks epoch heard after))
+    HearsSome marks epoch asked frame noted noted' before after = ((noted' ≡ noted) × (after ≡ before)) ⊎ (HearsOnly epoch asked frame noted noted' before after
+        ⊎ ((heard : Scene T) × HearsOne epoch asked frame before heard × Notes asked before.client.promises heard.client.promises noted noted' × GoesSomeAbove marks epoch heard after))
 
     -- The line gets a reply. Then the steps of AsksDirectory, up to some point.
     pub record AsksOn (marks : List Mark) (token : List ℕ) (asked : RequestContent) (noted noted' : List SignedPromise) (before after : Scene T) : Type 0 where
       pub reply : GetsReply exchanged token asked before
       pub steps : ((noted' ≡ noted) × CatchesSome reply.epoch (replied reply) after)
           ⊎ ((ready : Scene T) × CatchesUp reply.epoch (replied reply) ready × HearsSome marks reply.head.body.epoch asked reply.frame noted noted' ready after)
+
+    -- no frame comes back, or the chain is on its way to the latest root, or is there
+    abbrev pub FindsSome : List ℕ → Scene T → Scene T → Type 0
+    FindsSome token before after = (after ≡ before)
+        ⊎ ((reply : GetsReply exchanged token (Query Head) before) × (CatchesSome reply.epoch (replied reply) after ⊎ CatchesUp reply.epoch (replied reply) after))
 
     -- no frame comes back, or the steps of a line are at some point
     abbrev pub AsksSome : List Mark → List ℕ → RequestContent → List SignedPromise → List SignedPromise → Scene T → Scene T → Type 0

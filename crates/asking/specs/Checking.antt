@@ -1,5 +1,5 @@
 -- What the client makes of the reply to what was asked, and the lines that tell it.
-use Rattle.std.specs.Prelude.{◌≡◌, ◌≢◌, ◌≤◌, ◌<◌, ◌⊎◌, ℕ, List, [], ◌∷◌, Option, None, Some, Result, Ok, Err, codes, ⊤}
+use Rattle.std.specs.Prelude.{◌≡◌, ◌≢◌, ◌⊎◌, nat_lt, if◌then◌else◌, ℕ, List, [], ◌∷◌, Option, None, Some, Result, Ok, Err, codes, ⊤}
 use Rattle.commands.specs.Operations.{Lookup, History}
 use Rattle.rootchain.specs.Chains.{KeyedRoots, Verifies}
 use Rattle.rootchain.specs.Places.{IsPlace}
@@ -24,7 +24,7 @@ use Rattle.client.specs.declared.client_refusal.Refusal.{Refusal}
 use Rattle.client.specs.declared.client_refusal.Refusal.TheVariants.{Memory, RootDiffers}
 use Rattle.play.specs.Hearing.{response_text}
 use Rattle.play.specs.Lines.{statement_text}
-use Rattle.asking.specs.Answering.{IsAnswerTo}
+use Rattle.asking.specs.Answering.{IsAnswerAt}
 use Rattle.asking.specs.Refused.{client_refuses, other_reply, refuses_text}
 use Rattle.asking.specs.Reports.{Report, fine, refused}
 
@@ -43,14 +43,18 @@ abbrev pub promise_told : {A : Type 0} → ResponseContent → Result A Refusal 
 promise_told responded (Ok _) = fine (response_text responded)
 promise_told responded (Err why) = client_refuses (codes "client refuses promise") why
 
+-- what is told of a latest root that the chain has: it is not older than the head that was held when it was asked for
+abbrev pub known_told : ℕ → SignedRoot → Report
+known_told held told = if nat_lt told.body.epoch held then client_refuses (codes "client refuses root") (of_root root.NotLater) else fine (response_text (Root told))
+
 -- what is told of the latest root, by where it stands: the chain has to have it
-abbrev pub place_told : SignedRoot → Result Place RootRefusal → Report
-place_told told (Ok Known) = fine (response_text (Root told))
-place_told told (Ok Next) = client_refuses (codes "client refuses root") (of_root root.BadLink)
-place_told told (Ok Ahead) = client_refuses (codes "client refuses root") (of_root root.BadLink)
-place_told told (Ok BeforeStart) = client_refuses (codes "client refuses root") (of_root root.NotLater)
-place_told told (Ok (Evidence roots)) = client_refuses (codes "client refuses root") (RootDiffers roots)
-place_told told (Err why) = client_refuses (codes "client refuses root") (of_root why)
+abbrev pub place_told : ℕ → SignedRoot → Result Place RootRefusal → Report
+place_told held told (Ok Known) = known_told held told
+place_told held told (Ok Next) = client_refuses (codes "client refuses root") (of_root root.BadLink)
+place_told held told (Ok Ahead) = client_refuses (codes "client refuses root") (of_root root.BadLink)
+place_told held told (Ok BeforeStart) = client_refuses (codes "client refuses root") (of_root root.NotLater)
+place_told held told (Ok (Evidence roots)) = client_refuses (codes "client refuses root") (RootDiffers roots)
+place_told held told (Err why) = client_refuses (codes "client refuses root") (of_root why)
 
 -- why a root is refused that comes with others: it does not verify, or is evidence
 abbrev pub refusal_at : Result Place RootRefusal → Option Refusal
@@ -72,37 +76,35 @@ module _ (hash : List ℕ → List ℕ) (verified : List ℕ → List ℕ → Li
   Places chain told (Ok place) = Verifies verified chain.key told × IsPlace hash chain told place
   Places chain told (Err why) = (¬ Verifies verified chain.key told) × (why ≡ root.BadSignature)
 
-  -- what is told of roots that were asked for from an epoch on, of which these are left: the first that is
-  -- refused, or all of them
-  abbrev pub AreTold : KeyedRoots → ℕ → List SignedRoot → List SignedRoot → Report → Type 0
-  AreTold chain from all [] told = told ≡ fine (response_text (Roots all))
-  AreTold chain from all (first ∷ more) told =
-      ((first.body.epoch < from) × (told ≡ other_reply))
-      ⊎ ((from ≤ first.body.epoch) × (place : Result Place RootRefusal) × Places chain first place × FollowsUnlessRefused (AreTold chain from all more told) (refusal_at place) told)
+  -- what is told of roots that were asked for, of which these are left: the first that is refused, or all of them
+  abbrev pub AreTold : KeyedRoots → List SignedRoot → List SignedRoot → Report → Type 0
+  AreTold chain all [] told = told ≡ fine (response_text (Roots all))
+  AreTold chain all (first ∷ more) told = (place : Result Place RootRefusal) × Places chain first place × FollowsUnlessRefused (AreTold chain all more told) (refusal_at place) told
 
 module _ (hash : List ℕ → List ℕ) (accepted verified : List ℕ → List ℕ → List ℕ → Type 0) where
-  module _ (before : Client) (body : List ℕ) where
-    -- a reply to a look-up, a promise, the latest root, or roots, and the client after it: it looks, or keeps
-    -- the promise
+  module _ (held : ℕ) (before : Client) (body : List ℕ) where
+    -- a reply to a look-up, a promise, the latest root, or roots, and the client after it: it looks under the root of
+    -- the reply's own epoch, or keeps the promise
     abbrev pub IsCheckedAs : RequestContent → ResponseContent → Report → Client → Type 0
     IsCheckedAs (Query (Lookup name epoch)) (Proof reply) told after =
-        (answer : Result Statement Refusal) × (Looks hash accepted before name epoch body answer after × IsTellable answer) × (told ≡ look_told reply.body.epoch answer)
+        (answer : Result Statement Refusal) × (Looks hash accepted before name reply.body.epoch body answer after × IsTellable answer) × (told ≡ look_told reply.body.epoch answer)
     IsCheckedAs asked (response.Promise signed) told after =
         (answer : Result (Unit {0}) Refusal) × (KeepsPromise hash verified before body answer after × IsTellable answer) × (told ≡ promise_told (response.Promise signed) answer)
     IsCheckedAs asked (Root latest) told after = (after ≡ before)
-        × ((place : Result Place RootRefusal) × Places hash verified before.chain latest place × (told ≡ place_told latest place))
-    IsCheckedAs (Query (History from count)) (Roots roots) told after = (after ≡ before) × AreTold hash verified before.chain from roots roots told
+        × ((place : Result Place RootRefusal) × Places hash verified before.chain latest place × (told ≡ place_told held latest place))
+    IsCheckedAs (Query (History from count)) (Roots roots) told after = (after ≡ before) × AreTold hash verified before.chain roots roots told
     IsCheckedAs _ _ told after = ⊥
 
     -- a response to what was asked: a refusal of the directory is told, any other is checked if it answers
     abbrev pub HearsResponse : RequestContent → ResponseContent → Report → Client → Type 0
     HearsResponse asked (Refused code) told after = (told ≡ refused (response_text (Refused code))) × (after ≡ before)
     HearsResponse asked responded told after =
-        ((¬ IsAnswerTo asked responded) × (told ≡ other_reply) × (after ≡ before))
-        ⊎ (IsAnswerTo asked responded × IsCheckedAs asked responded told after)
+        ((¬ IsAnswerAt held asked responded) × (told ≡ other_reply) × (after ≡ before))
+        ⊎ (IsAnswerAt held asked responded × IsCheckedAs asked responded told after)
 
-  -- A frame that comes back, whatever it has: a response, or none.
-  abbrev pub HearsFrame : Client → RequestContent → Frame → Report → Client → Type 0
-  HearsFrame before asked frame told after =
-      ((responded : ResponseContent) × Responds frame.kind frame.body responded × HearsResponse before frame.body asked responded told after)
+  -- A frame that comes back, whatever it has: a response, or none. The chain had a head of this epoch when the line
+  -- was asked.
+  abbrev pub HearsFrame : ℕ → Client → RequestContent → Frame → Report → Client → Type 0
+  HearsFrame held before asked frame told after =
+      ((responded : ResponseContent) × Responds frame.kind frame.body responded × HearsResponse held before frame.body asked responded told after)
       ⊎ ((why : ReadRefusal) × ReadsResponse frame.kind frame.body (Err why) × (told ≡ refused (refuses_text (codes "client refuses reply") (read_refusal_number why))) × (after ≡ before))

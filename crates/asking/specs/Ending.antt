@@ -8,15 +8,16 @@ use Rattle.sigiface.specs.StandIn.{KeyedVerifies}
 use Rattle.rootchain.specs.declared.signed_promise.SignedPromise.{SignedPromise}
 use Rattle.textio.specs.Output.{WritesSome}
 use Rattle.wire.specs.Frames.{Frame}
-use Rattle.wire.specs.Requests.{RequestContent}
+use Rattle.commands.specs.Operations.{Head}
+use Rattle.wire.specs.Requests.{RequestContent, Query}
 use Rattle.play.specs.Scripts.{ScriptLine, Pass, Ask, Watch, Piece, End, line_of}
 use Rattle.asking.specs.AskOptions.{AskOptions, ask_keys_of}
-use Rattle.asking.specs.Asking.{AsksSome, StopsAsking}
+use Rattle.asking.specs.Asking.{AsksSome, FindsSome, StopsAsking}
 use Rattle.asking.specs.Exchanges.{ExchangesFrames}
-use Rattle.asking.specs.Following.{Follows, StopsAfter, TakesSome}
+use Rattle.asking.specs.Following.{StopsAfter, TakesSome}
 use Rattle.asking.specs.Joining.{BeginsSome}
 use Rattle.asking.specs.Reports.{Report}
-use Rattle.asking.specs.Runs.{AsksLines, StartsRun, DoesLine, emptied, Background, lines_asked, Prepares, RunsWhole, Writes}
+use Rattle.asking.specs.Runs.{AsksLines, StartsRun, DoesLine, emptied, Background, lines_asked, Prepares, RunsWhole, TakesNew, Writes}
 use Rattle.asking.specs.Scenes.{Scene, StopsAtHead}
 use Rattle.asking.specs.Visiting.{TestsSome}
 use Rattle.asking.specs.declared.run.RunEnd.{RunEnd}
@@ -43,12 +44,17 @@ BeginsNone {T} verified exchanged key stream before told = (told ≡ before) ⊎
 
 module _ (hash : List ℕ → List ℕ) (accepted verified : List ℕ → List ℕ → List ℕ → Type 0) {T : Type 0} (exchanged : T → RequestContent → Frame → T → Type 0) where
   module _ (background : Background) where
-    -- what is new is followed, wholly or up to some point, or up to a frame that stops it
-    abbrev pub PreparesSome : Scene T → Scene T → Type 0
-    PreparesSome before reached = Prepares hash accepted verified exchanged background before reached
-        ⊎ (TakesSome hash verified exchanged before reached
-        ⊎ (((count : ℕ) × StopsAfter hash verified exchanged count before reached)
-        ⊎ ((count : ℕ) × (middle : Scene T) × Follows hash verified exchanged count before middle × TestsSome hash accepted exchanged background.marks middle reached)))
+    -- some of the new roots are taken, or a frame stops it
+    abbrev pub TakesSomeNew : Type 0 → Scene T → Scene T → Type 0
+    TakesSomeNew HasNoState before reached =
+        (HasNoState × (TakesSome hash verified exchanged before reached ⊎ ((count : ℕ) × StopsAfter hash verified exchanged count before reached)))
+        ⊎ ((¬ HasNoState) × (FindsSome hash accepted verified exchanged background.token before reached ⊎ StopsAsking hash accepted verified exchanged background.token (Query Head) before reached))
+
+    -- what is new is taken and tested, wholly or up to some point, or up to a frame that stops it
+    abbrev pub PreparesSome : Type 0 → Scene T → Scene T → Type 0
+    PreparesSome HasNoState before reached = Prepares hash accepted verified exchanged background HasNoState before reached
+        ⊎ (TakesSomeNew HasNoState before reached
+        ⊎ ((middle : Scene T) × TakesNew hash accepted verified exchanged background HasNoState before middle × TestsSome hash accepted exchanged background.marks middle reached))
 
     -- what a line says is asked up to some point, or up to a frame that stops it
     abbrev pub DoesPart : ScriptLine → Scene T → Scene T → Type 0
@@ -83,10 +89,10 @@ module _ (hash : List ℕ → List ℕ) (accepted verified : List ℕ → List �
       pub tells : told ≡ reached.told
 
     -- where a run ends: while what is new is followed; or behind that, at one of its lines
-    abbrev pub RunEndsAt : AskOptions → Option (List ℕ) → Scene T → Option (List ℕ) → Report → Option (List ℕ) → Type 0
-    RunEndsAt options input start old told now =
-        ((reached : Scene T) × PreparesSome start reached × (told ≡ reached.told) × (now ≡ old))
-        ⊎ ((ready : Scene T) × (next : Option (List ℕ)) × Writes (Prepares hash accepted verified exchanged background) start old next ready
+    abbrev pub RunEndsAt : AskOptions → Type 0 → Option (List ℕ) → Scene T → Option (List ℕ) → Report → Option (List ℕ) → Type 0
+    RunEndsAt options HasNoState input start old told now =
+        ((reached : Scene T) × PreparesSome HasNoState start reached × (told ≡ reached.told) × (now ≡ old))
+        ⊎ ((ready : Scene T) × (next : Option (List ℕ)) × Writes (Prepares hash accepted verified exchanged background HasNoState) start old next ready
         × IfSome (lines_asked options.words input) (λ lines. AsksPart lines ready told next now))
 
   -- A run that ends before all is asked: no client starts, or it ends at such a place. Then this holds of what
@@ -94,7 +100,7 @@ module _ (hash : List ℕ → List ℕ) (accepted verified : List ℕ → List �
   abbrev pub EndsEarly : List ℕ → List ℕ → AskOptions → Type 0 → T → Option (List ℕ) → Option (List ℕ) → (Report → Option (List ℕ) → Type 0) → Type 0
   EndsEarly key token options HasNoState stream input old Then = (told : Report) × (now : Option (List ℕ)) × Then told now
       × ((BeginsNone verified exchanged key stream (emptied 0) told × (now ≡ old))
-      ⊎ ((background : Background) × (start : Scene T) × StartsRun hash accepted verified exchanged key token HasNoState stream background start × RunEndsAt background options input start old told now))
+      ⊎ ((background : Background) × (start : Scene T) × StartsRun hash accepted verified exchanged key token HasNoState stream background start × RunEndsAt background options HasNoState input start old told now))
 
   -- a run that is whole, or was stopped: what was told is then written, or a beginning of it, and the status is
   -- that of an alarm exactly where one was told

@@ -13,6 +13,7 @@ use Rattle.client.specs.Updating.{Updates}
 use Rattle.client.specs.declared.client_refusal.Refusal.{Refusal}
 use Rattle.client.specs.declared.client_refusal.Refusal.TheVariants.{Memory}
 use Rattle.monitor.specs.Monitors.{Monitor, new_monitor}
+use Rattle.monitor.specs.declared.monitor_refusal.Refusal.{Refusal as MonitorRefusal}
 use Rattle.wire.specs.Frames.{Frame}
 use Rattle.wire.specs.Requests.{RequestContent}
 use Rattle.asking.specs.declared.asker.Mark.{Mark}
@@ -77,7 +78,7 @@ module _ (hash : List ℕ → List ℕ) (accepted verified : List ℕ → List �
   -- a monitor is given each of these promises that is one for its name
   abbrev pub AllHand : List SignedPromise → Monitor → Monitor → Type 0
   AllHand [] before after = after ≡ before
-  AllHand (signed ∷ more) before after = (middle : Monitor) × HandsTo hash accepted verified signed (signed_promise_bytes signed) before middle × AllHand more middle after
+  AllHand (signed ∷ more) before after = (why : Option MonitorRefusal) × (middle : Monitor) × HandsTo hash accepted verified signed (signed_promise_bytes signed) before why middle × AllHand more middle after
 
   -- A monitor that watches a name from a root of the chain on. It expects what earlier runs were promised:
   -- the last before that root at first, and those there as changes.

@@ -19,6 +19,10 @@ refused line = record { lines = line ++ 10 ∷ []; status = REFUSED }
 abbrev pub silent : Report
 silent = record { lines = []; status = 0 }
 
+-- nothing, if all went well
+abbrev pub unless_fine : Report → Report
+unless_fine told = if nat_lt 0 told.status then told else silent
+
 -- the worse of two statuses
 abbrev pub worse : ℕ → ℕ → ℕ
 worse one other = if nat_lt one other then other else one

@@ -10,7 +10,7 @@ use Rattle.wire.specs.Frames.{Frame}
 use Rattle.wire.specs.Requests.{RequestContent}
 use Rattle.play.specs.Scripts.{ScriptLine, Pass, Ask, Watch, Piece, End, line_of}
 use Rattle.asking.specs.AskOptions.{AskOptions}
-use Rattle.asking.specs.Asking.{AsksDirectory}
+use Rattle.asking.specs.Asking.{AsksDirectory, FindsHead}
 use Rattle.asking.specs.Following.{Follows}
 use Rattle.asking.specs.Joining.{BeginsWatch}
 use Rattle.asking.specs.Reports.{Report}
@@ -86,9 +86,14 @@ IsSoundFor hash accepted verified key client = (client.chain.key ≡ key) × IsC
 
 module _ (hash : List ℕ → List ℕ) (accepted verified : List ℕ → List ℕ → List ℕ → Type 0) {T : Type 0} (exchanged : T → RequestContent → Frame → T → Type 0) where
   module _ (background : Background) where
+    -- the new roots are taken; where there is a state, those up to the latest root, which is placed in the chain
+    abbrev pub TakesNew : Type 0 → Scene T → Scene T → Type 0
+    TakesNew HasNoState before after =
+        (HasNoState × (count : ℕ) × Follows hash verified exchanged count before after) ⊎ ((¬ HasNoState) × FindsHead hash accepted verified exchanged background.token before after)
+
     -- the new roots are taken, and each promise is tested that is due and does not wait
-    abbrev pub Prepares : Scene T → Scene T → Type 0
-    Prepares before after = (count : ℕ) × (middle : Scene T) × Follows hash verified exchanged count before middle × TestsAll hash accepted exchanged background.marks middle after
+    abbrev pub Prepares : Type 0 → Scene T → Scene T → Type 0
+    Prepares HasNoState before after = (middle : Scene T) × TakesNew HasNoState before middle × TestsAll hash accepted exchanged background.marks middle after
 
     -- what a line says is asked; one that says something to a session asks nothing of a directory
     abbrev pub DoesLine : ScriptLine → Scene T → Scene T → Type 0
@@ -127,7 +132,7 @@ module _ (hash : List ℕ → List ℕ) (accepted verified : List ℕ → List �
     pub begun : StartsRun key token HasNoState stream background start
     pub ready : Scene T
     pub now : Option (List ℕ)
-    pub prepares : Writes (Prepares background) start old now ready
+    pub prepares : Writes (Prepares background HasNoState) start old now ready
     pub last : Scene T
     pub asks : IfSome (lines_asked options.words input) (λ lines. AsksLines background lines ready now new last)
     pub status_is : status ≡ last.told.status

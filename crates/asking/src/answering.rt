@@ -1,11 +1,12 @@
 // Whether a reply answers what was asked. Only then it is checked.
-ghost use Rattle.std.specs.Prelude.{◌≡◌, ◌↔◌, codes, option_map, IfOk, IsTrue, OnErr, OnOk};
+ghost use Rattle.std.specs.Prelude.{◌≡◌, ◌↔◌, ◌≤◌, codes, option_map, IfOk, IsTrue, OnErr, OnOk};
+ghost use Rattle.std.specs.List.{AllByRecursion};
 ghost use Rattle.wire.specs.FrameViews.{frame_seen};
 ghost use Rattle.wire.specs.Refusals.{read_refusal_number};
 ghost use Rattle.wire.specs.Responses.{response_seen, Refused};
 ghost use Rattle.play.specs.Hearing.{response_text};
 ghost use Rattle.play.specs.Scripts.{ask_seen};
-ghost use Rattle.asking.specs.Answering.{IsAnswerTo};
+ghost use Rattle.asking.specs.Answering.{IsAnswerAt, IsAnswerTo, IsTimely};
 ghost use Rattle.asking.specs.Refused.{other_reply, refuses_text};
 ghost use Rattle.asking.specs.Scenes.{miss_told, GivesBody};
 ghost use Rattle.asking.specs.Reports.{refused, report_of, Tells};
@@ -13,6 +14,7 @@ ghost use Rattle.asking.specs.Reports.{refused, report_of, Tells};
 use crate::said::{Said, directory_words};
 use encoding::Name;
 use play::{Ask, push_number, tell_response};
+use rootchain::RootList;
 use std::alloc::{AllocError, Global};
 use wire::{FrameView, ReadRefusal, Response};
 
@@ -31,7 +33,9 @@ pub(crate) fn answers(ask: &Ask, response: &Response<'_>) -> bool
         (Ask::Lookup { name, epoch }, Response::Proof(found)) => {
             Name::new(name).is_ok() && (*epoch == 0 || found.body().epoch == *epoch)
         }
-        (Ask::History { count, .. }, Response::Roots(roots)) => roots.len() <= usize::from(*count),
+        (Ask::History { from, count }, Response::Roots(roots)) => {
+            roots.len() <= usize::from(*count) && are_from(*from, roots)
+        }
         (Ask::Head, Response::Root(_)) => true,
         (Ask::Turn { epoch, nonce: None }, Response::Root(root)) => root.body.epoch == *epoch,
         (
@@ -43,6 +47,42 @@ pub(crate) fn answers(ask: &Ask, response: &Response<'_>) -> bool
         ) => root.body.epoch == *epoch && root.body.nonce == *nonce,
         _ => false,
     }
+}
+
+/// Whether each of these roots is of this epoch or a later one.
+fn are_from(from: u64, roots: &RootList<'_>) -> bool
+    ensures { IsTrue result ↔ AllByRecursion (λ root. from ≤ root.body.epoch) roots.now }
+{
+    let mut rest = roots.copied();
+    for _ in 0..rest.len() {
+        let Some(root) = rest.next() else {
+            unreachable!()
+        };
+        if root.body.epoch < from {
+            return false;
+        }
+    }
+    true
+}
+
+/// Whether a response is over a root that is not older than one of this epoch, if it has to be.
+fn is_timely(held: u64, ask: &Ask, response: &Response<'_>) -> bool
+    ensures { IsTrue result ↔ IsTimely held (ask_seen ask.now) (response_seen response.now) }
+{
+    match (ask, response) {
+        (_, Response::Promise(signed)) => held <= signed.promise.epoch,
+        (Ask::Lookup { epoch, .. }, Response::Proof(found)) => {
+            *epoch != 0 || held <= found.body().epoch
+        }
+        _ => true,
+    }
+}
+
+/// Whether a response is one to what was asked when the chain had a head of this epoch.
+pub(crate) fn answers_at(held: u64, ask: &Ask, response: &Response<'_>) -> bool
+    ensures { IsTrue result ↔ IsAnswerAt held (ask_seen ask.now) (response_seen response.now) }
+{
+    answers(ask, response) && is_timely(held, ask, response)
 }
 
 /// Tells a refusal of the directory.

@@ -1,18 +1,20 @@
 // A question over a stream: what the client makes of its reply, and what follows from it.
-ghost use Rattle.std.specs.Prelude.{◌≡◌, ◌≢◌, ◌⊎◌, Err, IfErr, IfOk, OnOk};
+ghost use Rattle.std.specs.Prelude.{◌≡◌, ◌≢◌, ◌⊎◌, Err, IfErr, IfOk, OnErr, OnOk};
+ghost use Rattle.commands.specs.Operations.{Head};
 ghost use Rattle.wire.specs.Frames.{Frame};
 ghost use Rattle.wire.specs.FrameViews.{frame_seen};
+ghost use Rattle.wire.specs.Requests.{Query};
 ghost use Rattle.wire.specs.Responses.{response_seen};
 ghost use Rattle.play.specs.Scripts.{ask_seen, with_token};
 ghost use Rattle.asking.specs.Askers.{asker_changes, asker_marks, asker_token};
-ghost use Rattle.asking.specs.Asking.{response_epoch, AsksDirectory, AsksSome, CatchesSome, CatchesUp, GoesOnAbove, GoesSomeAbove, Hands, Notes, SpeaksOf, StopsAsking, StopsBelow};
+ghost use Rattle.asking.specs.Asking.{response_epoch, AsksDirectory, AsksSome, CatchesSome, CatchesUp, FindsHead, FindsSome, GoesOnAbove, GoesSomeAbove, Hands, Notes, SpeaksOf, StopsAsking, StopsBelow};
 ghost use Rattle.asking.specs.Checking.{HearsFrame};
 ghost use Rattle.asking.specs.Exchanges.{ExchangesFrames, HoldsFrame, IsOneFrame};
 ghost use Rattle.asking.specs.Scenes.{scene, HaltsAfter, Remains, StaysWhole};
-ghost use Rattle.asking.specs.Reports.{report_of, Report, Tells};
+ghost use Rattle.asking.specs.Reports.{report_of, told_after, unless_fine, Report};
 ghost use Rattle.asking.specs.declared.ask_fault.AskFault.TheVariants.{Stopped};
 
-use crate::answering::answers;
+use crate::answering::answers_at;
 use crate::checking::hear;
 use crate::exchange::{exchange, frame_in};
 use crate::{AskFault, Asker, Said};
@@ -24,13 +26,13 @@ use std::io::{Read, Write};
 use vrfiface::VufCheck;
 use wire::{FrameView, Response};
 
-/// The epoch of which a response speaks, if it answers what was asked; else 0.
-fn epoch_of(ask: &Ask, frame: &FrameView<'_>) -> u64
-    ensures { SpeaksOf (ask_seen ask.now) (frame_seen frame.now) result }
+/// The epoch of which a response speaks, if it answers what was asked when the chain had a head of this epoch; else 0.
+fn epoch_of(held: u64, ask: &Ask, frame: &FrameView<'_>) -> u64
+    ensures { SpeaksOf held (ask_seen ask.now) (frame_seen frame.now) result }
 {
     match Response::read(frame.kind, frame.body) {
         Ok(response) => {
-            if !answers(ask, &response) {
+            if !answers_at(held, ask, &response) {
                 return 0;
             }
             epoch_in(&response)
@@ -79,9 +81,52 @@ where
         let head = self.head();
         let reply = self.request(stream, ask)?;
         let frame = frame_in(&reply)?;
-        self.catch_up(stream, epoch_of(ask, &frame), said)?;
-        self.answer(ask, &frame, said)?;
+        self.catch_up(stream, epoch_of(head, ask, &frame), said)?;
+        self.answer(head, ask, &frame, said)?;
         self.go_on_from(stream, head, said)
+    }
+
+    /// Asks for the directory's latest root, and tells what the client makes of it only if it refuses it.
+    ///
+    /// # Errors
+    ///
+    /// `NoReply`; `Stopped` if the roots up to it are not taken; `OutOfMemory`.
+    pub fn check_head<T: Read + Write>(
+        &mut self,
+        stream: &mut T,
+        said: &mut Said,
+    ) -> Result<(), AskFault>
+        ensures finds { OnOk result (FindsHead H.digest_of V.accepted S.verified (ExchangesFrames T.contents T.remaining) (asker_token self.old) (scene self.old said.old stream.old) (scene self.new said.new stream.new)) }
+        ensures stays { StaysWhole self.old self.new }
+        ensures stops { result ≡ Err Stopped → StopsAsking H.digest_of V.accepted S.verified (ExchangesFrames T.contents T.remaining) (asker_token self.old) (Query Head) (scene self.old said.old stream.old) (scene self.new said.new stream.new) }
+        ensures halts { IfErr result (λ fault. fault ≢ Stopped → HaltsAfter (FindsSome H.digest_of V.accepted S.verified (ExchangesFrames T.contents T.remaining) (asker_token self.old) (scene self.old said.old stream.old)) fault self.new said.new) }
+    {
+        let held = self.head();
+        let reply = self.request(stream, &Ask::Head)?;
+        let frame = frame_in(&reply)?;
+        self.catch_up(stream, epoch_of(held, &Ask::Head, &frame), said)?;
+        Ok(self.find_head(held, &frame, said)?)
+    }
+
+    /// Tells what the client makes of a frame that came back for the latest root, if it refuses it.
+    fn find_head(
+        &mut self,
+        held: u64,
+        frame: &FrameView<'_>,
+        said: &mut Said,
+    ) -> Result<(), AllocError>
+        ensures finds { OnOk result ((told : Report) × HearsFrame H.digest_of V.accepted S.verified held (self.old).client (Query Head) (frame_seen frame.now) told (self.new).client × (report_of said.new ≡ told_after (report_of said.old) (unless_fine told))) }
+        ensures monitors { (self.new).monitors ≡ (self.old).monitors }
+        ensures stays { StaysWhole self.old self.new }
+        ensures untold { OnErr result (report_of said.new ≡ report_of said.old) }
+    {
+        let mut now = Said::new(self.alloc);
+        let checks = &mut self.checks;
+        hear(self.alloc, &mut self.client, checks, held, &Ask::Head, frame, &mut now)?;
+        if now.status == 0 {
+            return Ok(());
+        }
+        said.join(now)
     }
 
     /// Takes the roots up to the one that a reply speaks of.
@@ -106,24 +151,27 @@ where
     /// for a change of its own is noted, and handed to the monitors of the name.
     fn answer(
         &mut self,
+        held: u64,
         ask: &Ask,
         frame: &FrameView<'_>,
         said: &mut Said,
     ) -> Result<(), AllocError>
-        ensures hears { OnOk result ((told : Report) × HearsFrame H.digest_of V.accepted S.verified (self.old).client (ask_seen ask.now) (frame_seen frame.now) told (self.new).client × Tells said.old told said.new) }
-        ensures hands { OnOk result (Hands H.digest_of V.accepted S.verified (ask_seen ask.now) (frame_seen frame.now).body (self.old).client.promises (self.new).client.promises (self.old).monitors.items (self.new).monitors.items) }
+        ensures hears { OnOk result ((told : Report) × (handed : Report) × HearsFrame H.digest_of V.accepted S.verified held (self.old).client (ask_seen ask.now) (frame_seen frame.now) told (self.new).client
+            × Hands H.digest_of V.accepted S.verified (ask_seen ask.now) (frame_seen frame.now).body (self.old).client.promises (self.new).client.promises (self.old).monitors.items handed (self.new).monitors.items
+            × (report_of said.new ≡ told_after (told_after (report_of said.old) told) handed)) }
         ensures notes { OnOk result (Notes (ask_seen ask.now) (self.old).client.promises (self.new).client.promises (self.old).changes.items (self.new).changes.items) }
         ensures noted { ((self.new).changes.items ≡ (self.old).changes.items) ⊎ Notes (ask_seen ask.now) (self.old).client.promises (self.new).client.promises (self.old).changes.items (self.new).changes.items }
         ensures stays { Remains self.old self.new }
-        ensures told { ((report_of said.new ≡ report_of said.old) × ((self.new).changes.items ≡ (self.old).changes.items)) ⊎ ((told : Report) × HearsFrame H.digest_of V.accepted S.verified (self.old).client (ask_seen ask.now) (frame_seen frame.now) told (self.new).client × Tells said.old told said.new) }
+        ensures told { OnErr result (((report_of said.new ≡ report_of said.old) × ((self.new).changes.items ≡ (self.old).changes.items))
+            ⊎ ((told : Report) × HearsFrame H.digest_of V.accepted S.verified held (self.old).client (ask_seen ask.now) (frame_seen frame.now) told (self.new).client × (report_of said.new ≡ told_after (report_of said.old) told))) }
     {
         let kept = self.client.promises().len();
         let checks = &mut self.checks;
-        hear(self.alloc, &mut self.client, checks, ask, frame, said)?;
+        hear(self.alloc, &mut self.client, checks, held, ask, frame, said)?;
         if !matches!(ask, Ask::Put { .. }) || self.client.promises().len() <= kept {
             return Ok(());
         }
-        self.hand_out(frame.body)
+        self.hand_out(frame.body, said)
     }
 
     /// If there are epochs above this one, the monitors watch those that are new, and the promises that are due

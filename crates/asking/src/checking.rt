@@ -15,7 +15,7 @@ ghost use Rattle.asking.specs.Checking.{look_told, promise_told, HearsFrame, Hea
 ghost use Rattle.asking.specs.Refused.{client_refuses, evidence_before};
 ghost use Rattle.asking.specs.Reports.{report_of, Report, Tells};
 
-use crate::answering::{answers, tell_refused, tell_unread};
+use crate::answering::{answers_at, tell_refused, tell_unread};
 use crate::placing::{place_all, place_latest};
 use crate::{Checks, Said};
 use auditor::Evidence;
@@ -91,7 +91,8 @@ fn tell_refusal(alloc: Global, what: &[u8], why: Refusal, said: &mut Said) -> Re
     said.refuse(what, number, words.as_bytes())
 }
 
-/// What the client makes of the frame that came back for what was asked. A promise is kept.
+/// What the client makes of the frame that came back for what was asked, when its chain had a head of this epoch. A
+/// promise is kept.
 ///
 /// # Errors
 ///
@@ -100,6 +101,7 @@ pub fn hear<H, V, S>(
     alloc: Global,
     client: &mut Client<H, V, S>,
     checks: &mut Checks<H, V, S>,
+    held: u64,
     ask: &Ask,
     frame: &FrameView<'_>,
     said: &mut Said,
@@ -108,12 +110,12 @@ where
     H: NodeHash + Drop,
     V: VufCheck + Drop,
     S: Verifier + Drop,
-    ensures hears { OnOk result ((told : Report) × HearsFrame H.digest_of V.accepted S.verified client.old (ask_seen ask.now) (frame_seen frame.now) told client.new × Tells said.old told said.new) }
-    ensures client { (client.new ≡ client.old) ⊎ ((told : Report) × HearsFrame H.digest_of V.accepted S.verified client.old (ask_seen ask.now) (frame_seen frame.now) told client.new) }
+    ensures hears { OnOk result ((told : Report) × HearsFrame H.digest_of V.accepted S.verified held client.old (ask_seen ask.now) (frame_seen frame.now) told client.new × Tells said.old told said.new) }
+    ensures client { (client.new ≡ client.old) ⊎ ((told : Report) × HearsFrame H.digest_of V.accepted S.verified held client.old (ask_seen ask.now) (frame_seen frame.now) told client.new) }
     ensures untold { OnErr result (report_of said.new ≡ report_of said.old) }
 {
     let mut now = Said::new(alloc);
-    hear_frame(alloc, client, checks, ask, frame, &mut now)?;
+    hear_frame(alloc, client, checks, held, ask, frame, &mut now)?;
     said.join(now)?;
     Ok(())
 }
@@ -123,6 +125,7 @@ fn hear_frame<H, V, S>(
     alloc: Global,
     client: &mut Client<H, V, S>,
     checks: &mut Checks<H, V, S>,
+    held: u64,
     ask: &Ask,
     frame: &FrameView<'_>,
     said: &mut Said,
@@ -131,11 +134,13 @@ where
     H: NodeHash + Drop,
     V: VufCheck + Drop,
     S: Verifier + Drop,
-    ensures hears { OnOk result ((told : Report) × HearsFrame H.digest_of V.accepted S.verified client.old (ask_seen ask.now) (frame_seen frame.now) told client.new × Tells said.old told said.new) }
-    ensures client { (client.new ≡ client.old) ⊎ ((told : Report) × HearsFrame H.digest_of V.accepted S.verified client.old (ask_seen ask.now) (frame_seen frame.now) told client.new) }
+    ensures hears { OnOk result ((told : Report) × HearsFrame H.digest_of V.accepted S.verified held client.old (ask_seen ask.now) (frame_seen frame.now) told client.new × Tells said.old told said.new) }
+    ensures client { (client.new ≡ client.old) ⊎ ((told : Report) × HearsFrame H.digest_of V.accepted S.verified held client.old (ask_seen ask.now) (frame_seen frame.now) told client.new) }
 {
     match Response::read(frame.kind, frame.body) {
-        Ok(response) => hear_response(alloc, client, checks, ask, response, frame.body, said),
+        Ok(response) => {
+            hear_response(alloc, client, checks, held, ask, response, frame.body, said)
+        }
         Err(why) => tell_unread(alloc, why, said),
     }
 }
@@ -145,6 +150,7 @@ fn hear_response<H, V, S>(
     alloc: Global,
     client: &mut Client<H, V, S>,
     checks: &mut Checks<H, V, S>,
+    held: u64,
     ask: &Ask,
     response: Response<'_>,
     body: &[u8],
@@ -154,10 +160,10 @@ where
     H: NodeHash + Drop,
     V: VufCheck + Drop,
     S: Verifier + Drop,
-    ensures hears { OnOk result ((told : Report) × HearsResponse H.digest_of V.accepted S.verified client.old body.now (ask_seen ask.now) (response_seen response.entry) told client.new × Tells said.old told said.new) }
-    ensures client { (client.new ≡ client.old) ⊎ ((told : Report) × HearsResponse H.digest_of V.accepted S.verified client.old body.now (ask_seen ask.now) (response_seen response.entry) told client.new) }
+    ensures hears { OnOk result ((told : Report) × HearsResponse H.digest_of V.accepted S.verified held client.old body.now (ask_seen ask.now) (response_seen response.entry) told client.new × Tells said.old told said.new) }
+    ensures client { (client.new ≡ client.old) ⊎ ((told : Report) × HearsResponse H.digest_of V.accepted S.verified held client.old body.now (ask_seen ask.now) (response_seen response.entry) told client.new) }
 {
-    let is_answer = answers(ask, &response);
+    let is_answer = answers_at(held, ask, &response);
     match response {
         Response::Refused(code) => tell_refused(code, said),
         Response::Promise(signed) => {
@@ -170,38 +176,36 @@ where
             if !is_answer {
                 return said.refuse_other();
             }
-            place_latest(alloc, client, checks, root, said)
+            place_latest(alloc, client, checks, held, root, said)
         }
         Response::Proof(found) => {
             if !is_answer {
                 return said.refuse_other();
             }
-            let Ask::Lookup { name, epoch } = ask else {
+            let Ask::Lookup { name, .. } = ask else {
                 unreachable!()
             };
-            let found_at = found.body().epoch;
-            look(alloc, client, checks, name, *epoch, found_at, body, said)
+            look(alloc, client, checks, name, found.body().epoch, body, said)
         }
         Response::Roots(roots) => {
             if !is_answer {
                 return said.refuse_other();
             }
-            let Ask::History { from, .. } = ask else {
+            let Ask::History { .. } = ask else {
                 unreachable!()
             };
-            place_all(alloc, client, checks, *from, roots, said)
+            place_all(alloc, client, checks, roots, said)
         }
     }
 }
 
-/// Looks at a reply to a look-up, which is of an epoch.
+/// Looks at a reply to a look-up under the root of this epoch, which is its own.
 fn look<H, V, S>(
     alloc: Global,
     client: &mut Client<H, V, S>,
     checks: &mut Checks<H, V, S>,
     name: &[u8],
     epoch: u64,
-    found_at: u64,
     reply: &[u8],
     said: &mut Said,
 ) -> Result<(), AllocError>
@@ -210,14 +214,14 @@ where
     V: VufCheck + Drop,
     S: Verifier + Drop,
     requires named { IsName name.now }
-    ensures tells { OnOk result ((answer : Result Statement Refusal) × (Looks H.digest_of V.accepted client.old name.now epoch reply.now answer client.new × IsTellable answer) × Tells said.old (look_told found_at answer) said.new) }
+    ensures tells { OnOk result ((answer : Result Statement Refusal) × (Looks H.digest_of V.accepted client.old name.now epoch reply.now answer client.new × IsTellable answer) × Tells said.old (look_told epoch answer) said.new) }
     ensures client { (client.new ≡ client.old) ⊎ ((answer : Result Statement Refusal) × Looks H.digest_of V.accepted client.old name.now epoch reply.now answer client.new × IsTellable answer) }
 {
     let Ok(name) = Name::new(name) else {
         unreachable!()
     };
     match client.look(&mut checks.hash, &checks.vuf, &name, epoch, reply) {
-        Ok(statement) => tell_statement(&mut said.text, found_at, statement),
+        Ok(statement) => tell_statement(&mut said.text, epoch, statement),
         Err(why) => tell_client(alloc, b"client refuses proof", why, said),
     }
 }

@@ -261,7 +261,7 @@ where
     ensures { OnOk result (AllHand H.digest_of V.accepted S.verified earlier.now monitor.old monitor.new) }
 {
     for signed in earlier {
-        hand_one(monitor, checks, signed, signed.write().bytes())?;
+        let _refused = hand_one(monitor, checks, signed, signed.write().bytes())?;
     }
     Ok(())
 }

@@ -4,7 +4,7 @@ ghost use Rattle.std.specs.Prelude.{◌≡◌, ◌++◌, codes, IfOk, None, OnOk
 ghost use Rattle.rootchain.specs.declared.chain.placing.Place.{Place};
 ghost use Rattle.rootchain.specs.declared.root_refusal.Refusal.{Refusal as ChainRefusal};
 ghost use Rattle.client.specs.Refusals.{of_root};
-ghost use Rattle.asking.specs.Checking.{place_told, refusal_at, AreTold, Places};
+ghost use Rattle.asking.specs.Checking.{known_told, place_told, refusal_at, AreTold, Places};
 ghost use Rattle.asking.specs.Refused.{client_refuses};
 ghost use Rattle.asking.specs.Stopping.{epochs_text, StopsAmong, StopsAtRoot};
 ghost use Rattle.asking.specs.Reports.{Report, Tells};
@@ -19,15 +19,6 @@ use sigiface::Verifier;
 use std::alloc::{AllocError, Global};
 use vrfiface::VufCheck;
 use wire::Response;
-
-/// Why roots that were asked for are not told.
-#[derive(Debug, Drop)]
-pub(crate) enum Stop {
-    /// One is of an epoch that was not asked for.
-    OtherEpoch,
-    /// One is refused.
-    Refused(Refusal),
-}
 
 /// Where a root stands to the chain of a client.
 fn place<H, V, S>(
@@ -46,11 +37,12 @@ where
         .place(&mut checks.hash, &checks.verifier, root)
 }
 
-/// Tells the latest root, which the chain has to have.
+/// Tells the latest root, which the chain has to have. It had a head of this epoch when the root was asked for.
 pub(crate) fn place_latest<H, V, S>(
     alloc: Global,
     client: &Client<H, V, S>,
     checks: &mut Checks<H, V, S>,
+    held: u64,
     root: SignedRoot,
     said: &mut Said,
 ) -> Result<(), AllocError>
@@ -58,16 +50,31 @@ where
     H: NodeHash + Drop,
     V: VufCheck + Drop,
     S: Verifier + Drop,
-    ensures { OnOk result ((place : Result Place ChainRefusal) × Places H.digest_of S.verified client.now.chain root place × Tells said.old (place_told root place) said.new) }
+    ensures { OnOk result ((place : Result Place ChainRefusal) × Places H.digest_of S.verified client.now.chain root place × Tells said.old (place_told held root place) said.new) }
 {
     match place(client, checks, &root) {
-        Ok(Place::Known) => tell_response(&mut said.text, Response::Root(root)),
+        Ok(Place::Known) => tell_known(alloc, held, root, said),
         Ok(Place::Next) => refuse_chain(alloc, rootchain::Refusal::BadLink, said),
         Ok(Place::Ahead) => refuse_chain(alloc, rootchain::Refusal::BadLink, said),
         Ok(Place::BeforeStart) => refuse_chain(alloc, rootchain::Refusal::NotLater, said),
         Ok(Place::Evidence(roots)) => refuse_root(alloc, Refusal::RootDiffers(roots), said),
         Err(why) => refuse_chain(alloc, why, said),
     }
+}
+
+/// Tells a latest root that the chain has: one that is older than the head of this epoch is refused.
+fn tell_known(
+    alloc: Global,
+    held: u64,
+    root: SignedRoot,
+    said: &mut Said,
+) -> Result<(), AllocError>
+    ensures { OnOk result (Tells said.old (known_told held root) said.new) }
+{
+    if root.body.epoch < held {
+        return refuse_chain(alloc, rootchain::Refusal::NotLater, said);
+    }
+    tell_response(&mut said.text, Response::Root(root))
 }
 
 /// Tells that a root is refused.
@@ -98,41 +105,33 @@ fn refusal_of(place: Result<Place, rootchain::Refusal>) -> Option<Refusal>
     }
 }
 
-/// Why a root that was asked for from an epoch on is not told, if there is a reason.
+/// Why a root that was asked for is not told, if there is a reason.
 fn stop_at<H, V, S>(
     client: &Client<H, V, S>,
     checks: &mut Checks<H, V, S>,
-    from: u64,
     root: &SignedRoot,
-) -> Option<Stop>
+) -> Option<Refusal>
 where
     H: NodeHash + Drop,
     V: VufCheck + Drop,
     S: Verifier + Drop,
-    ensures { StopsAtRoot H.digest_of S.verified client.now.chain from root.now result }
+    ensures { StopsAtRoot H.digest_of S.verified client.now.chain root.now result }
 {
-    if root.body.epoch < from {
-        return Some(Stop::OtherEpoch);
-    }
-    match refusal_of(place(client, checks, root)) {
-        Some(why) => Some(Stop::Refused(why)),
-        None => None,
-    }
+    refusal_of(place(client, checks, root))
 }
 
-/// Appends the epochs of roots that were asked for from an epoch on, up to the first that is not told.
+/// Appends the epochs of roots that were asked for, up to the first that is not told.
 fn push_epochs<H, V, S>(
     client: &Client<H, V, S>,
     checks: &mut Checks<H, V, S>,
-    from: u64,
     roots: RootList<'_>,
     line: &mut Vec<u8>,
-) -> Result<Option<Stop>, AllocError>
+) -> Result<Option<Refusal>, AllocError>
 where
     H: NodeHash + Drop,
     V: VufCheck + Drop,
     S: Verifier + Drop,
-    ensures stops { IfOk result (λ stop. StopsAmong H.digest_of S.verified client.now.chain from roots.entry stop) }
+    ensures stops { IfOk result (λ stop. StopsAmong H.digest_of S.verified client.now.chain roots.entry stop) }
     ensures text { IfOk result (λ stop. stop ≡ None → line.new.items ≡ line.old.items ++ epochs_text roots.entry) }
 {
     let mut rest = roots;
@@ -140,8 +139,8 @@ where
         let Some(root) = rest.next() else {
             unreachable!()
         };
-        if let Some(stop) = stop_at(client, checks, from, &root) {
-            return Ok(Some(stop));
+        if let Some(why) = stop_at(client, checks, &root) {
+            return Ok(Some(why));
         }
         line.push(b' ')?;
         push_number(line, root.body.epoch)?;
@@ -149,12 +148,11 @@ where
     Ok(None)
 }
 
-/// Tells roots that were asked for from an epoch on. Each verifies, and is no evidence with the chain.
+/// Tells roots that were asked for. Each verifies, and is no evidence with the chain.
 pub(crate) fn place_all<H, V, S>(
     alloc: Global,
     client: &Client<H, V, S>,
     checks: &mut Checks<H, V, S>,
-    from: u64,
     roots: RootList<'_>,
     said: &mut Said,
 ) -> Result<(), AllocError>
@@ -162,12 +160,11 @@ where
     H: NodeHash + Drop,
     V: VufCheck + Drop,
     S: Verifier + Drop,
-    ensures { OnOk result ((told : Report) × AreTold H.digest_of S.verified client.now.chain from roots.entry roots.entry told × Tells said.old told said.new) }
+    ensures { OnOk result ((told : Report) × AreTold H.digest_of S.verified client.now.chain roots.entry roots.entry told × Tells said.old told said.new) }
 {
     let mut line = Vec::from_slice(alloc, b"roots")?;
-    match push_epochs(client, checks, from, roots, &mut line)? {
-        Some(Stop::OtherEpoch) => said.refuse_other(),
-        Some(Stop::Refused(why)) => refuse_root(alloc, why, said),
+    match push_epochs(client, checks, roots, &mut line)? {
+        Some(why) => refuse_root(alloc, why, said),
         None => {
             line.push(b'\n')?;
             said.text.extend_from_slice(&line)

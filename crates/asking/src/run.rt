@@ -1,16 +1,16 @@
 // A run: each line of the input is asked, what is told of it is written, and the state is kept.
-ghost use Rattle.std.specs.Prelude.{◌≡◌, ◌⊎◌, ◌<◌, ◌≤◌, List, ℕ, [], Err, IfErr, IfOk, IfSome, MatchOption, None, Ok, OnErr, OnOk, Option, Some, option_map, ⊤};
+ghost use Rattle.std.specs.Prelude.{◌≡◌, ◌⊎◌, ◌↔◌, ◌<◌, ◌≤◌, List, ℕ, [], Err, IfErr, IfOk, IfSome, MatchOption, None, Ok, OnErr, OnOk, Option, Some, option_map, ⊤};
 ghost use Rattle.std.specs.Io.KnownBytes.{Appends};
 ghost use Rattle.textio.specs.Lines.{lines_of};
 ghost use Rattle.textio.specs.Output.{WritesSome};
 ghost use Rattle.textio.specs.declared.program_fault.ProgramFault.TheVariants.{CannotWrite, NotACommand, OutOfMemory};
 ghost use Rattle.play.specs.Scripts.{line_of, line_seen};
 ghost use Rattle.asking.specs.AskOptions.{ask_values};
-ghost use Rattle.asking.specs.Ending.{AsksPart, AsksSomeLine, BeginsNone, DoesSome, end_status, EndsEarly, HoldsBack, PreparesSome, stopped_status};
+ghost use Rattle.asking.specs.Ending.{AsksPart, AsksSomeLine, BeginsNone, DoesSome, end_status, EndsEarly, HoldsBack, PreparesSome, stopped_status, TakesSomeNew};
 ghost use Rattle.asking.specs.Exchanges.{ExchangesFrames};
 ghost use Rattle.asking.specs.Reports.{report_of, Report};
 ghost use Rattle.asking.specs.RunFaults.{AsksInput, CannotBeAsked, IsFaultOfSaving, IsFaultOfState, IsFaultWith, IsFirstUnasked, StopsOr};
-ghost use Rattle.asking.specs.Runs.{AsksLine, AsksLines, BeginsAsking, DoesLine, emptied, Grows, IsSoundFor, KeepsAll, new_background, background_of, lines_asked, Prepares, RunsWhole, with_word, words_line, Writes};
+ghost use Rattle.asking.specs.Runs.{AsksLine, AsksLines, BeginsAsking, DoesLine, emptied, Grows, IsSoundFor, KeepsAll, new_background, background_of, lines_asked, Prepares, RunsWhole, TakesNew, with_word, words_line, Writes};
 ghost use Rattle.asking.specs.declared.ask_fault.RunFault.TheVariants.{Program};
 ghost use Rattle.asking.specs.declared.run.RunEnd.TheVariants.{Whole, Stopped};
 ghost use Rattle.asking.specs.declared.said.TheConstants.{ALARM};
@@ -93,6 +93,7 @@ where
         path: Option<&'a str>,
     ) -> Result<Self, ProgramFault>
         ensures none { IfOk result (λ run. path.entry ≡ None → run.state ≡ None) }
+        ensures some { IfOk result (λ run. run.state ≡ None → path.entry ≡ None) }
         ensures said { IfOk result (λ run. report_of run.said ≡ emptied 0) }
         ensures err { IfErr result (λ fault. fault ≡ OutOfMemory) }
     {
@@ -273,6 +274,7 @@ where
         ensures said { IfOk result (λ asker. report_of (self.new).said ≡ report_of (self.old).said) }
         ensures none { OnErr result (BeginsNone S.verified (ExchangesFrames T.contents T.remaining) keys.now.signing_key stream.old (report_of (self.old).said) (report_of (self.new).said)) }
         ensures faults { IfErr result (StopsOr (λ fault. ((¬ ((self.old).state ≡ None)) × IsFaultOfState fault) ⊎ (fault ≡ OutOfMemory))) }
+        ensures still { ((self.new).state ≡ None) ↔ ((self.old).state ≡ None) }
         ensures rises { (self.old).said.status ≤ (self.new).said.status }
     {
         match self.load(checks, keys)? {
@@ -296,6 +298,7 @@ where
         ensures sound { IfOk result (λ loaded. IfOk loaded (λ asker. IsSoundFor H.digest_of V.accepted S.verified keys.now.signing_key asker.client)) }
         ensures kept { IfOk result (λ loaded. IfOk loaded (λ asker. KeepsAll asker.client asker.earlier.items)) }
         ensures err { IfErr result IsFaultOfState }
+        ensures still { ((self.new).state ≡ None) ↔ ((self.old).state ≡ None) }
         ensures said { report_of (self.new).said ≡ report_of (self.old).said }
     {
         match self.state.as_mut() {
@@ -328,6 +331,7 @@ where
         ensures said { IfOk result (λ asker. report_of (self.new).said ≡ report_of (self.old).said) }
         ensures none { OnErr result (BeginsNone S.verified (ExchangesFrames T.contents T.remaining) keys.now.signing_key stream.old (report_of (self.old).said) (report_of (self.new).said)) }
         ensures faults { IfErr result (StopsOr (λ fault. fault ≡ OutOfMemory)) }
+        ensures still { (self.new).state ≡ (self.old).state }
         ensures rises { (self.old).said.status ≤ (self.new).said.status }
     {
         let said = &mut self.said;
@@ -360,17 +364,60 @@ where
         H: NodeHash + Drop,
         V: VufCheck + Drop,
         S: Verifier + Drop,
-        ensures prepares { OnOk result (Writes (Prepares H.digest_of V.accepted S.verified (ExchangesFrames T.contents T.remaining) (background_of asker.old))
+        ensures prepares { OnOk result (Writes (Prepares H.digest_of V.accepted S.verified (ExchangesFrames T.contents T.remaining) (background_of asker.old) ((self.old).state ≡ None))
             (scene asker.old (self.old).said stream.old) (W.contents writer.old) (W.contents writer.new) (scene asker.new (self.new).said stream.new)) }
-        ensures part { OnErr result ((reached : Scene T) × PreparesSome H.digest_of V.accepted S.verified (ExchangesFrames T.contents T.remaining) (background_of asker.old) (scene asker.old (self.old).said stream.old) reached
+        ensures part { OnErr result ((reached : Scene T) × PreparesSome H.digest_of V.accepted S.verified (ExchangesFrames T.contents T.remaining) (background_of asker.old) ((self.old).state ≡ None) (scene asker.old (self.old).said stream.old) reached
             × HoldsBack (W.contents writer.new) (self.new).said reached.told (W.contents writer.old)) }
         ensures stays { background_of asker.new ≡ background_of asker.old }
         ensures faults { IfErr result (StopsOr IsFaultOfSaving) }
         ensures grows { Grows (W.contents writer.old) (W.contents writer.new) }
         ensures rises { (self.old).said.status ≤ (self.new).said.status }
     {
-        let followed = follow(asker, stream, &mut self.said);
-        self.settle(asker, followed, writer, errors)
+        let prepared = self.look_around(asker, stream);
+        self.settle(asker, prepared, writer, errors)
+    }
+
+    /// Lets the client take the roots that are new, and tests the promises that are due, which is said.
+    fn look_around<T, H, V, S>(
+        &mut self,
+        asker: &mut Asker<H, V, S>,
+        stream: &mut T,
+    ) -> Result<(), AskFault>
+    where
+        T: Read + Write,
+        H: NodeHash + Drop,
+        V: VufCheck + Drop,
+        S: Verifier + Drop,
+        ensures prepares { OnOk result (Prepares H.digest_of V.accepted S.verified (ExchangesFrames T.contents T.remaining) (background_of asker.old) ((self.old).state ≡ None) (scene asker.old (self.old).said stream.old) (scene asker.new (self.new).said stream.new)) }
+        ensures reaches { (reached : Scene T) × PreparesSome H.digest_of V.accepted S.verified (ExchangesFrames T.contents T.remaining) (background_of asker.old) ((self.old).state ≡ None) (scene asker.old (self.old).said stream.old) reached × (report_of (self.new).said ≡ reached.told) }
+        ensures stays { background_of asker.new ≡ background_of asker.old }
+        ensures rises { (self.old).said.status ≤ (self.new).said.status }
+    {
+        self.take_new(asker, stream)?;
+        asker.test_promises(stream, &mut self.said)
+    }
+
+    /// Lets the client take the roots that are new. Where there is a state, it first asks for the latest one, and
+    /// takes those up to it: so a directory that went back, or shows another history, is seen.
+    fn take_new<T, H, V, S>(
+        &mut self,
+        asker: &mut Asker<H, V, S>,
+        stream: &mut T,
+    ) -> Result<(), AskFault>
+    where
+        T: Read + Write,
+        H: NodeHash + Drop,
+        V: VufCheck + Drop,
+        S: Verifier + Drop,
+        ensures takes { OnOk result (TakesNew H.digest_of V.accepted S.verified (ExchangesFrames T.contents T.remaining) (background_of asker.old) ((self.old).state ≡ None) (scene asker.old (self.old).said stream.old) (scene asker.new (self.new).said stream.new)) }
+        ensures part { OnErr result ((reached : Scene T) × TakesSomeNew H.digest_of V.accepted S.verified (ExchangesFrames T.contents T.remaining) (background_of asker.old) ((self.old).state ≡ None) (scene asker.old (self.old).said stream.old) reached × (report_of (self.new).said ≡ reached.told)) }
+        ensures stays { background_of asker.new ≡ background_of asker.old }
+        ensures rises { (self.old).said.status ≤ (self.new).said.status }
+    {
+        if self.state.is_none() {
+            return asker.follow(stream, &mut self.said);
+        }
+        asker.check_head(stream, &mut self.said)
     }
 
     /// Asks each line of the input.
@@ -510,26 +557,6 @@ where
         told?;
         Ok(())
     }
-}
-
-/// Lets the client take the roots that are new, and tests the promises that are due.
-fn follow<T, H, V, S>(
-    asker: &mut Asker<H, V, S>,
-    stream: &mut T,
-    said: &mut Said,
-) -> Result<(), AskFault>
-where
-    T: Read + Write,
-    H: NodeHash + Drop,
-    V: VufCheck + Drop,
-    S: Verifier + Drop,
-    ensures prepares { OnOk result (Prepares H.digest_of V.accepted S.verified (ExchangesFrames T.contents T.remaining) (background_of asker.old) (scene asker.old said.old stream.old) (scene asker.new said.new stream.new)) }
-    ensures reaches { (reached : Scene T) × PreparesSome H.digest_of V.accepted S.verified (ExchangesFrames T.contents T.remaining) (background_of asker.old) (scene asker.old said.old stream.old) reached × (report_of said.new ≡ reached.told) }
-    ensures stays { background_of asker.new ≡ background_of asker.old }
-    ensures rises { said.old.status ≤ said.new.status }
-{
-    asker.follow(stream, said)?;
-    asker.test_promises(stream, said)
 }
 
 /// Asks what a line says, or nothing if that asks nothing of a directory.

@@ -1,14 +1,13 @@
 // The monitors of names.
 ghost use Rattle.std.specs.Prelude.{◌≡◌, ◌≢◌, ◌⊎◌, ◌-◌, ◌++◌, ◌∷◌, [], ℕ, codes, length, slice_get, IfErr, IfOk, OnErr, OnOk, Some};
-ghost use Rattle.std.specs.List.{AllZip};
 ghost use Rattle.client.specs.declared.client_refusal.Refusal.TheVariants.{Memory};
 ghost use Rattle.rootchain.specs.declared.signed_promise.SignedPromise.{SignedPromise};
 ghost use Rattle.asking.specs.Askers.{asker_marks};
-ghost use Rattle.asking.specs.Asking.{HandsTo, NotesLast};
+ghost use Rattle.asking.specs.Asking.{handed_told, HandsAll, HandsTo, NotesLast};
 ghost use Rattle.asking.specs.Exchanges.{ExchangesFrames};
 ghost use Rattle.asking.specs.Refused.{client_refuses};
 ghost use Rattle.asking.specs.Scenes.{scene, HaltsAfter, HaltsIn, Remains, StaysWhole};
-ghost use Rattle.asking.specs.Reports.{report_of, Tells};
+ghost use Rattle.asking.specs.Reports.{report_of, silent, Report, Tells};
 ghost use Rattle.asking.specs.Watching.{step_told, GoesOn, GoesSome, StepsOnce, StepsSome, StepsThrough, WatchesAt, WatchesEpoch};
 ghost use Rattle.asking.specs.declared.ask_fault.AskFault.TheVariants.{Stopped};
 
@@ -55,10 +54,12 @@ where
     }
 
     /// Notes the last promise that the client kept, of which these are the bytes, as one for a change of its own,
-    /// and gives it to each monitor of its name.
-    pub(crate) fn hand_out(&mut self, promise: &[u8]) -> Result<(), AllocError>
+    /// and gives it to each monitor of its name. What they refuse is told, whole or not at all.
+    pub(crate) fn hand_out(&mut self, promise: &[u8], said: &mut Said) -> Result<(), AllocError>
         ensures client { (self.new).client ≡ (self.old).client }
-        ensures hands { OnOk result ((signed : SignedPromise) → slice_get (self.old).client.promises (length (self.old).client.promises - 1) ≡ Some signed → AllZip (HandsTo H.digest_of V.accepted S.verified signed promise.now) (self.old).monitors.items (self.new).monitors.items) }
+        ensures hands { OnOk result ((signed : SignedPromise) → slice_get (self.old).client.promises (length (self.old).client.promises - 1) ≡ Some signed
+            → (told : Report) × HandsAll H.digest_of V.accepted S.verified signed promise.now (self.old).monitors.items silent told (self.new).monitors.items × Tells said.old told said.new) }
+        ensures untold { OnErr result (report_of said.new ≡ report_of said.old) }
         ensures notes { OnOk result ((signed : SignedPromise) → slice_get (self.old).client.promises (length (self.old).client.promises - 1) ≡ Some signed → (self.new).changes.items ≡ (self.old).changes.items ++ signed ∷ []) }
         ensures noted { ((self.new).changes.items ≡ (self.old).changes.items) ⊎ NotesLast (self.old).client.promises (self.old).changes.items (self.new).changes.items }
         ensures stays { Remains self.old self.new }
@@ -66,7 +67,10 @@ where
         match self.client.promises().last() {
             Some(signed) => {
                 self.changes.push(signed.copied())?;
-                hand_to(&mut self.monitors, &mut self.checks, signed, promise)
+                let mut now = Said::new(self.alloc);
+                let (monitors, checks) = (&mut self.monitors, &mut self.checks);
+                hand_to(self.alloc, monitors, checks, signed, promise, &mut now)?;
+                said.join(now)
             }
             None => Ok(()),
         }
@@ -122,47 +126,68 @@ where
     }
 }
 
-/// Gives a promise, of which these are the bytes, to each monitor of its name.
+/// Gives a promise, of which these are the bytes, to each monitor of its name, and tells what they refuse.
 fn hand_to<H, V, S>(
+    alloc: Global,
     monitors: &mut [Monitor<H, V, S>],
     checks: &mut Checks<H, V, S>,
     signed: &SignedPromise,
     promise: &[u8],
+    said: &mut Said,
 ) -> Result<(), AllocError>
 where
     H: NodeHash + Drop,
     V: VufCheck + Drop,
     S: Verifier + Drop,
-    ensures { OnOk result (AllZip (HandsTo H.digest_of V.accepted S.verified signed.now promise.now) monitors.old monitors.new) }
+    ensures { OnOk result (HandsAll H.digest_of V.accepted S.verified signed.now promise.now monitors.old (report_of said.old) (report_of said.new) monitors.new) }
 {
     for monitor in monitors.iter_mut() {
-        hand_one(monitor, checks, signed, promise)?;
+        let why = hand_one(monitor, checks, signed, promise)?;
+        tell_handed(alloc, &signed.promise.name, why, said)?;
     }
     Ok(())
 }
 
-/// Gives a promise to a monitor, if it is one of its name.
+/// Gives a promise to a monitor, if it is one of its name. Returns why the monitor refuses it, if it does.
 pub(crate) fn hand_one<H, V, S>(
     monitor: &mut Monitor<H, V, S>,
     checks: &mut Checks<H, V, S>,
     signed: &SignedPromise,
     promise: &[u8],
-) -> Result<(), AllocError>
+) -> Result<Option<Refusal>, AllocError>
 where
     H: NodeHash + Drop,
     V: VufCheck + Drop,
     S: Verifier + Drop,
-    ensures { OnOk result (HandsTo H.digest_of V.accepted S.verified signed.now promise.now monitor.old monitor.new) }
+    ensures { IfOk result (λ why. HandsTo H.digest_of V.accepted S.verified signed.now promise.now monitor.old why monitor.new) }
 {
     if *monitor.name() != signed.promise.name {
-        return Ok(());
+        return Ok(None);
     }
     let key = &signed.promise.key;
-    let handed = monitor.expect_change(&mut checks.hash, &checks.verifier, key, promise);
-    if handed == Err(Refusal::Client(client::Refusal::Memory)) {
-        return Err(AllocError);
+    match monitor.expect_change(&mut checks.hash, &checks.verifier, key, promise) {
+        Ok(()) => Ok(None),
+        Err(Refusal::Client(client::Refusal::Memory)) => Err(AllocError),
+        Err(why) => Ok(Some(why)),
     }
-    Ok(())
+}
+
+/// Tells why a monitor of this name refuses a promise that it was given, if it does.
+fn tell_handed(
+    alloc: Global,
+    name: &Name,
+    refused: Option<Refusal>,
+    said: &mut Said,
+) -> Result<(), AllocError>
+    ensures { OnOk result (Tells said.old (handed_told refused) said.new) }
+{
+    let Some(why) = refused else {
+        return Ok(());
+    };
+    said.begin(b"watching ", name)?;
+    said.words.extend_from_slice(b": ")?;
+    let words = format!(in alloc; "{why}")?;
+    said.refuse(b"client refuses promise", why.number(), words.as_bytes())
 }
 
 /// Lets the monitor at a place watch its next epoch by a reply.

@@ -11,6 +11,6 @@ use Rattle.asking.proofs.checking.hear_frame.Goals as goal
 pub returns-in-Err-clause-hears : goal.returns-in-Err-clause-hears
 returns-in-Err-clause-hears g c =
     tells_so c.tell_unread.result
-    (λ told. HearsFrame g.H.NodeHash.digest_of g.V.VufCheck.accepted g.S.Verifier.verified c.args.client.now (ask_seen c.args.ask.now) (frame_seen c.args.frame.now) told c.args.client.now)
+    (λ told. HearsFrame g.H.NodeHash.digest_of g.V.VufCheck.accepted g.S.Verifier.verified c.args.held c.args.client.now (ask_seen c.args.ask.now) (frame_seen c.args.frame.now) told c.args.client.now)
     (refused (refuses_text (codes "client refuses reply") (read_refusal_number c.in-Err.why))) c.args.said.now c.args.said.now c.tell_unread.new.said refl
     (inr (c.in-Err.why, c.in-Err.ensures, refl, refl)) c.tell_unread.ensures

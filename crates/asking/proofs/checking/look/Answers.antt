@@ -11,7 +11,7 @@ pub returns-in-Err-clause-tells : goal.returns-in-Err-clause-tells
 returns-in-Err-clause-tells g c =
     tells_known c.tell_client.result
     (λ (answer : Result Statement Refusal). Looks g.H.NodeHash.digest_of g.V.VufCheck.accepted c.args.client.now c.args.name.now c.args.epoch c.args.reply.now answer c.look.new.self)
-    (λ (answer : Result Statement Refusal). IsTellable answer) (λ (answer : Result Statement Refusal). look_told c.args.found_at answer) (Err c.in-Err.why) c.args.said.now c.tell_client.new.said
+    (λ (answer : Result Statement Refusal). IsTellable answer) (λ (answer : Result Statement Refusal). look_told c.args.epoch answer) (Err c.in-Err.why) c.args.said.now c.tell_client.new.said
     (subst (λ (name : List ℕ). Looks g.H.NodeHash.digest_of g.V.VufCheck.accepted c.args.client.now name c.args.epoch c.args.reply.now (Err c.in-Err.why) c.look.new.self) c.in-Ok.ensures.value c.in-Err.ensures.looks)
     c.tell_client.ensures.known c.tell_client.ensures.told
 

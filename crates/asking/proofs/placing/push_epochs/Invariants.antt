@@ -9,5 +9,5 @@ abbrev pub invariant-loop : goal.invariant-loop
 invariant-loop g l = record {
   count : l.counter + length l.rest ≡ l.end;
   text : l.line.items ++ epochs_text l.rest ≡ l.initial.line.items ++ epochs_text l.initial.rest;
-  passing : IsPassing g.H.NodeHash.digest_of g.S.Verifier.verified l.client.chain l.from l.initial.rest l.rest;
+  passing : IsPassing g.H.NodeHash.digest_of g.S.Verifier.verified l.client.chain l.initial.rest l.rest;
 }

@@ -12,11 +12,11 @@ returns g c =
     let grows = grows_on (g.W.Write.contents c.args.writer.now) (g.W.Write.contents c.ask-outcome.new.writer) (g.W.Write.contents c.end.new.writer) c.ask-outcome.ensures.grows c.end.ensures.grows in
     let ends = ok_then c.ask-outcome.result c.end.ensures.ok (λ both. (both.0, ap g.W.Write.contents both.1)) in record {
       runs = ends_so g.H.NodeHash.digest_of g.V.VufCheck.accepted g.S.Verifier.verified (ExchangesFrames g.T.Write.contents g.T.Read.remaining) c.args.keys.signing_key c.args.keys.token (ask_values c.args.order)
-          (c.in_ok-run.run'.state ≡ None) (c.args.order.state ≡ None) c.in_ok-run.ensures.none c.ask-outcome.result c.end.result c.args.stream.now c.ask-outcome.new.stream (g.R.Read.remaining c.args.reader.now)
+          (c.in_ok-run.run'.state ≡ None) (c.args.order.state ≡ None) c.in_ok-run.ensures.none c.in_ok-run.ensures.some c.ask-outcome.result c.end.result c.args.stream.now c.ask-outcome.new.stream (g.R.Read.remaining c.args.reader.now)
           (g.W.Write.contents c.args.writer.now) (g.W.Write.contents c.ask-outcome.new.writer) (g.W.Write.contents c.end.new.writer) c.ask-outcome.new.self.said (report_of c.in_ok-run.run'.said) c.in_ok-run.ensures.said
           c.ask-outcome.ensures.runs c.ask-outcome.ensures.part ends c.end.ensures.stopped c.end.ensures.some;
       fails = fails_so g.H.NodeHash.digest_of g.V.VufCheck.accepted g.S.Verifier.verified (ExchangesFrames g.T.Write.contents g.T.Read.remaining) c.args.keys.signing_key c.args.keys.token (ask_values c.args.order)
-          (c.in_ok-run.run'.state ≡ None) (c.args.order.state ≡ None) c.in_ok-run.ensures.none c.ask-outcome.result c.end.result c.args.stream.now c.ask-outcome.new.stream (g.R.Read.remaining c.args.reader.now)
+          (c.in_ok-run.run'.state ≡ None) (c.args.order.state ≡ None) c.in_ok-run.ensures.none c.in_ok-run.ensures.some c.ask-outcome.result c.end.result c.args.stream.now c.ask-outcome.new.stream (g.R.Read.remaining c.args.reader.now)
           (g.W.Write.contents c.args.writer.now) (g.W.Write.contents c.ask-outcome.new.writer) (g.W.Write.contents c.end.new.writer) c.ask-outcome.new.self.said (report_of c.in_ok-run.run'.said) c.in_ok-run.ensures.said
           c.ask-outcome.ensures.part ends c.end.ensures.failed c.end.ensures.some;
       faults = given_so c.end.result c.ask-outcome.result c.args.order c.in_ok-run.run'.state (g.R.Read.remaining c.args.reader.now) c.in_ok-run.ensures.none c.ask-outcome.ensures.faults c.end.ensures.gives;

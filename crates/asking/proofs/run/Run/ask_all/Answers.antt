@@ -9,7 +9,7 @@ use Rattle.asking.specs.RunFaults.{AsksInput, IsFaultOfSaving, IsFaultOfState, I
 use Rattle.asking.specs.Runs.{AsksLines, background_of, lines_asked, words_line}
 use Rattle.asking.specs.Scenes.{scene}
 use Rattle.asking.specs.declared.ask_fault.RunFault.{RunFault}
-use Rattle.asking.proofs.Ended.{early_asking, early_none, early_preparing, line_not, part_once}
+use Rattle.asking.proofs.Ended.{early_asking, early_none, early_preparing, line_not, part_once, some_prepares_with, writes_with}
 use Rattle.asking.proofs.Faulty.{beginning_with, grows_not, grows_on, input_fault, reads_input, saving_with, stops_more, words_fault}
 use Rattle.asking.proofs.Ran.{asks_input, asks_words, begins_run, leads_once, ok_then, whole}
 use Rattle.asking.proofs.run.Run.ask_all.Goals as goal
@@ -31,7 +31,9 @@ returns-in-Some-clause-runs g c =
     (g.W.Write.contents c.prepare.new.writer) (g.W.Write.contents c.ask_line.new.writer) (report_of c.args.self.now.said)
     (begins_run g.H.NodeHash.digest_of g.V.VufCheck.accepted g.S.Verifier.verified (ExchangesFrames g.T.Write.contents g.T.Read.remaining) c.args.keys.now.signing_key c.args.keys.now.token (c.args.self.now.state ≡ None) (background_of c.in_ok-asker.asker) c.args.stream.now start (report_of c.args.self.now.said)
     c.in_ok-asker.ensures.said c.in_ok-asker.ensures.begins c.in_ok-asker.ensures.knows)
-    c.in_ok-prepare.ensures.prepares c.in_ok-prepare.ensures.stays asks
+    (writes_with g.H.NodeHash.digest_of g.V.VufCheck.accepted g.S.Verifier.verified (ExchangesFrames g.T.Write.contents g.T.Read.remaining) c.args.keys.now.signing_key c.args.keys.now.token (ask_values c.args.order)
+    (c.begin.new.self.state ≡ None) (c.args.self.now.state ≡ None) c.begin.ensures.still.1 c.begin.ensures.still.0 (background_of c.in_ok-asker.asker) (scene c.in_ok-asker.asker c.begin.new.self.said c.begin.new.stream)
+    (g.W.Write.contents c.args.writer.now) (g.W.Write.contents c.prepare.new.writer) (scene c.prepare.new.asker c.prepare.new.self.said c.prepare.new.stream) c.in_ok-prepare.ensures.prepares) c.in_ok-prepare.ensures.stays asks
 
 pub returns-clause-runs : goal.returns-clause-runs
 returns-clause-runs g c =
@@ -45,7 +47,9 @@ returns-clause-runs g c =
     (g.W.Write.contents c.prepare.new.writer) (g.W.Write.contents c.ask_lines.new.writer) (report_of c.args.self.now.said)
     (begins_run g.H.NodeHash.digest_of g.V.VufCheck.accepted g.S.Verifier.verified (ExchangesFrames g.T.Write.contents g.T.Read.remaining) c.args.keys.now.signing_key c.args.keys.now.token (c.args.self.now.state ≡ None) (background_of c.in_ok-asker.asker) c.args.stream.now start (report_of c.args.self.now.said)
     c.in_ok-asker.ensures.said c.in_ok-asker.ensures.begins c.in_ok-asker.ensures.knows)
-    c.in_ok-prepare.ensures.prepares c.in_ok-prepare.ensures.stays asks
+    (writes_with g.H.NodeHash.digest_of g.V.VufCheck.accepted g.S.Verifier.verified (ExchangesFrames g.T.Write.contents g.T.Read.remaining) c.args.keys.now.signing_key c.args.keys.now.token (ask_values c.args.order)
+    (c.begin.new.self.state ≡ None) (c.args.self.now.state ≡ None) c.begin.ensures.still.1 c.begin.ensures.still.0 (background_of c.in_ok-asker.asker) (scene c.in_ok-asker.asker c.begin.new.self.said c.begin.new.stream)
+    (g.W.Write.contents c.args.writer.now) (g.W.Write.contents c.prepare.new.writer) (scene c.prepare.new.asker c.prepare.new.self.said c.prepare.new.stream) c.in_ok-prepare.ensures.prepares) c.in_ok-prepare.ensures.stays asks
 
 pub returns-in_err-asker-clause-faults : goal.returns-in_err-asker-clause-faults
 returns-in_err-asker-clause-faults g c =
@@ -89,7 +93,13 @@ returns-in_err-prepare-clause-part g c =
     let start = scene c.in_ok-asker.asker c.begin.new.self.said c.begin.new.stream in
     early_preparing g.H.NodeHash.digest_of g.V.VufCheck.accepted g.S.Verifier.verified (ExchangesFrames g.T.Write.contents g.T.Read.remaining) c.args.keys.now.signing_key c.args.keys.now.token (ask_values c.args.order) (c.args.self.now.state ≡ None) c.args.stream.now (g.R.Read.remaining c.args.reader.now) (g.W.Write.contents c.args.writer.now) (background_of c.in_ok-asker.asker) start (g.W.Write.contents c.prepare.new.writer) c.prepare.new.self.said
     (report_of c.args.self.now.said) (begins_run g.H.NodeHash.digest_of g.V.VufCheck.accepted g.S.Verifier.verified (ExchangesFrames g.T.Write.contents g.T.Read.remaining) c.args.keys.now.signing_key c.args.keys.now.token (c.args.self.now.state ≡ None) (background_of c.in_ok-asker.asker) c.args.stream.now start (report_of c.args.self.now.said)
-    c.in_ok-asker.ensures.said c.in_ok-asker.ensures.begins c.in_ok-asker.ensures.knows) c.in_err-prepare.ensures.part
+    c.in_ok-asker.ensures.said c.in_ok-asker.ensures.begins c.in_ok-asker.ensures.knows)
+    (let (reached, some, leaves) = c.in_err-prepare.ensures.part in (
+      reached,
+      some_prepares_with g.H.NodeHash.digest_of g.V.VufCheck.accepted g.S.Verifier.verified (ExchangesFrames g.T.Write.contents g.T.Read.remaining) c.args.keys.now.signing_key c.args.keys.now.token (ask_values c.args.order)
+          (c.begin.new.self.state ≡ None) (c.args.self.now.state ≡ None) c.begin.ensures.still.1 c.begin.ensures.still.0 (background_of c.in_ok-asker.asker) start reached some,
+      leaves,
+    ))
 
 pub returns-in_err-line-in-Some-clause-part : goal.returns-in_err-line-in-Some-clause-part
 returns-in_err-line-in-Some-clause-part g c =
@@ -97,7 +107,9 @@ returns-in_err-line-in-Some-clause-part g c =
     let ready = scene c.prepare.new.asker c.prepare.new.self.said c.prepare.new.stream in
     early_asking g.H.NodeHash.digest_of g.V.VufCheck.accepted g.S.Verifier.verified (ExchangesFrames g.T.Write.contents g.T.Read.remaining) c.args.keys.now.signing_key c.args.keys.now.token (ask_values c.args.order) (c.args.self.now.state ≡ None) c.args.stream.now (g.R.Read.remaining c.args.reader.now) (g.W.Write.contents c.args.writer.now) (background_of c.in_ok-asker.asker) start (g.W.Write.contents c.prepare.new.writer) c.prepare.new.self.said
     (report_of c.args.self.now.said) (begins_run g.H.NodeHash.digest_of g.V.VufCheck.accepted g.S.Verifier.verified (ExchangesFrames g.T.Write.contents g.T.Read.remaining) c.args.keys.now.signing_key c.args.keys.now.token (c.args.self.now.state ≡ None) (background_of c.in_ok-asker.asker) c.args.stream.now start (report_of c.args.self.now.said)
-    c.in_ok-asker.ensures.said c.in_ok-asker.ensures.begins c.in_ok-asker.ensures.knows) (background_of c.prepare.new.asker) ready (g.W.Write.contents c.prepare.new.writer) c.in_ok-prepare.ensures.prepares c.in_ok-prepare.ensures.stays
+    c.in_ok-asker.ensures.said c.in_ok-asker.ensures.begins c.in_ok-asker.ensures.knows) (background_of c.prepare.new.asker) ready (g.W.Write.contents c.prepare.new.writer) (writes_with g.H.NodeHash.digest_of g.V.VufCheck.accepted g.S.Verifier.verified (ExchangesFrames g.T.Write.contents g.T.Read.remaining) c.args.keys.now.signing_key c.args.keys.now.token (ask_values c.args.order)
+    (c.begin.new.self.state ≡ None) (c.args.self.now.state ≡ None) c.begin.ensures.still.1 c.begin.ensures.still.0 (background_of c.in_ok-asker.asker) (scene c.in_ok-asker.asker c.begin.new.self.said c.begin.new.stream)
+    (g.W.Write.contents c.args.writer.now) (g.W.Write.contents c.prepare.new.writer) (scene c.prepare.new.asker c.prepare.new.self.said c.prepare.new.stream) c.in_ok-prepare.ensures.prepares) c.in_ok-prepare.ensures.stays
     (asks_words {E = RunFault} (λ lines. (told : Report) × (next : Option (List ℕ)) × AsksPart g.H.NodeHash.digest_of g.V.VufCheck.accepted g.S.Verifier.verified (ExchangesFrames g.T.Write.contents g.T.Read.remaining) (background_of c.prepare.new.asker) lines ready told (g.W.Write.contents c.prepare.new.writer) next
     × HoldsBack (g.W.Write.contents c.prepare.new.writer) c.prepare.new.self.said told next) (Ok tt) (g.R.Read.remaining c.args.reader.now) c.args.order c.in-Some.field-0 c.in-Some.is
     (part_once g.H.NodeHash.digest_of g.V.VufCheck.accepted g.S.Verifier.verified (ExchangesFrames g.T.Write.contents g.T.Read.remaining) (background_of c.prepare.new.asker) (words_line (ask_values c.args.order).words) ready (g.W.Write.contents c.prepare.new.writer) (g.W.Write.contents c.prepare.new.writer) c.prepare.new.self.said (line_not g.H.NodeHash.digest_of g.V.VufCheck.accepted g.S.Verifier.verified (ExchangesFrames g.T.Write.contents g.T.Read.remaining) (background_of c.prepare.new.asker) (words_line (ask_values c.args.order).words) ready (g.W.Write.contents c.prepare.new.writer) c.prepare.new.self.said refl)))
@@ -109,7 +121,9 @@ returns-in-Some-clause-part g c =
     let found = rw (c.deref.ensures.value, c.in_ok-line-in-Some.ensures) at c.ask_line.ensures.part in
     early_asking g.H.NodeHash.digest_of g.V.VufCheck.accepted g.S.Verifier.verified (ExchangesFrames g.T.Write.contents g.T.Read.remaining) c.args.keys.now.signing_key c.args.keys.now.token (ask_values c.args.order) (c.args.self.now.state ≡ None) c.args.stream.now (g.R.Read.remaining c.args.reader.now) (g.W.Write.contents c.args.writer.now) (background_of c.in_ok-asker.asker) start (g.W.Write.contents c.ask_line.new.writer) c.ask_line.new.self.said
     (report_of c.args.self.now.said) (begins_run g.H.NodeHash.digest_of g.V.VufCheck.accepted g.S.Verifier.verified (ExchangesFrames g.T.Write.contents g.T.Read.remaining) c.args.keys.now.signing_key c.args.keys.now.token (c.args.self.now.state ≡ None) (background_of c.in_ok-asker.asker) c.args.stream.now start (report_of c.args.self.now.said)
-    c.in_ok-asker.ensures.said c.in_ok-asker.ensures.begins c.in_ok-asker.ensures.knows) (background_of c.prepare.new.asker) ready (g.W.Write.contents c.prepare.new.writer) c.in_ok-prepare.ensures.prepares c.in_ok-prepare.ensures.stays
+    c.in_ok-asker.ensures.said c.in_ok-asker.ensures.begins c.in_ok-asker.ensures.knows) (background_of c.prepare.new.asker) ready (g.W.Write.contents c.prepare.new.writer) (writes_with g.H.NodeHash.digest_of g.V.VufCheck.accepted g.S.Verifier.verified (ExchangesFrames g.T.Write.contents g.T.Read.remaining) c.args.keys.now.signing_key c.args.keys.now.token (ask_values c.args.order)
+    (c.begin.new.self.state ≡ None) (c.args.self.now.state ≡ None) c.begin.ensures.still.1 c.begin.ensures.still.0 (background_of c.in_ok-asker.asker) (scene c.in_ok-asker.asker c.begin.new.self.said c.begin.new.stream)
+    (g.W.Write.contents c.args.writer.now) (g.W.Write.contents c.prepare.new.writer) (scene c.prepare.new.asker c.prepare.new.self.said c.prepare.new.stream) c.in_ok-prepare.ensures.prepares) c.in_ok-prepare.ensures.stays
     (asks_words {E = RunFault} (λ lines. (told : Report) × (next : Option (List ℕ)) × AsksPart g.H.NodeHash.digest_of g.V.VufCheck.accepted g.S.Verifier.verified (ExchangesFrames g.T.Write.contents g.T.Read.remaining) (background_of c.prepare.new.asker) lines ready told (g.W.Write.contents c.prepare.new.writer) next
     × HoldsBack (g.W.Write.contents c.ask_line.new.writer) c.ask_line.new.self.said told next) (Ok tt) (g.R.Read.remaining c.args.reader.now) c.args.order c.in-Some.field-0 c.in-Some.is
     (part_once g.H.NodeHash.digest_of g.V.VufCheck.accepted g.S.Verifier.verified (ExchangesFrames g.T.Write.contents g.T.Read.remaining) (background_of c.prepare.new.asker) (words_line (ask_values c.args.order).words) ready (g.W.Write.contents c.prepare.new.writer) (g.W.Write.contents c.ask_line.new.writer) c.ask_line.new.self.said found))
@@ -120,6 +134,8 @@ returns-clause-part g c =
     let ready = scene c.prepare.new.asker c.prepare.new.self.said c.prepare.new.stream in
     early_asking g.H.NodeHash.digest_of g.V.VufCheck.accepted g.S.Verifier.verified (ExchangesFrames g.T.Write.contents g.T.Read.remaining) c.args.keys.now.signing_key c.args.keys.now.token (ask_values c.args.order) (c.args.self.now.state ≡ None) c.args.stream.now (g.R.Read.remaining c.args.reader.now) (g.W.Write.contents c.args.writer.now) (background_of c.in_ok-asker.asker) start (g.W.Write.contents c.ask_lines.new.writer) c.ask_lines.new.self.said
     (report_of c.args.self.now.said) (begins_run g.H.NodeHash.digest_of g.V.VufCheck.accepted g.S.Verifier.verified (ExchangesFrames g.T.Write.contents g.T.Read.remaining) c.args.keys.now.signing_key c.args.keys.now.token (c.args.self.now.state ≡ None) (background_of c.in_ok-asker.asker) c.args.stream.now start (report_of c.args.self.now.said)
-    c.in_ok-asker.ensures.said c.in_ok-asker.ensures.begins c.in_ok-asker.ensures.knows) (background_of c.prepare.new.asker) ready (g.W.Write.contents c.prepare.new.writer) c.in_ok-prepare.ensures.prepares c.in_ok-prepare.ensures.stays
+    c.in_ok-asker.ensures.said c.in_ok-asker.ensures.begins c.in_ok-asker.ensures.knows) (background_of c.prepare.new.asker) ready (g.W.Write.contents c.prepare.new.writer) (writes_with g.H.NodeHash.digest_of g.V.VufCheck.accepted g.S.Verifier.verified (ExchangesFrames g.T.Write.contents g.T.Read.remaining) c.args.keys.now.signing_key c.args.keys.now.token (ask_values c.args.order)
+    (c.begin.new.self.state ≡ None) (c.args.self.now.state ≡ None) c.begin.ensures.still.1 c.begin.ensures.still.0 (background_of c.in_ok-asker.asker) (scene c.in_ok-asker.asker c.begin.new.self.said c.begin.new.stream)
+    (g.W.Write.contents c.args.writer.now) (g.W.Write.contents c.prepare.new.writer) (scene c.prepare.new.asker c.prepare.new.self.said c.prepare.new.stream) c.in_ok-prepare.ensures.prepares) c.in_ok-prepare.ensures.stays
     (asks_input {E = RunFault} (λ lines. (told : Report) × (next : Option (List ℕ)) × AsksPart g.H.NodeHash.digest_of g.V.VufCheck.accepted g.S.Verifier.verified (ExchangesFrames g.T.Write.contents g.T.Read.remaining) (background_of c.prepare.new.asker) lines ready told (g.W.Write.contents c.prepare.new.writer) next
     × HoldsBack (g.W.Write.contents c.ask_lines.new.writer) c.ask_lines.new.self.said told next) (Ok tt) (g.R.Read.remaining c.args.reader.now) c.args.order c.in-None.is c.ask_lines.ensures.part)
