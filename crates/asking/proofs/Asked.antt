@@ -13,7 +13,7 @@ use Rattle.commands.specs.Operations.{Head}
 use Rattle.wire.specs.Requests.{RequestContent, Put, Query}
 use Rattle.play.specs.Scripts.{with_token}
 use Rattle.asking.specs.declared.asker.Asker.{Asker}
-use Rattle.asking.specs.declared.asker.Mark.{Mark}
+use Rattle.memory.specs.declared.mark.Mark.{Mark}
 use Rattle.asking.specs.declared.said.Said.{Said}
 use Rattle.asking.specs.Asking.{AsksDirectory, CatchesUp, FindsHead, GetsReply, GoesOnAbove, Hands, HandsAll, Notes, SpeaksOf}
 use Rattle.asking.specs.Checking.{HearsFrame}

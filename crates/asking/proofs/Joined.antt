@@ -13,7 +13,7 @@ use Rattle.monitor.specs.Monitors.{Monitor}
 use Rattle.wire.specs.Frames.{Frame}
 use Rattle.wire.specs.Requests.{RequestContent}
 use Rattle.asking.specs.declared.asker.Asker.{Asker}
-use Rattle.asking.specs.declared.asker.Mark.{Mark}
+use Rattle.memory.specs.declared.mark.Mark.{Mark}
 use Rattle.asking.specs.declared.said.Said.{Said}
 use Rattle.asking.specs.Joining.{BeginsAt, BeginsWatch, IsFirstAfter, IsJoined, IsUnwatched, StartsFrom}
 use Rattle.asking.specs.Refused.{client_refuses}

@@ -14,7 +14,7 @@ use Rattle.wire.specs.Frames.{Frame}
 use Rattle.wire.specs.Requests.{RequestContent}
 use Rattle.play.specs.Reading.{TakesWholeLine}
 use Rattle.asking.specs.declared.asker.Asker.{Asker}
-use Rattle.asking.specs.declared.asker.Mark.{Mark}
+use Rattle.memory.specs.declared.mark.Mark.{Mark}
 use Rattle.asking.specs.declared.order.AskOrder.{AskOrder}
 use Rattle.asking.specs.declared.said.Said.{Said}
 use Rattle.asking.specs.AskOptions.{AskOptions, ask_values}

@@ -61,7 +61,7 @@ module _ (hash : List ℕ → List ℕ) (accepted verified : List ℕ → List �
     DoesPart Pass before reached = ⊥
     DoesPart (Ask asked) before reached = StopsAsking hash accepted verified exchanged background.token asked before reached
         ⊎ ((noted : List SignedPromise) × (noted' : List SignedPromise) × AsksSome hash accepted verified exchanged background.marks background.token asked noted noted' before reached)
-    DoesPart (Watch name given) before reached = BeginsSome hash accepted verified exchanged background.marks background.key background.earlier name given before reached
+    DoesPart (Watch name given) before reached = BeginsSome hash accepted verified exchanged background.known background.marks background.key background.earlier name given before reached
     DoesPart (Piece session piece) before reached = ⊥
     DoesPart (End session) before reached = ⊥
 

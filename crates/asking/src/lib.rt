@@ -21,7 +21,6 @@ mod checking;
 mod exchange;
 mod following;
 mod joining;
-mod kept_lines;
 mod laws;
 mod lines;
 mod order;

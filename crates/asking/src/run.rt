@@ -1,5 +1,5 @@
 // A run: each line of the input is asked, what is told of it is written, and the state is kept.
-ghost use Rattle.std.specs.Prelude.{◌≡◌, ◌⊎◌, ◌↔◌, ◌<◌, ◌≤◌, List, ℕ, [], Err, IfErr, IfOk, IfSome, MatchOption, None, Ok, OnErr, OnOk, Option, Some, option_map, ⊤};
+ghost use Rattle.std.specs.Prelude.{◌≡◌, ◌⊎◌, ◌↔◌, ◌<◌, ◌≤◌, ◌++◌, map, List, ℕ, [], Err, IfErr, IfOk, IfSome, MatchOption, None, Ok, OnErr, OnOk, Option, Some, option_map, ⊤};
 ghost use Rattle.std.specs.Io.KnownBytes.{Appends};
 ghost use Rattle.textio.specs.Lines.{lines_of};
 ghost use Rattle.textio.specs.Output.{WritesSome};
@@ -8,7 +8,10 @@ ghost use Rattle.play.specs.Scripts.{line_of, line_seen};
 ghost use Rattle.asking.specs.AskOptions.{ask_values};
 ghost use Rattle.asking.specs.Ending.{AsksPart, AsksSomeLine, BeginsNone, DoesSome, end_status, EndsEarly, HoldsBack, PreparesSome, stopped_status, TakesSomeNew};
 ghost use Rattle.asking.specs.Exchanges.{ExchangesFrames};
-ghost use Rattle.asking.specs.Reports.{report_of, Report};
+ghost use Rattle.asking.specs.Recalled.{evidence_again};
+ghost use Rattle.asking.specs.Reports.{report_of, told_after, Report};
+ghost use Rattle.memory.specs.Texts.{items_text};
+ghost use Rattle.memory.specs.declared.item.Item.TheVariants.{Evidence};
 ghost use Rattle.asking.specs.RunFaults.{AsksInput, CannotBeAsked, IsFaultOfSaving, IsFaultOfState, IsFaultWith, IsFirstUnasked, StopsOr};
 ghost use Rattle.asking.specs.Runs.{AsksLine, AsksLines, BeginsAsking, DoesLine, emptied, Grows, IsSoundFor, KeepsAll, new_background, background_of, lines_asked, Prepares, RunsWhole, TakesNew, with_word, words_line, Writes};
 ghost use Rattle.asking.specs.declared.ask_fault.RunFault.TheVariants.{Program};
@@ -18,8 +21,10 @@ ghost use Rattle.asking.specs.Scenes.{scene, Scene, StartsAtHead};
 
 use crate::ask_fault::RunFault;
 use crate::said::{ALARM, REFUSED};
+use crate::lines::lines_beginning;
 use crate::state::State;
 use crate::{AskFault, AskKeys, AskOrder, Asker, Checks, Said};
+use memory::{EvidenceLine, Memory};
 use nodehash::NodeHash;
 use play::{Line, next_line, push_number, read_line};
 use sigiface::Verifier;
@@ -271,16 +276,36 @@ where
         ensures begins { IfOk result (λ asker. BeginsAsking H.digest_of V.accepted S.verified (ExchangesFrames T.contents T.remaining) keys.now.signing_key keys.now.token ((self.old).state ≡ None)
             stream.old (background_of asker) asker.client stream.new) }
         ensures knows { IfOk result (λ asker. (asker.key ≡ keys.now.signing_key) × (asker.token ≡ keys.now.token) × (asker.monitors.items ≡ [])) }
-        ensures said { IfOk result (λ asker. report_of (self.new).said ≡ report_of (self.old).said) }
+        ensures said { IfOk result (λ asker. report_of (self.new).said ≡ told_after (report_of (self.old).said) (evidence_again asker.known)) }
         ensures none { OnErr result (BeginsNone S.verified (ExchangesFrames T.contents T.remaining) keys.now.signing_key stream.old (report_of (self.old).said) (report_of (self.new).said)) }
         ensures faults { IfErr result (StopsOr (λ fault. ((¬ ((self.old).state ≡ None)) × IsFaultOfState fault) ⊎ (fault ≡ OutOfMemory))) }
         ensures still { ((self.new).state ≡ None) ↔ ((self.old).state ≡ None) }
         ensures rises { (self.old).said.status ≤ (self.new).said.status }
     {
         match self.load(checks, keys)? {
-            Ok(asker) => Ok(asker),
+            Ok(asker) => {
+                self.tell_evidence(&asker.known)?;
+                Ok(asker)
+            }
             Err(unused) => self.begin_at_head(stream, unused, keys),
         }
+    }
+
+    /// Tells the evidence of earlier runs again, whole or not at all.
+    fn tell_evidence(&mut self, known: &Memory) -> Result<(), AllocError>
+        ensures tells { OnOk result (report_of (self.new).said ≡ told_after (report_of (self.old).said) (evidence_again known.now)) }
+        ensures untold { OnErr result (report_of (self.new).said ≡ report_of (self.old).said) }
+        ensures still { (self.new).state ≡ (self.old).state }
+    {
+        let mut now = Said::new(self.alloc);
+        push_evidence(known.evidence(), &mut now.text)?;
+        if !known.evidence().is_empty() {
+            now.raise(REFUSED);
+        }
+        if let Some(state) = self.state.as_ref() {
+            state.explain_evidence(&mut now)?;
+        }
+        self.said.join(now)
     }
 
     /// What asks with the chain of the state, or gives back the checks if there is none yet.
@@ -515,8 +540,9 @@ where
         ensures grows { Grows (W.contents writer.old) (W.contents writer.new) }
         ensures status { (self.new).said.status ≡ (self.old).said.status }
     {
+        let alarms = lines_beginning(self.alloc, &self.said.text, b"alarm ")?;
         if let Some(state) = self.state.as_mut() {
-            state.add(self.files, asker)?;
+            state.add(self.files, asker, &self.said.text)?;
         }
         if asked == Err(AskFault::Stopped) {
             tell_epoch(
@@ -528,7 +554,7 @@ where
         self.write(writer, errors)?;
         if asked != Err(AskFault::OutOfMemory) {
             if let Some(state) = self.state.as_mut() {
-                state.save(self.files, asker)?;
+                state.save(self.files, asker, &alarms)?;
             }
         }
         asked?;
@@ -557,6 +583,17 @@ where
         told?;
         Ok(())
     }
+}
+
+/// Appends the lines of evidence.
+fn push_evidence(evidence: &[EvidenceLine], text: &mut Vec<u8>) -> Result<(), AllocError>
+    ensures { OnOk result (text.new.items ≡ text.old.items ++ items_text (map Evidence evidence.now)) }
+{
+    for line in evidence {
+        text.extend_from_slice(line.bytes())?;
+        text.push(b'\n')?;
+    }
+    Ok(())
 }
 
 /// Asks what a line says, or nothing if that asks nothing of a directory.
