@@ -11,6 +11,7 @@ pub mod Left
 pub mod Listed
 pub mod Placed
 pub mod Ran
+pub mod Recalling
 pub mod Rising
 pub mod Stepped
 pub mod Stopped

@@ -45,13 +45,13 @@ told_behind (Ok done) told before after text status same stays tells = (
 )
 told_behind (Err fault) told before after text status same stays tells = tt
 
-worse-none : (status : ℕ) → worse 0 status ≡ status
-worse-none zero = refl
-worse-none (suc n) = search rules
+pub worse_none : (status : ℕ) → worse 0 status ≡ status
+worse_none zero = refl
+worse_none (suc n) = search rules
 
 -- this was said by one that had said nothing, which was then joined
 pub tells_joined : (before empty now after : Said) (told : Report) → empty.text.items ≡ [] → empty.status ≡ 0 → Tells empty told now → Tells before (report_of now) after → Tells before told after
 tells_joined before empty now after told silent fine tells joined = (
   joined.0 ∙ ap (λ (xs : List ℕ). before.text.items ++ xs) (tells.0 ∙ ap (λ (xs : List ℕ). xs ++ told.lines) silent),
-  joined.1 ∙ ap (λ (s : ℕ). worse before.status s) (tells.1 ∙ ap (λ (s : ℕ). worse s told.status) fine ∙ worse-none told.status),
+  joined.1 ∙ ap (λ (s : ℕ). worse before.status s) (tells.1 ∙ ap (λ (s : ℕ). worse s told.status) fine ∙ worse_none told.status),
 )

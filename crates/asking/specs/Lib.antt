@@ -10,6 +10,7 @@ pub mod Joining
 pub mod Recalled
 pub mod Refused
 pub mod Scenes
+pub mod Settling
 pub mod Stopping
 pub mod Testing
 pub mod Reports

@@ -29,6 +29,7 @@ mod promises;
 mod run;
 mod running;
 mod said;
+mod settling;
 mod state;
 mod watching;
 

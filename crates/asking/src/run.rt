@@ -18,12 +18,16 @@ ghost use Rattle.asking.specs.declared.ask_fault.RunFault.TheVariants.{Program};
 ghost use Rattle.asking.specs.declared.run.RunEnd.TheVariants.{Whole, Stopped};
 ghost use Rattle.asking.specs.declared.said.TheConstants.{ALARM};
 ghost use Rattle.asking.specs.Scenes.{scene, Scene, StartsAtHead};
+ghost use Rattle.asking.specs.Settling.{settled_text};
+ghost use Rattle.memory.specs.Memories.{Memory};
 
 use crate::ask_fault::RunFault;
 use crate::said::{ALARM, REFUSED};
 use crate::lines::lines_beginning;
+use crate::settling::tell_settled;
 use crate::state::State;
 use crate::{AskFault, AskKeys, AskOrder, Asker, Checks, Said};
+use encoding::Name;
 use memory::{EvidenceLine, Memory};
 use nodehash::NodeHash;
 use play::{Line, next_line, push_number, read_line};
@@ -561,8 +565,52 @@ where
         Ok(())
     }
 
+    /// Drops the alarms of a name from what is remembered, and tells how many there were, behind evidence of earlier runs.
+    pub(crate) fn settle_alarms<H, V, S>(
+        &mut self,
+        checks: Checks<H, V, S>,
+        keys: &AskKeys,
+        name: &Name,
+    ) -> Result<(), ProgramFault>
+    where
+        H: NodeHash + Drop,
+        V: VufCheck + Drop,
+        S: Verifier + Drop,
+        ensures settles { OnOk result (report_of (self.old).said ≡ emptied 0 → (known : Memory) × (count : ℕ)
+            × ((self.new).said.text.items ≡ settled_text known name.now count) × ((self.new).said.status ≡ (evidence_again known).status)) }
+        ensures part { report_of (self.old).said ≡ emptied 0 → (known : Memory) × (count : ℕ) × (rest : List ℕ) × (settled_text known name.now count ≡ (self.new).said.text.items ++ rest) }
+        ensures err { IfErr result IsFaultOfState }
+    {
+        if let Ok(asker) = self.load(checks, keys)? {
+            self.tell_evidence(&asker.known)?;
+        }
+        let count = self.drop_alarms(name)?;
+        tell_settled(self.alloc, name, count, &mut self.said)?;
+        Ok(())
+    }
+
+    /// Drops the alarms of a name from the files of the state. Returns how many there were.
+    fn drop_alarms(&mut self, name: &Name) -> Result<usize, ProgramFault>
+        ensures said { (self.new).said ≡ (self.old).said }
+        ensures err { IfErr result IsFaultOfSaving }
+    {
+        let Some(state) = self.state.as_mut() else {
+            return Ok(0);
+        };
+        let count = state.settle(name);
+        state.finish(self.alloc, self.files)?;
+        Ok(count)
+    }
+
+    /// The status so far.
+    pub(crate) fn status(&self) -> u8
+        ensures { result ≡ (self.now).said.status }
+    {
+        self.said.status
+    }
+
     /// Writes what is said: the lines to the output, the words to the errors.
-    fn write<W: Write, E: Write>(
+    pub(crate) fn write<W: Write, E: Write>(
         &mut self,
         writer: &mut W,
         errors: &mut E,

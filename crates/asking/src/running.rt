@@ -10,6 +10,7 @@ ghost use Rattle.asking.specs.Runs.{Grows};
 
 use crate::run::{Run, RunEnd};
 use crate::said::REFUSED;
+use crate::settling::{name_to_settle, settle};
 use crate::{AskKeys, AskOrder, Checks};
 use encoding::Hash32;
 use nodehash::NodeHash;
@@ -97,6 +98,10 @@ where
     ensures fails { ask_keys_of (ask_values order.entry) ≡ Some (keys.signing_key, keys.token)
         → OnErr result (FailsOverSocket (ask_values order.entry) (R.remaining reader.old) (W.contents writer.old) (W.contents writer.new)) }
 {
+    if let Some(name) = name_to_settle(alloc, &order)? {
+        let checks = Checks::keyed(keys.signing_key);
+        return settle(alloc, system, checks, &keys, order, &name, writer, errors);
+    }
     let Ok(mut stream) = TcpStream::connect(system, order.address) else {
         write_text(errors, b"cannot connect\n")?;
         return Ok(REFUSED);

@@ -11,7 +11,7 @@ ghost use Rattle.asking.specs.Runs.{IsSameAsker, IsSoundFor, KeepsAll, StillKeep
 
 use crate::lines::{fault_of, line_bytes};
 use crate::{Asker, Checks, Said};
-use encoding::Hash32;
+use encoding::{Hash32, Name};
 use files::{LockFault, append, cut, open_existing, open_kept, open_locked, replace};
 use memory::{Item, Mark, Memory, Promised, read_item, watched_up_to};
 use monitor::Monitor;
@@ -390,6 +390,11 @@ impl<'a> State<'a> {
         }
         self.count = promises.len();
         Ok(())
+    }
+
+    /// Drops the alarms of a name, and returns how many there were.
+    pub(crate) fn settle(&mut self, name: &Name) -> usize {
+        self.memory.settle(name)
     }
 
     /// Takes an item, and appends its line if it is new.
