@@ -1,5 +1,7 @@
 -- What an owner's client remembers.
-use Rattle.std.specs.Prelude.{◌≢◌, ℕ, List, [], AllPairs}
+use Rattle.std.specs.Prelude.{ℕ, List, [], map}
+use Rattle.rootchain.specs.declared.signed_promise.SignedPromise.{SignedPromise}
+use Rattle.memory.specs.Lists.{HasNoRepeat}
 use Rattle.memory.specs.declared.alarm.Alarm.{Alarm}
 use Rattle.memory.specs.declared.mark.Mark.{Mark}
 use Rattle.memory.specs.declared.promised.Promised.{Promised}
@@ -14,9 +16,15 @@ pub record Memory : Type 0 where
 abbrev pub nothing : Memory
 nothing = record { promises = []; marks = []; alarms = []; evidence = [] }
 
+abbrev pub signed_of : Promised → SignedPromise
+signed_of promised = promised.signed
+
+abbrev pub name_of : Mark → List ℕ
+name_of mark = mark.name
+
 -- no promise, no name of a mark, no alarm and no evidence is there twice
 pub record HoldsEachOnce (memory : Memory) : Type 0 where
-  pub promised : AllPairs (λ (one other : Promised). one.signed ≢ other.signed) memory.promises
-  pub watched : AllPairs (λ (one other : Mark). one.name ≢ other.name) memory.marks
-  pub alarmed : AllPairs (λ (one other : Alarm). one ≢ other) memory.alarms
-  pub shown : AllPairs (λ (one other : List ℕ). one ≢ other) memory.evidence
+  pub promised : HasNoRepeat (map signed_of memory.promises)
+  pub watched : HasNoRepeat (map name_of memory.marks)
+  pub alarmed : HasNoRepeat memory.alarms
+  pub shown : HasNoRepeat memory.evidence

@@ -9,13 +9,28 @@
 mod alarm;
 mod evidence_line;
 mod item;
+mod laws;
+mod leaving;
 mod mark;
 mod memory;
 mod promised;
+mod putting;
+mod read_fault;
+mod reading;
+mod recalling;
+mod telling;
+mod watching;
+mod words;
+mod writing;
 
 pub use alarm::Alarm;
 pub use evidence_line::EvidenceLine;
 pub use item::Item;
+pub use laws::{line_is_one_item, text_spells_memory};
 pub use mark::Mark;
 pub use memory::Memory;
 pub use promised::Promised;
+pub use read_fault::ReadFault;
+pub use reading::read_item;
+pub use recalling::read_memory;
+pub use watching::{is_awaited, watched_up_to};

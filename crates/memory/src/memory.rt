@@ -1,8 +1,17 @@
-ghost use Rattle.std.specs.Prelude.{◌≡◌, []};
+ghost use Rattle.std.specs.Prelude.{◌≡◌, ◌≢◌, ◌+◌, ◌++◌, ℕ, List, length, All, Contains, IfOk, MatchBool, MatchOption, OnErr, OnOk};
+ghost use Rattle.std.specs.Io.{StartsWith};
+ghost use Rattle.memory.specs.Leaving.{Leaves, Settles};
 ghost use Rattle.memory.specs.Memories.{nothing, HoldsEachOnce};
+ghost use Rattle.memory.specs.Taking.{Takes};
+ghost use Rattle.memory.specs.Texts.{memory_text, TellsAgain};
 
-use crate::{Alarm, EvidenceLine, Mark, Promised};
-use std::alloc::Global;
+use crate::leaving::{drop_alarms, leave_promises};
+use crate::putting::{put_alarm, put_evidence, put_mark, put_promised};
+use crate::telling::{push_alarms, push_alarms_of, push_lines, push_marks, push_promises};
+use crate::{Alarm, EvidenceLine, Item, Mark, Promised};
+use encoding::Name;
+use rootchain::SignedPromise;
+use std::alloc::{AllocError, Global};
 use std::marker::Model;
 
 /// What the client of an owner remembers: promises, how far names were watched, alarms and evidence, each
@@ -67,5 +76,71 @@ impl Memory {
         ensures { result.now ≡ self.now.evidence }
     {
         &self.evidence
+    }
+    /// The mark of a name, if there is one.
+    pub fn mark_of(&self, name: &Name) -> Option<&Mark>
+        ensures { MatchOption result (All (λ mark. mark.name ≢ name.now) self.now.marks) (λ mark. Contains self.now.marks mark.now × (mark.now.name ≡ name.now)) }
+    {
+        self.marks.iter().find(|mark| mark.name == *name)
+    }
+
+    /// Takes the item. Returns whether anything is new: a promise that is there becomes the owner's own if the item
+    /// is, a mark takes the place of the one of its name, and what is not there is put behind the others.
+    ///
+    /// # Errors
+    ///
+    /// `AllocError` if memory runs out. The memory then stays as it was.
+    pub fn take(&mut self, item: Item) -> Result<bool, AllocError>
+        ensures takes { IfOk result (λ is_new. Takes item self.old self.new × MatchBool is_new (self.new ≢ self.old) (self.new ≡ self.old)) }
+        ensures err { OnErr result (self.new ≡ self.old) }
+    {
+        match item {
+            Item::Promised(promised) => put_promised(&mut self.promises, promised),
+            Item::Watched(mark) => put_mark(&mut self.marks, mark),
+            Item::Alarm(alarm) => put_alarm(&mut self.alarms, alarm),
+            Item::Evidence(line) => put_evidence(&mut self.evidence, line),
+        }
+    }
+
+    /// Drops the alarms of a name, and returns how many there were.
+    pub fn settle(&mut self, name: &Name) -> usize
+        ensures settles { Settles name.now self.old self.new }
+        ensures counted { result + length self.new.alarms ≡ length self.old.alarms }
+    {
+        drop_alarms(&mut self.alarms, name)
+    }
+
+    /// Drops each promise that is not needed: it is not among those that the client still keeps to test, and is not
+    /// one of the owner's own that a mark awaits.
+    pub fn leave(&mut self, kept: &[SignedPromise])
+        ensures { Leaves kept.now self.old self.new }
+    {
+        leave_promises(&mut self.promises, &self.marks, kept);
+    }
+    /// Appends the lines: promises, marks, alarms and evidence, each in order.
+    ///
+    /// # Errors
+    ///
+    /// `AllocError` if memory runs out. Then the text may have grown by a part of the lines.
+    pub fn write(&self, text: &mut Vec<u8>) -> Result<(), AllocError>
+        ensures ok { OnOk result (text.new.items ≡ text.old.items ++ memory_text self.now) }
+        ensures grows { StartsWith text.new.items text.old.items }
+    {
+        push_promises(text, &self.promises)?;
+        push_marks(text, &self.marks)?;
+        push_alarms(text, &self.alarms)?;
+        push_lines(text, &self.evidence)
+    }
+
+    /// Appends the lines of the alarms of a name, and returns how many there are.
+    ///
+    /// # Errors
+    ///
+    /// `AllocError` if memory runs out. Then the text may have grown by a part of the lines.
+    pub fn tell_again(&self, name: &Name, text: &mut Vec<u8>) -> Result<usize, AllocError>
+        ensures ok { IfOk result (λ count. (added : List ℕ) × (text.new.items ≡ text.old.items ++ added) × TellsAgain name.now self.now.alarms added count) }
+        ensures grows { StartsWith text.new.items text.old.items }
+    {
+        push_alarms_of(text, &self.alarms, name)
     }
 }

@@ -1,0 +1,43 @@
+-- What is left of a list.
+use Rattle.std.proofs.Common.{◌≡◌, ◌≢◌, ℕ, Bool, true, false, List, [], ◌∷◌, length, map, refl, sym, ap, subst, ◌∙◌, inl, inr, arith}
+use Rattle.std.specs.Bool.{MatchBool}
+use Rattle.std.specs.List.{items_where_true, AllByRecursion}
+use Rattle.std.specs.List.Retain.{IsFiltered, ReturnsInTurn}
+use Rattle.std.proofs.lemmas.List.{map-id}
+use Rattle.memory.specs.Lists.{HasNoRepeat, IsLeft}
+
+-- what `retain` leaves, where the closure tells whether an element stays
+pub left_from_retain : {X F : Type 0} (R : F → X → Bool → F → Type 0) (Stays : X → Type 0) (f : F)
+    → ((x : X) (b : Bool) (g : F) → R f x b g → MatchBool b (Stays x) (¬ Stays x) × (g ≡ f)) → (xs ys : List X) → IsFiltered R f xs ys → IsLeft Stays xs ys
+left_from_retain {X} {F} R Stays f tells xs ys (bools, last, len, turns, is) = by bools xs ys len turns is
+  where
+    by : (bs : List Bool) (zs after : List X) → length bs ≡ length zs → ReturnsInTurn R f bs zs last → after ≡ items_where_true bs zs → IsLeft Stays zs after
+    by [] [] after len turns is = is
+    by [] (x ∷ zs) after len turns is = absurd (omega (arith, len))
+    by (b ∷ bs) [] after len turns is = absurd turns
+    by (true ∷ bs) (x ∷ zs) after len (g, call, turns) is =
+        let told = tells x true g call in
+        let rest : ReturnsInTurn R f bs zs last = subst (λ (k : F). ReturnsInTurn R k bs zs last) told.1 turns in
+        inl (told.0, (items_where_true bs zs, is, by bs zs (items_where_true bs zs) (omega (arith, len)) rest refl))
+    by (false ∷ bs) (x ∷ zs) after len (g, call, turns) is =
+        let told = tells x false g call in
+        let rest : ReturnsInTurn R f bs zs last = subst (λ (k : F). ReturnsInTurn R k bs zs last) told.1 turns in
+        inr (told.0, by bs zs after (omega (arith, len)) rest is)
+
+module _ {A K : Type 0} (Stays : A → Type 0) (key : A → K) where
+  left-all : (P : K → Type 0) (xs ys : List A) → IsLeft Stays xs ys → AllByRecursion P (map key xs) → AllByRecursion P (map key ys)
+  left-all P [] ys left all = subst (λ (zs : List A). AllByRecursion P (map key zs)) (sym left) tt
+  left-all P (x ∷ xs) ys (inl (stays, rest, is, left)) all =
+      subst (λ (zs : List A). AllByRecursion P (map key zs)) (sym is) (all.0, left-all P xs rest left all.1)
+  left-all P (x ∷ xs) ys (inr (goes, left)) all = left-all P xs ys left all.1
+
+  pub left-no_repeat : (xs ys : List A) → IsLeft Stays xs ys → HasNoRepeat (map key xs) → HasNoRepeat (map key ys)
+  left-no_repeat [] ys left once = subst (λ (zs : List A). HasNoRepeat (map key zs)) (sym left) tt
+  left-no_repeat (x ∷ xs) ys (inl (stays, rest, is, left)) once =
+      subst (λ (zs : List A). HasNoRepeat (map key zs)) (sym is) (left-all (λ (other : K). key x ≢ other) xs rest left once.0, left-no_repeat xs rest left once.1)
+  left-no_repeat (x ∷ xs) ys (inr (goes, left)) once = left-no_repeat xs ys left once.1
+
+-- the same of the elements themselves
+pub left-once : {A : Type 0} (Stays : A → Type 0) (xs ys : List A) → IsLeft Stays xs ys → HasNoRepeat xs → HasNoRepeat ys
+left-once {A} Stays xs ys left once =
+    subst HasNoRepeat (map-id ys) (left-no_repeat Stays (λ (x : A). x) xs ys left (subst HasNoRepeat (sym (map-id xs)) once))

@@ -1,0 +1,84 @@
+-- A word says one thing, and has neither spaces nor LFs.
+use Rattle.std.proofs.Common.{◌≡◌, ◌≢◌, ℕ, ◌^◌, ◌<◌, Bool, true, false, List, [], ◌∷◌, ◌++◌, Option, None, Some, Result, Ok, IfSome, codes, nat_lt, ltb-true, true≢false, refl, sym, ap, subst, ◌∙◌}
+use Rattle.std.specs.Fmt.{decimal}
+use Rattle.std.specs.List.{list_all}
+use Rattle.std.specs.Str.{bytes_eq, IsUtf8}
+use Rattle.std.specs.Str.Parse.{digits_value, ParsesUnsigned}
+use Rattle.std.proofs.lemmas.Bool.{and_parts}
+use Rattle.std.proofs.lemmas.Fmt.{decimal_is_IsNumeral, parse-decimal, IsAscii-decimal}
+use Rattle.std.proofs.lemmas.Slice.Eq.{bytes_eq-Decides}
+use Rattle.std.proofs.lemmas.Str.{IsUtf8-from_ascii}
+use Rattle.encoding.proofs.Fields.{one_spelling}
+use Rattle.encoding.specs.Bytes.{IsBytes}
+use Rattle.encoding.specs.Limits.{IsKeyData}
+use Rattle.hex.specs.Hex.{decode_of, encode_lower}
+use Rattle.hex.specs.declared.error.FromHexError.{FromHexError}
+use Rattle.hex.proofs.HexLemmas.{decode_of-encode_lower}
+use Rattle.hex.proofs.OnLiterals.{hex_on_literals}
+use Rattle.rootchain.specs.Readable.{signed_promise_field}
+use Rattle.rootchain.specs.Promises.{read_signed_promise, signed_promise_bytes, IsSignedPromise}
+use Rattle.rootchain.specs.declared.signed_promise.SignedPromise.{SignedPromise}
+use Rattle.rootchain.proofs.Sizes.{signed_promise_few}
+use Rattle.memory.specs.Lines.{found_word, promise_word}
+use Rattle.memory.proofs.Plain.{plain-hex, IsPlain}
+
+pub other_words : (one other : List ℕ) → bytes_eq one other ≡ false → one ≡ other → ⊥
+other_words one other apart same = true≢false (sym ((bytes_eq-Decides one other).1 same) ∙ apart)
+
+pub plain_word : (word : List ℕ) → list_all (λ byte. nat_lt 32 byte) word ≡ true → IsPlain word
+plain_word [] high = tt
+plain_word (byte ∷ more) high = let both = and_parts (nat_lt 32 byte) (list_all (λ byte. nat_lt 32 byte) more) high in (ltb-true 32 byte both.0, plain_word more both.1)
+
+same_ok : (one other : List ℕ) → ◌≡◌ {A = Result (List ℕ) FromHexError} (Ok one) (Ok other) → one ≡ other
+same_ok one other e = cc
+
+pub hex_same : (one other : List ℕ) → IsBytes one → IsBytes other → encode_lower one ≡ encode_lower other → one ≡ other
+hex_same one other p q e = same_ok one other (sym (decode_of-encode_lower one p) ∙ ap decode_of e ∙ decode_of-encode_lower other q)
+
+pub decimal_same : (m n : ℕ) → m < 2 ^ 64 → n < 2 ^ 64 → decimal m ≡ decimal n → m ≡ n
+decimal_same m n p q e = sym (decimal_is_IsNumeral m p).1 ∙ ap (digits_value 10) e ∙ (decimal_is_IsNumeral n q).1
+
+pub IsBytes-promise : (signed : SignedPromise) → IsSignedPromise signed → IsBytes (signed_promise_bytes signed)
+IsBytes-promise signed sound = (signed_promise_few signed sound).small
+
+pub promise_same : (one other : SignedPromise) → IsSignedPromise one → IsSignedPromise other
+    → encode_lower (signed_promise_bytes one) ≡ encode_lower (signed_promise_bytes other) → one ≡ other
+promise_same one other p q e =
+    let bytes = hex_same (signed_promise_bytes one) (signed_promise_bytes other) (IsBytes-promise one p) (IsBytes-promise other q) e in
+    (one_spelling read_signed_promise signed_promise_bytes IsSignedPromise signed_promise_field one other [] [] p q (ap (λ (t : List ℕ). t ++ []) bytes)).0
+
+pub absent_is_no_hex : (key : List ℕ) → IsBytes key → codes "absent" ≡ encode_lower key → ⊥
+unfolding hex_on_literals
+absent_is_no_hex key small e = let read = ap decode_of e ∙ decode_of-encode_lower key small in cc
+
+pub found_same : (one other : Option (List ℕ)) → IfSome one IsKeyData → IfSome other IsKeyData → found_word one ≡ found_word other → one ≡ other
+found_same None None p q e = refl
+found_same None (Some key) p q e = absurd (absent_is_no_hex key q.2 e)
+found_same (Some key) None p q e = absurd (absent_is_no_hex key p.2 (sym e))
+found_same (Some one) (Some other) p q e = ap Some (hex_same one other p.2 q.2 e)
+
+pub plain-found : (found : Option (List ℕ)) → IfSome found IsKeyData → IsPlain (found_word found)
+plain-found None sound = plain_word (codes "absent") refl
+plain-found (Some key) sound = plain-hex key sound.2
+
+pub plain-promise_word : (is_own : Bool) → IsPlain (promise_word is_own)
+plain-promise_word true = plain_word (codes "change") refl
+plain-promise_word false = plain_word (codes "promise") refl
+
+pub own_same : (one other : Bool) → promise_word one ≡ promise_word other → one ≡ other
+own_same true true e = refl
+own_same false false e = refl
+own_same true false e = absurd (other_words (codes "change") (codes "promise") refl e)
+own_same false true e = absurd (other_words (codes "promise") (codes "change") refl e)
+
+-- ---- numbers as they are parsed
+
+-- what decimal digits write is UTF-8, and is parsed as the number
+pub decimal_is_utf8 : (number : ℕ) (word : List ℕ) → number < 2 ^ 64 → word ≡ decimal number → IsUtf8 word
+decimal_is_utf8 number word small is = subst IsUtf8 (sym is) (IsUtf8-from_ascii (decimal number) (IsAscii-decimal number small))
+
+pub is_parsed : {E : Type 0} (number : ℕ) (word : List ℕ) (result : Result ℕ E) → number < 2 ^ 64 → word ≡ decimal number → ParsesUnsigned 64 10 word result → result ≡ Ok number
+is_parsed number word result small is parsed = parse-decimal 64 number word result small small is parsed
+
+pub the_number : {E : Type 0} {a b : ℕ} → ◌≡◌ {A = Result ℕ E} (Ok a) (Ok b) → a ≡ b
+the_number same = cc

@@ -1,0 +1,21 @@
+-- What a memory loses.
+use Rattle.std.specs.Prelude.{◌≡◌, ◌≢◌, ◌⊎◌, ℕ, List, Any, Contains, IsTrue}
+use Rattle.rootchain.specs.declared.signed_promise.SignedPromise.{SignedPromise}
+use Rattle.memory.specs.Lists.{IsLeft}
+use Rattle.memory.specs.Memories.{Memory}
+use Rattle.memory.specs.Watching.{IsAwaited}
+use Rattle.memory.specs.declared.alarm.Alarm.{Alarm}
+use Rattle.memory.specs.declared.mark.Mark.{Mark}
+use Rattle.memory.specs.declared.promised.Promised.{Promised}
+
+-- the client still keeps the promise to test it, or it is the owner's own and a mark's monitors await it
+abbrev pub IsNeeded : List SignedPromise → List Mark → Promised → Type 0
+IsNeeded kept marks promised = Contains kept promised.signed ⊎ (IsTrue promised.is_own × Any (IsAwaited promised.signed) marks)
+
+-- the promises that are needed are left
+abbrev pub Leaves : List SignedPromise → Memory → Memory → Type 0
+Leaves kept before after = IsLeft (IsNeeded kept before.marks) before.promises after.promises × (after ≡ record before { promises = after.promises })
+
+-- the alarms of other names are left
+abbrev pub Settles : List ℕ → Memory → Memory → Type 0
+Settles name before after = IsLeft (λ (alarm : Alarm). alarm.name ≢ name) before.alarms after.alarms × (after ≡ record before { alarms = after.alarms })

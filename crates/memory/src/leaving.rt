@@ -1,0 +1,49 @@
+// Lists that lose what is no longer needed.
+
+ghost use Rattle.std.specs.Prelude.{◌≡◌, ◌≢◌, ◌↔◌, ◌+◌, map, length, Any, Contains, IsTrue};
+ghost use Rattle.memory.specs.Leaving.{IsNeeded};
+ghost use Rattle.memory.specs.Watching.{IsAwaited};
+ghost use Rattle.memory.specs.Lists.{HasNoRepeat, IsLeft};
+ghost use Rattle.memory.specs.Memories.{signed_of};
+
+use crate::{Alarm, Mark, Promised, is_awaited};
+use encoding::Name;
+use rootchain::SignedPromise;
+
+pub(crate) fn drop_alarms(alarms: &mut Vec<Alarm>, name: &Name) -> usize
+    ensures left { IsLeft (λ alarm. alarm.name ≢ name.now) alarms.old.items alarms.new.items }
+    ensures counted { result + length alarms.new.items ≡ length alarms.old.items }
+    ensures once { HasNoRepeat alarms.old.items → HasNoRepeat alarms.new.items }
+{
+    let before = alarms.len();
+    alarms.retain(|alarm| alarm.name != *name);
+    before - alarms.len()
+}
+
+pub(crate) fn leave_promises(promises: &mut Vec<Promised>, marks: &[Mark], kept: &[SignedPromise])
+    ensures left { IsLeft (IsNeeded kept.now marks.now) promises.old.items promises.new.items }
+    ensures once { HasNoRepeat (map signed_of promises.old.items) → HasNoRepeat (map signed_of promises.new.items) }
+{
+    promises.retain(|promised| is_needed(promised, marks, kept));
+}
+
+/// Whether a promise is among these, or is the owner's own and awaited by a mark.
+fn is_needed(promised: &Promised, marks: &[Mark], kept: &[SignedPromise]) -> bool
+    ensures { IsTrue result ↔ IsNeeded kept.now marks.now promised.now }
+{
+    is_kept(&promised.signed, kept) || promised.is_own && has_awaiting(&promised.signed, marks)
+}
+
+/// Whether a promise is among these.
+fn is_kept(signed: &SignedPromise, kept: &[SignedPromise]) -> bool
+    ensures { IsTrue result ↔ Contains kept.now signed.now }
+{
+    kept.iter().any(|other| other == signed)
+}
+
+/// Whether a mark awaits the promise.
+fn has_awaiting(signed: &SignedPromise, marks: &[Mark]) -> bool
+    ensures { IsTrue result ↔ Any (IsAwaited signed.now) marks.now }
+{
+    marks.iter().any(|mark| is_awaited(signed, mark))
+}
