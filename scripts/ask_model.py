@@ -95,9 +95,10 @@ class Memory:
         return [signed for signed in self.changes if signed.promise.name == name]
 
     def is_watched(self, signed):
-        """Whether the name of a promise was watched above its epoch, or is not watched at all."""
+        """Whether an epoch above that of a promise was watched, by each monitor of its name, or the name has no mark.
+        One whose monitor was held up at its first root has a mark with nothing watched."""
         mark = self.marks.get(signed.promise.name)
-        return mark is None or mark.epoch > signed.promise.epoch
+        return mark is None or mark.epoch > max(mark.since, signed.promise.epoch)
 
 
 def mark_of(monitors, earlier):

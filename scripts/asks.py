@@ -256,17 +256,21 @@ def memory_runs_out(_provider, _request, _reply):
     return response_frame(REFUSED, 14)
 
 
-def monitor_is_held_up(provider, request, reply):
-    """The first look-up of epoch 3 finds no memory."""
-    is_held = words_of(request)[0] == 3 and not hasattr(provider, "held")
-    if is_held:
-        provider.held = True
-    return response_frame(REFUSED, 14) if is_held else reply
+def is_first_of(epoch, provider, request):
+    """Whether this is the first look-up of an epoch."""
+    is_first = words_of(request)[0] == epoch and epoch not in provider.noted
+    provider.noted.add(words_of(request)[0])
+    return is_first
 
 
-def proof_is_altered(provider, request, reply):
-    """The first proof of epoch 3 is altered."""
-    return reply if monitor_is_held_up(provider, request, reply) == reply else reply[:-1] + bytes([reply[-1] ^ 1])
+def memory_runs_out_at(epoch):
+    """The first look-up of an epoch finds no memory."""
+    return lambda provider, request, reply: response_frame(REFUSED, 14) if is_first_of(epoch, provider, request) else reply
+
+
+def proof_is_altered_at(epoch):
+    """The first proof of an epoch is altered."""
+    return lambda provider, request, reply: flipped(reply, len(reply) - 1) if is_first_of(epoch, provider, request) else reply
 
 
 def promise_is_of_epoch_3(provider, _request, reply):
@@ -356,13 +360,18 @@ STORED_LIES = {
         Ending(["client refuses reply 25"], 1, [REPLY_25]),
     ),
     # 2. The change stays expected until it was watched, though its promise was tested.
-    "a change whose monitor was held up": (
-        lies((1, "lookup", monitor_is_held_up), (2, None, memory_runs_out)),
+    "a change whose first monitor was held up": (
+        lies((2, "lookup", memory_runs_out_at(4))),
+        [run_of_lines("register 61 6b31", "close 2", "change 61 6b32"), run_of_lines("close 3", "close 4", "watch 61 6b31"), WATCH],
+        Ending(["kept 61 4"], 0, []),
+    ),
+    "a change whose monitor was held up twice": (
+        lies((1, "lookup", memory_runs_out_at(3)), (2, None, memory_runs_out)),
         [run_of_lines("register 61 6b31", "close 2", "watch 61 6b31", "change 61 6b32", "close 3"), WATCH],
         Ending(["refused 14", "kept 61 3"], 1, [NO_MEMORY]),
     ),
     "a change whose proof came late": (
-        lies((1, "lookup", proof_is_altered)),
+        lies((1, "lookup", proof_is_altered_at(3))),
         [run_of_lines("register 61 6b31", "close 2", "watch 61 6b31", "change 61 6b32", "close 3"), WATCH],
         Ending(["kept 61 3"], 0, []),
     ),

@@ -25,7 +25,8 @@ class Provider:
     def __init__(self, lie=None):
         self.hub = Hub(keyed_directory(1, ZERO32, SIGNING_KEY, VUF_KEY, SALT_KEY), TOKEN)
         self.hub.open(0)
-        self.lie, self.runs = lie, -1
+        # A lie may note something.
+        self.lie, self.noted, self.runs = lie, set(), -1
         self.begin()
 
     def begin(self):
