@@ -12,8 +12,51 @@ import contextlib
 from dataclasses import dataclass, replace
 from typing import NamedTuple
 
-from formats import *
-from sessions import *
+from formats import (
+    BAD_LINK,
+    BEFORE_START,
+    KNOWN,
+    MAX_EPOCH,
+    MAX_KEY,
+    MAX_NAME,
+    MAX_ROOTS,
+    NOT_LATER,
+    PROMISE,
+    PROOF,
+    REFUSED,
+    ROOT,
+    ROOTS,
+    FeedRefusal,
+    KeyedVuf,
+    ReadRefusal,
+    Refusal,
+    Reply,
+    RootEvidence,
+    RootRefusal,
+    SignedPromise,
+    SignedRoot,
+    evidence_json,
+    lines_of,
+    read_response,
+    request_frame,
+    sha256,
+    write_list,
+)
+from sessions import (
+    KEPT,
+    OTHER_INDEX,
+    SIGNING_KEY,
+    Client,
+    ClientRefusal,
+    DirectoryRefusal,
+    Monitor,
+    NotACommand,
+    command_of,
+    hex_word,
+    request_of,
+    response_line,
+    step_line,
+)
 
 PROVIDER = SIGNING_KEY
 
@@ -92,7 +135,8 @@ class Memory:
         return [line for line in self.alarms if line.split(" ")[1] == name.hex()]
 
     def changes_of(self, name):
-        return [signed for signed in self.changes if signed.promise.name == name]
+        """Those of a name, ascending, in whatever order the lines are."""
+        return sorted((signed for signed in self.changes if signed.promise.name == name), key=lambda signed: signed.promise.epoch)
 
     def is_watched(self, signed):
         """Whether an epoch above that of a promise was watched, by each monitor of its name, or the name has no mark.

@@ -29,7 +29,9 @@ import play_scripts
 import plays
 import sessions
 from ask_model import *
+from formats import *
 from liars import *
+from sessions import *
 
 SECONDS = 60
 
@@ -369,6 +371,15 @@ STORED_LIES = {
         lies((1, "lookup", memory_runs_out_at(3)), (2, None, memory_runs_out)),
         [run_of_lines("register 61 6b31", "close 2", "watch 61 6b31", "change 61 6b32", "close 3"), WATCH],
         Ending(["refused 14", "kept 61 3"], 1, [NO_MEMORY]),
+    ),
+    "two changes whose monitor was held up, in a file that was written anew": (
+        lies(*[(2, "lookup", memory_runs_out_at(3))] * 2),
+        [
+            BEGUN,
+            run_of_lines("close 3", "watch 61 6b31", "change 61 6b32", "register 62 6b31", "close 4", "change 61 6b33"),
+            run_of_lines("close 5", "watch 61 6b31"),
+        ],
+        Ending(["root 5 after 4", "kept 61 3", "kept 61 4", "kept 61 5"], 0, []),
     ),
     "a change whose proof came late": (
         lies((1, "lookup", proof_is_altered_at(3))),

@@ -12,8 +12,32 @@ import itertools
 import random
 from dataclasses import replace
 
-from formats import *
-from sessions import *
+from formats import (
+    PROMISE,
+    REFUSED,
+    REQUEST_KINDS,
+    ROOT,
+    ROOTS,
+    ZERO32,
+    Feed,
+    SignedPromise,
+    frame,
+    read_request,
+    read_response,
+    response_frame,
+    split_frames,
+    u32,
+    write_list,
+)
+from sessions import (
+    SALT_KEY,
+    SIGNING_KEY,
+    TOKEN,
+    VUF_KEY,
+    DirectoryRefusal,
+    Hub,
+    keyed_directory,
+)
 
 OTHER_KEY = bytes([9]) * 32
 EVIL = b"ev"
