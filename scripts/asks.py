@@ -270,6 +270,11 @@ def memory_runs_out_at(epoch):
     return lambda provider, request, reply: response_frame(REFUSED, 14) if is_first_of(epoch, provider, request) else reply
 
 
+def memory_runs_out_for(epoch):
+    """No look-up of an epoch finds memory."""
+    return lambda provider, request, reply: response_frame(REFUSED, 14) if words_of(request)[0] == epoch else reply
+
+
 def proof_is_altered_at(epoch):
     """The first proof of an epoch is altered."""
     return lambda provider, request, reply: flipped(reply, len(reply) - 1) if is_first_of(epoch, provider, request) else reply
@@ -363,7 +368,7 @@ STORED_LIES = {
     ),
     # 2. The change stays expected until it was watched, though its promise was tested.
     "a change whose first monitor was held up": (
-        lies((2, "lookup", memory_runs_out_at(4))),
+        lies((2, "lookup", memory_runs_out_for(4))),
         [run_of_lines("register 61 6b31", "close 2", "change 61 6b32"), run_of_lines("close 3", "close 4", "watch 61 6b31"), WATCH],
         Ending(["kept 61 4"], 0, []),
     ),
@@ -373,7 +378,7 @@ STORED_LIES = {
         Ending(["refused 14", "kept 61 3"], 1, [NO_MEMORY]),
     ),
     "two changes whose monitor was held up, in a file that was written anew": (
-        lies(*[(2, "lookup", memory_runs_out_at(3))] * 2),
+        lies((2, "lookup", memory_runs_out_for(3))),
         [
             BEGUN,
             run_of_lines("close 3", "watch 61 6b31", "change 61 6b32", "register 62 6b31", "close 4", "change 61 6b33"),
