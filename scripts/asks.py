@@ -333,14 +333,16 @@ def promise_and_root():
     return evidence_json(BrokenPromise(promise, directory.close(2), directory.lookup(b"a", 2).write()))
 
 
-BEGUN = run_of_lines("register 61 6b31", "close 2", "watch 61 6b31")
+BEGUN_LINES = "register 61 6b31", "close 2", "watch 61 6b31"
+BEGUN = run_of_lines(*BEGUN_LINES)
 WATCH, SETTLE = run_of_words("watch 61 6b31"), run_of_words("settle 61")
 REPLY_25 = "client refuses reply 25: the reply is not to what was asked"
 ROOT_3 = "client refuses root 3: the epoch is not above that of the head of the chain"
 ROOT_21 = "client refuses root 21: the root contradicts the chain"
 NO_MEMORY = "refused 14: out of memory"
 ALARM, EARLIER_ALARM = "alarm 61 3 6576", "watching 61 at epoch 3: alarm of an earlier run"
-FORKED, EARLIER_EVIDENCE = evidence_json(RootEvidence(FORK, root_2(b"k1"), root_2(EVIL))), "state: FILE.kept: evidence of an earlier run"
+FORKED = evidence_json(RootEvidence(FORK, root_2(b"k1"), root_2(EVIL)))
+EARLIER_EVIDENCE = "state: FILE.kept: evidence of an earlier run"
 
 # Of a name: what the directory does, the runs over one state, and how the last of them ends.
 STORED_LIES = {
@@ -395,7 +397,8 @@ STORED_LIES = {
     "an old promise for a change": (
         lies((2, "change", promise_is_of_epoch_3)),
         [
-            run_of_lines(*BEGUN[0].decode().splitlines(), "change 61 6b32", "close 3", "change 61 6b31", "close 4", "change 61 6b32", "close 5"),
+            run_of_lines(
+                *BEGUN_LINES, "change 61 6b32", "close 3", "change 61 6b31", "close 4", "change 61 6b32", "close 5"),
             run_of_words("change 61 6b31"),
         ],
         Ending(["client refuses reply 25"], 1, [REPLY_25]),
