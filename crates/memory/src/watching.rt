@@ -74,5 +74,6 @@ where
 pub fn is_awaited(signed: &SignedPromise, mark: &Mark) -> bool
     ensures { IsTrue result ↔ IsAwaited signed.now mark.now }
 {
-    mark.name == signed.promise.name && mark.epoch <= signed.promise.epoch
+    mark.name == signed.promise.name
+        && (mark.epoch <= signed.promise.epoch || mark.epoch <= mark.since)
 }
