@@ -314,7 +314,7 @@ class Followed(Told):
             case SignedPromise():
                 self.client.keep_promise(body)
             case SignedRoot():
-                self.place(value, before if request[0] == "head" else 0)
+                self.place(value, before)
             case _:
                 for root in value:
                     self.placed(root)
@@ -388,10 +388,9 @@ class Asked(Followed):
     def begin(self):
         if self.saved:
             self.load()
-            self.answer(("head",), is_told=False)
         else:
             self.start()
-            self.follow()
+        self.answer(("head",), is_told=False)
         self.test_promises()
 
     def load(self):
