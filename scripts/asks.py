@@ -588,7 +588,7 @@ def evidence_unwritten(program):
 
 
 def older_form(program):
-    """A mark of the older form stays where nothing changes, and is read as one that says nothing of earlier epochs."""
+    """A mark of the older form is read as one that says nothing of earlier epochs, and is written in the new form."""
     provider, found = Provider(), []
     with tempfile.TemporaryDirectory() as folder:
         state = f"{folder}/state"
@@ -598,7 +598,7 @@ def older_form(program):
             found.append(files_of(state)[1])
             if len(found) == 1:
                 paths(state)[1].write_text("watched 61 2\n")
-    wanted = [["watched 61 1 2"], ["watched 61 2"], ["watched 61 2 3"]]
+    wanted = [["watched 61 1 2"], ["watched 61 2 2"], ["watched 61 2 3"]]
     return None if found == wanted else f"a mark of the older form: wanted {wanted}, got {found}"
 
 
