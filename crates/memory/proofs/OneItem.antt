@@ -114,8 +114,8 @@ alarm_same one other name epoch found =
     let R : Option (List ℕ) → AlarmMade = λ x. record { name = other.name; epoch = other.epoch; found = x } in
     ap P name ∙ ap Q epoch ∙ ap R found
 
-heads : (a b : List ℕ) (as bs : List (List ℕ)) → a ∷ as ≡ b ∷ bs → (a ≡ b) × (as ≡ bs)
-heads a b as bs e = (cc, cc)
+heads : (a b : List ℕ) (xs ys : List (List ℕ)) → a ∷ xs ≡ b ∷ ys → (a ≡ b) × (xs ≡ ys)
+heads a b xs ys e = (cc, cc)
 
 few : (w : List ℕ) (ws : List (List ℕ)) → [] ≡ w ∷ ws → ⊥
 few w ws e = cc
