@@ -1,20 +1,32 @@
-use Rattle.std.proofs.Common.{rules, ◌≡◌, ◌≢◌, ◌↔◌, ◌<◌, ◌||◌, length, map, slice_index_or, All, Contains, IfOk, IsTrue, MatchBool, MatchOption, OnErr, ℕ, ◌+◌, ◌-◌, ◌*◌, ◌≤◌, ◌/◌, ◌%◌, Bool, true, false, nat_eq, nat_lt, List, [], ◌∷◌, ◌++◌, slice_set, bit_and, bit_or, Fits, w8, w32, w64, Bor, MutBor}
-use Rattle.rootchain.specs.declared.signed_promise.SignedPromise.{SignedPromise}
-use Rattle.memory.specs.Lists.{HasNoRepeat}
-use Rattle.memory.specs.Memories.{name_of, signed_of}
-use Rattle.memory.specs.Taking.{PutsAlarm, PutsEvidence, PutsMark, PutsPromised}
-use Rattle.memory.specs.declared.mark.Mark.{Mark}
+use Rattle.std.proofs.Common.{◌≡◌, ◌∙◌, ◌<◌, ap, sym, subst, length, rules}
+use Rattle.std.specs.Prelude.{slice_index_or, slice_set, All, List, MatchBool, ◌≢◌}
+use Rattle.memory.specs.Memories.{signed_of}
+use Rattle.memory.specs.Taking.{either, PutsPromised}
 use Rattle.memory.specs.declared.promised.Promised.{Promised}
+use Rattle.memory.proofs.Joined.{push-no_repeat, put_at, set-no_repeat}
 use Rattle.memory.proofs.putting.put_promised.Goals as goal
 
--- src/putting.rt:17:1
 pub returns-in-Some-clause-puts : goal.returns-in-Some-clause-puts
-returns-in-Some-clause-puts c = ?
+returns-in-Some-clause-puts c =
+    let promises = c.args.promises.now.items in
+    let place = c.in-Some.place in
+    let kept = c.index_mut.result.now in
+    let within : place < length promises = search rules in
+    let signed : (d : Promised) → (slice_index_or promises place d).signed ≡ c.args.new.signed = search rules in
+    let joined : c.join.new.kept ≡ either kept c.args.new = c.join.ensures.joined in
+    let told : MatchBool c.join.result (kept ≢ either kept c.args.new) (kept ≡ either kept c.args.new) = rw joined at c.join.ensures.told in
+    let puts = put_at signed_of either c.args.new promises place kept c.join.result within (sym c.index_mut.ensures.value) (ap signed_of c.index_mut.ensures.value ∙ signed kept) told in
+    rw joined puts
 
--- src/putting.rt:17:1
 pub returns-in-Some-clause-once : goal.returns-in-Some-clause-once
-returns-in-Some-clause-once c = ?
+returns-in-Some-clause-once c = λ once.
+    let promises = c.args.promises.now.items in
+    let place = c.in-Some.place in
+    let kept = c.index_mut.result.now in
+    let within : place < length promises = search rules in
+    set-no_repeat signed_of promises place kept c.join.new.kept within (sym c.index_mut.ensures.value) (ap signed_of c.join.ensures.joined) once
 
--- src/putting.rt:17:1
 pub returns-in_ok-push-in-None-clause-once : goal.returns-in_ok-push-in-None-clause-once
-returns-in_ok-push-in-None-clause-once c = ?
+returns-in_ok-push-in-None-clause-once c = λ once.
+    let none : All (λ (kept : Promised). kept.signed ≢ c.args.new.signed) c.args.promises.now.items = search rules in
+    rw c.in_ok-push-in-None.ensures.items (push-no_repeat signed_of c.args.promises.now.items c.args.new none once)

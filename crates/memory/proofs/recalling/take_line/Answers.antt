@@ -1,8 +1,11 @@
-use Rattle.std.proofs.Common.{rules, ◌≡◌, ◌∷◌, ◌<◌, length, MatchResult, ℕ, ◌+◌, ◌-◌, ◌*◌, ◌≤◌, ◌/◌, ◌%◌, Bool, true, false, nat_eq, nat_lt, List, [], ◌++◌, slice_index_or, slice_set, bit_and, bit_or, Fits, w8, w32, w64, Bor, MutBor}
-use Rattle.textio.specs.Lines.{lines_of}
-use Rattle.memory.specs.Texts.{IsRead, TakesLine}
+use Rattle.std.proofs.Common.{◌≡◌, [], refl, ap, length, rules, arith}
+use Rattle.memory.specs.Lines.{IsLineOf}
+use Rattle.memory.specs.declared.item.Item.{Item}
+use Rattle.memory.proofs.Recalled.{nonempty}
 use Rattle.memory.proofs.recalling.take_line.Goals as goal
 
--- src/recalling.rt:58:9
 pub returns-in_default : goal.returns-in_default
-returns-in_default c = ?
+returns-in_default c =
+    let none : (item : Item) → ¬ IsLineOf c.args.line.now item = search rules in
+    let some : c.args.line.now ≡ [] → ⊥ = λ is. let zero_length = ap length is in search rules in
+    (refl, none, nonempty c.args.line.now some)

@@ -1,8 +1,17 @@
-use Rattle.std.proofs.Common.{rules, ◌≡◌, ◌↔◌, ◌∷◌, ◌++◌, [], List, IsTrue, ℕ, ◌+◌, ◌-◌, ◌*◌, ◌<◌, ◌≤◌, length, ◌/◌, ◌%◌, Bool, true, false, nat_eq, nat_lt, slice_index_or, slice_set, bit_and, bit_or, Fits, w8, w32, w64, Bor, MutBor}
-use Rattle.monitor.specs.Monitors.{Monitor as Watcher}
-use Rattle.memory.specs.Watching.{IsAwaited, IsWatchedUpTo, WatchedUpTo}
+use Rattle.std.proofs.Common.{◌≡◌, ◌+◌, ◌<◌, ◌++◌, ◌∷◌, [], List, get_or, length, sym, subst, take, ap, ◌∙◌, rules}
+use Rattle.std.proofs.lemmas.List.{take_more}
+use Rattle.monitor.specs.Monitors.{Monitor}
+use Rattle.memory.specs.Watching.{WatchedUpTo}
 use Rattle.memory.proofs.watching.watched_up_to.Goals as goal
 
--- src/watching.rt:25:5
 pub loop-monitor-preserved : goal.loop-monitor-preserved
-loop-monitor-preserved g c = ?
+loop-monitor-preserved g c =
+    let monitors = c.args.monitors.now in
+    let place = c.loop-monitor.monitor-index in
+    let monitor = c.monitor-item.result in
+    let within : place < length monitors = c.loop-monitor-test.true in
+    let more : take (place + 1) monitors ≡ take place monitors ++ get_or monitors place monitor ∷ [] = take_more monitors place monitor within in
+    let is : monitor ≡ get_or monitors place monitor = c.monitor-item.is in
+    let front = take place monitors in
+    let whole = more ∙ ap (λ (m : Monitor). front ++ m ∷ []) (sym is) in
+    subst (λ (ms : List Monitor). WatchedUpTo ms c.args.name.now c.with_monitor-least.result) (sym whole) (c.with_monitor-least.ensures front c.loop-monitor.invariant)
