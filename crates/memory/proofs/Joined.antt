@@ -1,9 +1,9 @@
 -- Lists that take an element.
-use Rattle.std.proofs.Common.{◌≡◌, ◌≢◌, ℕ, suc, Bool, true, false, ◌<◌, List, [], ◌∷◌, ◌++◌, length, map, get_or, set, take, drop, All, Contains, refl, sym, ap, subst, ◌∙◌, inl, inr, arith, length-append}
+use Rattle.std.proofs.Common.{◌≡◌, ◌≢◌, ℕ, suc, Bool, true, false, ◌<◌, List, [], ◌∷◌, ◌++◌, length, map, get_or, set, take, drop, All, Contains, refl, sym, ap, subst, ◌∙◌, inl, arith, length-append}
 use Rattle.std.specs.Bool.{MatchBool}
 use Rattle.std.specs.List.{AllByRecursion}
-use Rattle.std.proofs.lemmas.List.{drop_more, get_or_default, get_or-map, get_or-set_same, map-id, map-set, set-get_or, set_split, take-append-drop}
-use Rattle.std.proofs.lemmas.List.Elements.{recursion_from_All, All-head, All-tail}
+use Rattle.std.proofs.lemmas.List.{get_or_default, get_or-map, get_or-set_same, map-id, map-set, set-get_or, set_split}
+use Rattle.std.proofs.lemmas.List.Elements.{All-head, All-tail}
 use Rattle.memory.specs.Lists.{HasNoRepeat, Puts}
 
 pub push_differs : {A : Type 0} (xs : List A) (x : A) → xs ++ x ∷ [] ≢ xs

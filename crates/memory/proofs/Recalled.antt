@@ -1,13 +1,13 @@
 -- A text spells its memory.
-use Rattle.std.proofs.Common.{◌≡◌, ◌≢◌, ◌⊎◌, ℕ, zero, suc, ◌+◌, ◌<◌, ◌≤◌, Bool, true, false, List, [], ◌∷◌, ◌++◌, length, map, All, Result, Ok, Err, get_or, take, drop, refl, sym, ap, subst, ◌∙◌, inl, inr, arith, append_assoc, append-nil, codes}
+use Rattle.std.proofs.Common.{◌≡◌, ◌≢◌, ℕ, zero, suc, ◌+◌, ◌<◌, true, false, List, [], ◌∷◌, ◌++◌, length, map, All, Result, Ok, Err, get_or, take, drop, refl, sym, ap, subst, ◌∙◌, inl, inr, arith, append_assoc, append-nil}
 use Rattle.std.specs.Prelude.{◌==◌}
-use Rattle.std.specs.List.{flat_map, AllByRecursion}
+use Rattle.std.specs.List.{AllByRecursion}
 use Rattle.std.proofs.lemmas.Bool.{eq-eqb, ne_eqb}
 use Rattle.std.proofs.lemmas.List.{map-id}
 use Rattle.std.proofs.lemmas.List.Elements.{All-cons, All-nil}
 use Rattle.textio.specs.Lines.{lines_of, onto_first}
 use Rattle.audits.specs.Files.{parts_text}
-use Rattle.memory.specs.Lines.{item_line, line_of, IsEvidenceLine, IsLineOf, IsSound}
+use Rattle.memory.specs.Lines.{item_line, line_of, IsLineOf, IsSound}
 use Rattle.memory.specs.Lists.{HasNoRepeat, Puts}
 use Rattle.memory.specs.Memories.{Memory, name_of, nothing, signed_of, HoldsEachOnce}
 use Rattle.memory.specs.Taking.{either, later, Takes}
@@ -15,10 +15,8 @@ use Rattle.memory.specs.Texts.{items_text, memory_items, memory_text, HoldsSound
 use Rattle.memory.specs.declared.alarm.Alarm.{Alarm as AlarmMade}
 use Rattle.memory.specs.declared.item.Item.{Item}
 use Rattle.memory.specs.declared.item.Item.TheVariants.{Promised, Watched, Alarm, Evidence}
-use Rattle.memory.specs.declared.mark.Mark.{Mark}
-use Rattle.memory.specs.declared.promised.Promised.{Promised as PromisedMade}
 use Rattle.memory.specs.declared.read_fault.ReadFault.{ReadFault}
-use Rattle.memory.specs.declared.read_fault.ReadFault.TheVariants.{BadItem, OutOfMemory}
+use Rattle.memory.specs.declared.read_fault.ReadFault.TheVariants.{BadItem}
 use Rattle.memory.proofs.OneItem.{first_of, line_parts, plain-item, rest_of, ArePlain}
 use Rattle.memory.proofs.Plain.{IsPlain}
 use Rattle.memory.proofs.SaidLines.{alone_evidence}

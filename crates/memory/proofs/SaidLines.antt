@@ -1,10 +1,10 @@
 -- What the words of a line say, and that nothing else says it.
-use Rattle.std.proofs.Common.{◌≡◌, ◌≢◌, ◌⊎◌, ℕ, ◌^◌, ◌<◌, ◌≤◌, Bool, true, false, List, [], ◌∷◌, ◌++◌, Option, codes, refl, sym, ap, subst, ◌∙◌, inl, inr, arith}
+use Rattle.std.proofs.Common.{◌≡◌, ◌≢◌, ℕ, ◌^◌, ◌<◌, ◌≤◌, Bool, true, false, List, [], ◌∷◌, ◌++◌, Option, codes, refl, sym, ap, subst, ◌∙◌, inl, inr, arith}
 use Rattle.std.specs.Fmt.{decimal}
 use Rattle.hex.specs.Hex.{encode_lower}
 use Rattle.rootchain.specs.declared.signed_promise.SignedPromise.{SignedPromise}
 use Rattle.rootchain.specs.Promises.{signed_promise_bytes}
-use Rattle.memory.specs.Lines.{found_word, item_line, line_of, promise_word, IsEvidenceLine, IsLineOf}
+use Rattle.memory.specs.Lines.{found_word, line_of, promise_word, IsEvidenceLine, IsLineOf}
 use Rattle.memory.specs.Words.{HasNoSpace, IsAlarmText, IsFinding, IsFoundWord, IsMarkText, IsNameWord, IsNumberWord, IsPromiseWord, IsSpan}
 use Rattle.memory.specs.declared.alarm.Alarm.{Alarm as AlarmMade}
 use Rattle.memory.specs.declared.item.Item.{Item}

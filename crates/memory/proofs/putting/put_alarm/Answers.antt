@@ -1,7 +1,7 @@
 use Rattle.std.proofs.Common.{refl, rules}
 use Rattle.std.specs.Prelude.{Contains}
 use Rattle.memory.specs.Taking.{later}
-use Rattle.memory.proofs.Joined.{none-contained, push-once, puts-contained, push_differs}
+use Rattle.memory.proofs.Joined.{none-contained, push-once, puts-contained}
 use Rattle.memory.proofs.putting.put_alarm.Goals as goal
 
 pub returns-then-has_alarm-clause-puts : goal.returns-then-has_alarm-clause-puts

@@ -1,7 +1,7 @@
-use Rattle.std.proofs.Common.{◌≡◌, ◌∙◌, ◌<◌, ap, sym, subst, length, rules}
-use Rattle.std.specs.Prelude.{slice_index_or, slice_set, All, List, MatchBool, ◌≢◌}
+use Rattle.std.proofs.Common.{◌≡◌, ◌∙◌, ◌<◌, ap, sym, length, rules}
+use Rattle.std.specs.Prelude.{slice_index_or, All, MatchBool, ◌≢◌}
 use Rattle.memory.specs.Memories.{signed_of}
-use Rattle.memory.specs.Taking.{either, PutsPromised}
+use Rattle.memory.specs.Taking.{either}
 use Rattle.memory.specs.declared.promised.Promised.{Promised}
 use Rattle.memory.proofs.Joined.{push-no_repeat, put_at, set-no_repeat}
 use Rattle.memory.proofs.putting.put_promised.Goals as goal

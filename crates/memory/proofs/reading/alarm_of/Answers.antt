@@ -1,4 +1,4 @@
-use Rattle.std.proofs.Common.{◌≡◌, ℕ, List, Option, rules}
+use Rattle.std.proofs.Common.{ℕ, List, Option, rules}
 use Rattle.memory.specs.Words.{IsFinding, IsNameWord}
 use Rattle.memory.proofs.SaidLines.{alarm_two}
 use Rattle.memory.proofs.reading.alarm_of.Goals as goal

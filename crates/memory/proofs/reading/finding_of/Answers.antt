@@ -1,4 +1,4 @@
-use Rattle.std.proofs.Common.{◌≡◌, ℕ, List, Option, rules}
+use Rattle.std.proofs.Common.{ℕ, List, Option, rules}
 use Rattle.memory.specs.Words.{IsFoundWord}
 use Rattle.memory.proofs.SaidLines.{finding_two}
 use Rattle.memory.proofs.reading.finding_of.Goals as goal

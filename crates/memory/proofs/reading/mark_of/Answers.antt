@@ -1,4 +1,4 @@
-use Rattle.std.proofs.Common.{◌≡◌, ℕ, List, rules}
+use Rattle.std.proofs.Common.{ℕ, List, rules}
 use Rattle.memory.specs.Words.{IsNameWord, IsSpan}
 use Rattle.memory.proofs.SaidLines.{mark_two}
 use Rattle.memory.proofs.reading.mark_of.Goals as goal

@@ -1,4 +1,4 @@
-use Rattle.std.proofs.Common.{◌≡◌, ◌≢◌, codes, rules}
+use Rattle.std.proofs.Common.{◌≢◌, codes, rules}
 use Rattle.memory.proofs.SaidLines.{no_item}
 use Rattle.memory.proofs.reading.read_behind.Goals as goal
 

@@ -1,4 +1,4 @@
-use Rattle.std.proofs.Common.{◌≡◌, ◌≢◌, ℕ, ◌<◌, List, [], ◌∷◌, ap, sym, ◌∙◌, get_or, length, take, drop, rules, take_all, arith}
+use Rattle.std.proofs.Common.{◌≡◌, ◌≢◌, ℕ, ◌<◌, List, [], ◌∷◌, ap, sym, ◌∙◌, get_or, length, drop, rules, take_all, arith}
 use Rattle.std.proofs.lemmas.List.{drop_all}
 use Rattle.textio.specs.Lines.{lines_of}
 use Rattle.memory.proofs.Recalled.{lines-all, lines-at}

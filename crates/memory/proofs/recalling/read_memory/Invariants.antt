@@ -1,4 +1,4 @@
-use Rattle.std.proofs.Common.{◌≡◌, ◌+◌, ◌≤◌, Result, length}
+use Rattle.std.proofs.Common.{◌+◌, ◌≤◌, Result, length}
 use Rattle.textio.specs.Lines.{lines_of}
 use Rattle.memory.specs.Memories.{Memory}
 use Rattle.memory.specs.Texts.{Recalls, Spells}

@@ -1,4 +1,4 @@
-use Rattle.std.proofs.Common.{◌≡◌, [], refl, ap, length, rules, arith}
+use Rattle.std.proofs.Common.{◌≡◌, [], refl, ap, length, rules}
 use Rattle.memory.specs.Lines.{IsLineOf}
 use Rattle.memory.specs.declared.item.Item.{Item}
 use Rattle.memory.proofs.Recalled.{nonempty}

@@ -1,4 +1,4 @@
-use Rattle.std.proofs.Common.{◌≡◌, ◌≢◌, ℕ, List, codes, rules}
+use Rattle.std.proofs.Common.{◌≢◌, ℕ, List, codes, rules}
 use Rattle.memory.specs.Words.{IsHexOf}
 use Rattle.memory.proofs.OneWord.{key_found, no_found}
 use Rattle.memory.proofs.words.read_found.Goals as goal

@@ -1,4 +1,4 @@
-use Rattle.std.proofs.Common.{◌≡◌, ℕ, List, rules}
+use Rattle.std.proofs.Common.{ℕ, List, rules}
 use Rattle.memory.specs.Words.{IsHexOf}
 use Rattle.memory.proofs.OneWord.{no_promise, promise_found}
 use Rattle.memory.proofs.words.read_promise.Goals as goal
