@@ -1,8 +1,9 @@
 -- Lists that take an element.
-use Rattle.std.proofs.Common.{◌≡◌, ◌≢◌, ℕ, suc, ◌<◌, List, [], ◌∷◌, ◌++◌, length, map, get_or, set, take, drop, All, Contains, refl, sym, ap, subst, ◌∙◌, inl, inr, arith, length-append}
+use Rattle.std.proofs.Common.{◌≡◌, ◌≢◌, ℕ, suc, Bool, true, false, ◌<◌, List, [], ◌∷◌, ◌++◌, length, map, get_or, set, take, drop, All, Contains, refl, sym, ap, subst, ◌∙◌, inl, arith, length-append}
+use Rattle.std.specs.Bool.{MatchBool}
 use Rattle.std.specs.List.{AllByRecursion}
-use Rattle.std.proofs.lemmas.List.{drop_more, get_or-map, get_or-set_same, map-id, map-set, set-get_or, set_split, take-append-drop}
-use Rattle.std.proofs.lemmas.List.Elements.{recursion_from_All, All-head, All-tail}
+use Rattle.std.proofs.lemmas.List.{get_or_default, get_or-map, get_or-set_same, map-id, map-set, set-get_or, set_split}
+use Rattle.std.proofs.lemmas.List.Elements.{All-head, All-tail}
 use Rattle.memory.specs.Lists.{HasNoRepeat, Puts}
 
 pub push_differs : {A : Type 0} (xs : List A) (x : A) → xs ++ x ∷ [] ≢ xs
@@ -47,3 +48,18 @@ module _ {A K : Type 0} (key : A → K) where
 pub push-once : {A : Type 0} (xs : List A) (new : A) → All (λ (kept : A). kept ≢ new) xs → HasNoRepeat xs → HasNoRepeat (xs ++ new ∷ [])
 push-once {A} xs new none once =
     subst HasNoRepeat (map-id (xs ++ new ∷ [])) (push-no_repeat (λ (x : A). x) xs new none (subst HasNoRepeat (sym (map-id xs)) once))
+
+-- what is there stays so
+pub puts-contained : {A : Type 0} (joined : A → A → A) (new : A) (xs : List A) → joined new new ≡ new → Contains xs new → Puts (λ (x : A). x) joined new xs xs
+puts-contained {A} joined new xs same (place, within, at) =
+    let puts = puts-at (λ (x : A). x) joined new xs place new within at refl in
+    subst (Puts (λ (x : A). x) joined new xs) (set_same xs place new (joined new new) at same) puts
+
+pub none-contained : {A : Type 0} (xs : List A) (new : A) → ¬ Contains xs new → All (λ (kept : A). kept ≢ new) xs
+none-contained {A} xs new none = λ k d within is. none (k, within, get_or_default xs k new d within ∙ is)
+
+pub put_at : {A K : Type 0} (key : A → K) (joined : A → A → A) (new : A) (xs : List A) (place : ℕ) (kept : A) (is_new : Bool) → place < length xs → get_or xs place kept ≡ kept
+    → key kept ≡ key new → MatchBool is_new (kept ≢ joined kept new) (kept ≡ joined kept new)
+    → Puts key joined new xs (set xs place (joined kept new)) × MatchBool is_new (set xs place (joined kept new) ≢ xs) (set xs place (joined kept new) ≡ xs)
+put_at key joined new xs place kept true within at same tells = (puts-at key joined new xs place kept within at same, set_differs xs place kept (joined kept new) within at tells)
+put_at key joined new xs place kept false within at same tells = (puts-at key joined new xs place kept within at same, set_same xs place kept (joined kept new) at (sym tells))

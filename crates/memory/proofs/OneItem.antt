@@ -1,17 +1,16 @@
 -- A line is of one item.
-use Rattle.std.proofs.Common.{◌≡◌, ◌≢◌, ◌⊎◌, ℕ, ◌^◌, ◌<◌, ◌≤◌, Bool, true, false, List, [], ◌∷◌, ◌++◌, Option, None, Some, IfSome, codes, refl, sym, ap, ap₂, subst, ◌∙◌, inl, inr, arith, length}
+use Rattle.std.proofs.Common.{◌≡◌, ℕ, Bool, true, false, List, [], ◌∷◌, Option, codes, refl, sym, ap, ap₂, subst, ◌∙◌, inl, inr, arith}
 use Rattle.std.specs.Fmt.{decimal}
 use Rattle.std.specs.List.{AllByRecursion}
 use Rattle.auditor.specs.declared.evidence.Evidence.{Evidence as EvidenceMade}
-use Rattle.audits.specs.Files.{evidence_text, parts_text}
-use Rattle.audits.specs.Parts.{evidence_parts, IsFormed}
+use Rattle.audits.specs.Files.{parts_text}
+use Rattle.audits.specs.Parts.{evidence_parts}
 use Rattle.audits.proofs.Parts.{IsBytes-first, IsBytes-second}
 use Rattle.auditor.specs.declared.evidence.Evidence.TheVariants.{Root, Broken}
 use Rattle.rootchain.specs.declared.evidence.RootEvidence.TheVariants.{Fork, Link, Skip}
 use Rattle.hex.specs.Hex.{encode_lower}
 use Rattle.rootchain.specs.Promises.{signed_promise_bytes}
-use Rattle.memory.specs.Lines.{found_word, item_line, item_words, line_of, promise_word, IsAlarm, IsEvidenceLine, IsLineOf, IsMark, IsOlderLine, IsSound}
-use Rattle.memory.specs.Words.{HasNoSpace}
+use Rattle.memory.specs.Lines.{found_word, item_line, line_of, promise_word, IsEvidenceLine, IsLineOf, IsMark, IsOlderLine, IsSound}
 use Rattle.memory.specs.declared.alarm.Alarm.{Alarm as AlarmMade}
 use Rattle.memory.specs.declared.item.Item.{Item}
 use Rattle.memory.specs.declared.item.Item.TheVariants.{Promised, Watched, Alarm, Evidence}
@@ -114,8 +113,8 @@ alarm_same one other name epoch found =
     let R : Option (List ℕ) → AlarmMade = λ x. record { name = other.name; epoch = other.epoch; found = x } in
     ap P name ∙ ap Q epoch ∙ ap R found
 
-heads : (a b : List ℕ) (as bs : List (List ℕ)) → a ∷ as ≡ b ∷ bs → (a ≡ b) × (as ≡ bs)
-heads a b as bs e = (cc, cc)
+heads : (a b : List ℕ) (xs ys : List (List ℕ)) → a ∷ xs ≡ b ∷ ys → (a ≡ b) × (xs ≡ ys)
+heads a b xs ys e = (cc, cc)
 
 few : (w : List ℕ) (ws : List (List ℕ)) → [] ≡ w ∷ ws → ⊥
 few w ws e = cc

@@ -1,5 +1,5 @@
 -- A word says one thing, and has neither spaces nor LFs.
-use Rattle.std.proofs.Common.{◌≡◌, ◌≢◌, ℕ, ◌^◌, ◌<◌, Bool, true, false, List, [], ◌∷◌, ◌++◌, Option, None, Some, Result, Ok, IfSome, codes, nat_lt, ltb-true, true≢false, refl, sym, ap, subst, ◌∙◌}
+use Rattle.std.proofs.Common.{◌≡◌, ◌≢◌, ℕ, ◌^◌, ◌<◌, Bool, true, false, List, [], ◌∷◌, ◌++◌, Option, None, Some, MatchOption, Result, Ok, Err, IfSome, codes, nat_lt, ltb-true, true≢false, refl, sym, ap, subst, ◌∙◌}
 use Rattle.std.specs.Fmt.{decimal}
 use Rattle.std.specs.List.{list_all}
 use Rattle.std.specs.Str.{bytes_eq, IsUtf8}
@@ -10,16 +10,18 @@ use Rattle.std.proofs.lemmas.Slice.Eq.{bytes_eq-Decides}
 use Rattle.std.proofs.lemmas.Str.{IsUtf8-from_ascii}
 use Rattle.encoding.proofs.Fields.{one_spelling}
 use Rattle.encoding.specs.Bytes.{IsBytes}
-use Rattle.encoding.specs.Limits.{IsKeyData}
+use Rattle.encoding.specs.Limits.{IsKeyData, IsName}
 use Rattle.hex.specs.Hex.{decode_of, encode_lower}
 use Rattle.hex.specs.declared.error.FromHexError.{FromHexError}
-use Rattle.hex.proofs.HexLemmas.{decode_of-encode_lower}
+use Rattle.hex.proofs.HexLemmas.{decode_of-encode_lower, decode_of-ok}
 use Rattle.hex.proofs.OnLiterals.{hex_on_literals}
 use Rattle.rootchain.specs.Readable.{signed_promise_field}
-use Rattle.rootchain.specs.Promises.{read_signed_promise, signed_promise_bytes, IsSignedPromise}
+use Rattle.rootchain.specs.Promises.{read_signed_promise, signed_promise_bytes, IsSignedPromise, SpellsPromise}
 use Rattle.rootchain.specs.declared.signed_promise.SignedPromise.{SignedPromise}
 use Rattle.rootchain.proofs.Sizes.{signed_promise_few}
+use Rattle.memory.specs.Finding.{Finds}
 use Rattle.memory.specs.Lines.{found_word, promise_word}
+use Rattle.memory.specs.Words.{IsFoundWord, IsHexOf, IsNameWord, IsPromiseWord}
 use Rattle.memory.proofs.Plain.{plain-hex, IsPlain}
 
 pub other_words : (one other : List ℕ) → bytes_eq one other ≡ false → one ≡ other → ⊥
@@ -82,3 +84,43 @@ is_parsed number word result small is parsed = parse-decimal 64 number word resu
 
 pub the_number : {E : Type 0} {a b : ℕ} → ◌≡◌ {A = Result ℕ E} (Ok a) (Ok b) → a ≡ b
 the_number same = cc
+
+-- ---- words as they are read
+
+pub no_hex : (word : List ℕ) (e : FromHexError) → decode_of word ≡ Err e → (bytes : List ℕ) → ¬ IsHexOf word bytes
+no_hex word e err bytes (small, is) = let read = sym err ∙ ap decode_of is ∙ decode_of-encode_lower bytes small in cc
+
+pub same_hex : (word bytes other : List ℕ) → decode_of word ≡ Ok bytes → IsHexOf word other → bytes ≡ other
+same_hex word bytes other read (small, is) = same_ok bytes other (sym read ∙ ap decode_of is ∙ decode_of-encode_lower other small)
+
+pub lower_hex : (word bytes : List ℕ) → decode_of word ≡ Ok bytes → word ≡ encode_lower bytes → IsHexOf word bytes
+lower_hex word bytes read is = ((decode_of-ok word bytes read).3, is)
+
+pub not_lower : (word bytes : List ℕ) → decode_of word ≡ Ok bytes → word ≢ encode_lower bytes → (other : List ℕ) → ¬ IsHexOf word other
+not_lower word bytes read other_case other hex = other_case (hex.1 ∙ ap encode_lower (sym (same_hex word bytes other read hex)))
+
+module _ (word bytes : List ℕ) (hex : IsHexOf word bytes) where
+  pub name_found : (r : Option (List ℕ)) → MatchOption r (¬ IsName bytes) (λ name. IsName bytes × (name ≡ bytes)) → Finds (IsNameWord word) r
+  name_found None none = λ name is. none (subst IsName (sym (hex_same bytes name hex.0 is.0.2 (sym hex.1 ∙ is.1))) is.0)
+  name_found (Some name) (sound, same) = (subst IsName (sym same) sound, hex.1 ∙ ap encode_lower (sym same))
+
+  pub key_found : (r : Option (Option (List ℕ))) → MatchOption r (¬ IsKeyData bytes) (λ found. IsKeyData bytes × (found ≡ Some bytes)) → Finds (IsFoundWord word) r
+  key_found None none = by
+    where
+      by : (found : Option (List ℕ)) → IsFoundWord word found → ⊥
+      by None is = absent_is_no_hex bytes hex.0 (sym is.1 ∙ hex.1)
+      by (Some key) is = none (subst IsKeyData (sym (hex_same bytes key hex.0 is.0.2 (sym hex.1 ∙ is.1))) is.0)
+  key_found (Some found) (sound, same) = subst (λ (f : Option (List ℕ)). IsFoundWord word f) (sym same) (sound, hex.1)
+
+  pub promise_found : (r : Option SignedPromise) → Finds (SpellsPromise bytes) r → Finds (IsPromiseWord word) r
+  promise_found None none = λ signed is.
+      let same = hex_same bytes (signed_promise_bytes signed) hex.0 (IsBytes-promise signed is.0) (sym hex.1 ∙ is.1) in
+      none signed (same, is.0)
+  promise_found (Some signed) (is, sound) = (sound, hex.1 ∙ ap encode_lower is)
+
+pub no_found : (word : List ℕ) → word ≢ codes "absent" → ((bytes : List ℕ) → ¬ IsHexOf word bytes) → (found : Option (List ℕ)) → ¬ IsFoundWord word found
+no_found word other none None is = other is.1
+no_found word other none (Some key) is = none key (is.0.2, is.1)
+
+pub no_promise : (word : List ℕ) → ((bytes : List ℕ) → ¬ IsHexOf word bytes) → (signed : SignedPromise) → ¬ IsPromiseWord word signed
+no_promise word none signed is = none (signed_promise_bytes signed) (IsBytes-promise signed is.0, is.1)

@@ -1,10 +1,10 @@
 -- What the words of a line say, and that nothing else says it.
-use Rattle.std.proofs.Common.{◌≡◌, ◌≢◌, ◌⊎◌, ℕ, ◌^◌, ◌<◌, ◌≤◌, Bool, true, false, List, [], ◌∷◌, ◌++◌, Option, codes, refl, sym, ap, subst, ◌∙◌, inl, inr, arith}
+use Rattle.std.proofs.Common.{◌≡◌, ◌≢◌, ℕ, ◌^◌, ◌<◌, ◌≤◌, Bool, true, false, List, [], ◌∷◌, ◌++◌, Option, codes, refl, sym, ap, subst, ◌∙◌, inl, inr, arith}
 use Rattle.std.specs.Fmt.{decimal}
 use Rattle.hex.specs.Hex.{encode_lower}
 use Rattle.rootchain.specs.declared.signed_promise.SignedPromise.{SignedPromise}
 use Rattle.rootchain.specs.Promises.{signed_promise_bytes}
-use Rattle.memory.specs.Lines.{found_word, item_line, line_of, promise_word, IsEvidenceLine, IsLineOf}
+use Rattle.memory.specs.Lines.{found_word, line_of, promise_word, IsEvidenceLine, IsLineOf}
 use Rattle.memory.specs.Words.{HasNoSpace, IsAlarmText, IsFinding, IsFoundWord, IsMarkText, IsNameWord, IsNumberWord, IsPromiseWord, IsSpan}
 use Rattle.memory.specs.declared.alarm.Alarm.{Alarm as AlarmMade}
 use Rattle.memory.specs.declared.item.Item.{Item}
@@ -30,10 +30,10 @@ module _ (first second : List ℕ) (none : HasNoSpace first) where
   span_two span (rising, fits, inr one) = absurd (never_alone first second (decimal span.1) (no_space _ (plain-decimal span.1 fits)) one.1)
 
   pub no_first : ((n : ℕ) → ¬ IsNumberWord first n) → (span : ℕ × ℕ) → ¬ IsSpan (first ++ 32 ∷ second) span
-  no_first no span is = no span.0 (span_two span is).0
+  no_first refuses span is = refuses span.0 (span_two span is).0
 
   pub no_second : ((n : ℕ) → ¬ IsNumberWord second n) → (span : ℕ × ℕ) → ¬ IsSpan (first ++ 32 ∷ second) span
-  no_second no span is = no span.1 (span_two span is).1
+  no_second refuses span is = refuses span.1 (span_two span is).1
 
   pub falling : (since epoch : ℕ) → IsNumberWord first since → IsNumberWord second epoch → epoch < since → (span : ℕ × ℕ) → ¬ IsSpan (first ++ 32 ∷ second) span
   falling since epoch p q above span is =
@@ -51,7 +51,7 @@ pub one_epoch : (text : List ℕ) (epoch : ℕ) → IsNumberWord text epoch → 
 one_epoch text epoch p = (omega arith, p.0, inr (refl, p.1))
 
 pub no_epoch : (text : List ℕ) → HasNoSpace text → ((n : ℕ) → ¬ IsNumberWord text n) → (span : ℕ × ℕ) → ¬ IsSpan text span
-no_epoch text none no span is = no span.1 (span_alone text none span is)
+no_epoch text none refuses span is = refuses span.1 (span_alone text none span is)
 
 -- ---- an epoch, and what was found
 
@@ -107,18 +107,18 @@ never_evidence word behind line sound is = never_alone word behind line (no_spac
 
 pub says : (word behind : List ℕ) → HasNoSpace word → (item : Item) → IsLineOf (word ++ 32 ∷ behind) item → Says word behind item
 says word behind none (Promised promised) (sound, inl is) =
-    let same = first_same word (promise_word promised.is_own) behind (encode_lower (signed_promise_bytes promised.signed)) none (no_space _ (plain-promise_word promised.is_own)) is in
+    let same = first_same word (promise_word promised.is_own) behind (encode_lower (signed_promise_bytes promised.signed)) none (no_space (promise_word promised.is_own) (plain-promise_word promised.is_own)) is in
     (same.0, (sound, same.1))
 says word behind none (Watched mark) (sound, inl is) =
     let rest = line_of (decimal mark.since ∷ decimal mark.epoch ∷ []) in
-    let same = first_same word (codes "watched") behind (encode_lower mark.name ++ 32 ∷ rest) none (no_space _ plain-watched) is in
+    let same = first_same word (codes "watched") behind (encode_lower mark.name ++ 32 ∷ rest) none (no_space (codes "watched") plain-watched) is in
     (same.0, (sound.0, (rest, same.1, (sound.1, sound.2, inl refl))))
 says word behind none (Watched mark) (sound, inr (at, is)) =
-    let same = first_same word (codes "watched") behind (encode_lower mark.name ++ 32 ∷ decimal mark.epoch) none (no_space _ plain-watched) is in
+    let same = first_same word (codes "watched") behind (encode_lower mark.name ++ 32 ∷ decimal mark.epoch) none (no_space (codes "watched") plain-watched) is in
     (same.0, (sound.0, (decimal mark.epoch, same.1, (sound.1, sound.2, inr (at, refl)))))
 says word behind none (Alarm alarm) (sound, inl is) =
     let rest = line_of (decimal alarm.epoch ∷ found_word alarm.found ∷ []) in
-    let same = first_same word (codes "alarm") behind (encode_lower alarm.name ++ 32 ∷ rest) none (no_space _ plain-alarm) is in
+    let same = first_same word (codes "alarm") behind (encode_lower alarm.name ++ 32 ∷ rest) none (no_space (codes "alarm") plain-alarm) is in
     (same.0, (sound.0, (rest, same.1, (sound.1, sound.2, refl))))
 says word behind none (Evidence line) (sound, inl is) = never_evidence word behind line sound is
 says word behind none (Evidence line) (sound, inr never) = never
@@ -146,30 +146,30 @@ says_alarm behind alarm (named, (rest, is, (fits, found, two))) =
     ((named, fits, found), inl (ap P is ∙ ap Q two))
 
 pub no_promised : (is_own : Bool) (behind : List ℕ) → ((signed : SignedPromise) → ¬ IsPromiseWord behind signed) → (item : Item) → ¬ IsLineOf (promise_word is_own ++ 32 ∷ behind) item
-no_promised is_own behind no item is = by item (says (promise_word is_own) behind (no_space _ (plain-promise_word is_own)) item is)
+no_promised is_own behind refuses item is = by item (says (promise_word is_own) behind (no_space (promise_word is_own) (plain-promise_word is_own)) item is)
   where
     by : (item : Item) → Says (promise_word is_own) behind item → ⊥
-    by (Promised promised) said = no promised.signed said.1
+    by (Promised promised) said = refuses promised.signed said.1
     by (Watched mark) said = promise_watched is_own said.0
     by (Alarm alarm) said = promise_alarm is_own said.0
     by (Evidence line) said = said
 
 pub no_mark : (behind : List ℕ) → ((mark : Mark) → ¬ IsMarkText behind mark) → (item : Item) → ¬ IsLineOf (codes "watched" ++ 32 ∷ behind) item
-no_mark behind no item is = by item (says (codes "watched") behind (no_space _ plain-watched) item is)
+no_mark behind refuses item is = by item (says (codes "watched") behind (no_space (codes "watched") plain-watched) item is)
   where
     by : (item : Item) → Says (codes "watched") behind item → ⊥
     by (Promised promised) said = promise_watched promised.is_own (sym said.0)
-    by (Watched mark) said = no mark said.1
+    by (Watched mark) said = refuses mark said.1
     by (Alarm alarm) said = watched_alarm said.0
     by (Evidence line) said = said
 
 pub no_alarm : (behind : List ℕ) → ((alarm : AlarmMade) → ¬ IsAlarmText behind alarm) → (item : Item) → ¬ IsLineOf (codes "alarm" ++ 32 ∷ behind) item
-no_alarm behind no item is = by item (says (codes "alarm") behind (no_space _ plain-alarm) item is)
+no_alarm behind refuses item is = by item (says (codes "alarm") behind (no_space (codes "alarm") plain-alarm) item is)
   where
     by : (item : Item) → Says (codes "alarm") behind item → ⊥
     by (Promised promised) said = promise_alarm promised.is_own (sym said.0)
     by (Watched mark) said = watched_alarm (sym said.0)
-    by (Alarm alarm) said = no alarm said.1
+    by (Alarm alarm) said = refuses alarm said.1
     by (Evidence line) said = said
 
 pub no_item : (word behind : List ℕ) → HasNoSpace word → word ≢ codes "promise" → word ≢ codes "change" → word ≢ codes "watched" → word ≢ codes "alarm"

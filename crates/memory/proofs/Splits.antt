@@ -1,5 +1,5 @@
 -- A text is split at its first space in one way.
-use Rattle.std.proofs.Common.{◌≡◌, ◌≢◌, ℕ, zero, suc, ◌<◌, List, [], ◌∷◌, ◌++◌, ap, sym, ◌∙◌, refl, get_or, length, take, drop, arith}
+use Rattle.std.proofs.Common.{◌≡◌, ◌≢◌, ℕ, zero, suc, ◌<◌, List, [], ◌∷◌, ◌++◌, ap, sym, refl, get_or, length, take, drop, arith}
 use Rattle.memory.specs.Words.{HasNoSpace}
 
 pub first_same : (w v a b : List ℕ) → HasNoSpace w → HasNoSpace v → w ++ 32 ∷ a ≡ v ++ 32 ∷ b → (w ≡ v) × (a ≡ b)

@@ -6,7 +6,7 @@ ghost use Rattle.memory.specs.Taking.{Takes};
 ghost use Rattle.memory.specs.Texts.{memory_text, TellsAgain};
 
 use crate::leaving::{drop_alarms, leave_promises};
-use crate::putting::{put_alarm, put_evidence, put_mark, put_promised};
+use crate::putting::{place_of_mark, put_alarm, put_evidence, put_mark, put_promised};
 use crate::telling::{push_alarms, push_alarms_of, push_lines, push_marks, push_promises};
 use crate::{Alarm, EvidenceLine, Item, Mark, Promised};
 use encoding::Name;
@@ -81,7 +81,10 @@ impl Memory {
     pub fn mark_of(&self, name: &Name) -> Option<&Mark>
         ensures { MatchOption result (All (λ mark. mark.name ≢ name.now) self.now.marks) (λ mark. Contains self.now.marks mark.now × (mark.now.name ≡ name.now)) }
     {
-        self.marks.iter().find(|mark| mark.name == *name)
+        match place_of_mark(&self.marks, name) {
+            Some(place) => Some(&self.marks[place]),
+            None => None,
+        }
     }
 
     /// Takes the item. Returns whether anything is new: a promise that is there becomes the owner's own if the item

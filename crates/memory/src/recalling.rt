@@ -43,12 +43,7 @@ fn first_line(text: &[u8]) -> (&[u8], &[u8])
 }
 
 /// Takes what a line says.
-fn take_line(
-    alloc: Global,
-    memory: &mut Memory,
-    line: &[u8],
-    number: u64,
-) -> Result<(), ReadFault>
+fn take_line(alloc: Global, memory: &mut Memory, line: &[u8], number: u64) -> Result<(), ReadFault>
     ensures { TakesLine line.now number memory.old memory.new result }
 {
     if line.is_empty() {

@@ -1,6 +1,6 @@
 // The lines of a memory's lists. Each function appends to the text.
 
-ghost use Rattle.std.specs.Prelude.{◌≡◌, ◌++◌, ℕ, List, map, IfOk, OnOk};
+ghost use Rattle.std.specs.Prelude.{◌≡◌, ◌≤◌, ◌∷◌, ◌++◌, ℕ, List, [], map, IfOk, OnOk};
 ghost use Rattle.std.specs.Io.{StartsWith};
 ghost use Rattle.memory.specs.Texts.{items_text, TellsAgain};
 ghost use Rattle.memory.specs.declared.item.Item.TheVariants as items;
@@ -61,10 +61,20 @@ pub(crate) fn push_alarms_of(
 {
     let mut count = 0usize;
     for alarm in alarms {
-        if alarm.name == *name {
-            push_alarm(text, alarm)?;
-            count += 1;
-        }
+        count += push_alarm_of(text, alarm, name)?;
     }
     Ok(count)
+}
+
+/// Appends the line of an alarm if it is of this name, and returns whether it is, as 1 or 0.
+fn push_alarm_of(text: &mut Vec<u8>, alarm: &Alarm, name: &Name) -> Result<usize, AllocError>
+    ensures ok { IfOk result (λ one. (added : List ℕ) × (text.new.items ≡ text.old.items ++ added) × TellsAgain name.now (alarm.now ∷ []) added one) }
+    ensures few { IfOk result (λ one. one ≤ 1) }
+    ensures grows { StartsWith text.new.items text.old.items }
+{
+    if alarm.name == *name {
+        push_alarm(text, alarm)?;
+        return Ok(1);
+    }
+    Ok(0)
 }

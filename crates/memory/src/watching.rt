@@ -29,11 +29,7 @@ where
 }
 
 /// The least with one monitor more.
-fn with_monitor<H, V, S>(
-    least: Option<u64>,
-    monitor: &Monitor<H, V, S>,
-    name: &Name,
-) -> Option<u64>
+fn with_monitor<H, V, S>(least: Option<u64>, monitor: &Monitor<H, V, S>, name: &Name) -> Option<u64>
 where
     H: NodeHash,
     V: VufCheck,

@@ -1,7 +1,9 @@
 // A line is split at its spaces into words. Each says bytes or a number, in the one way in which it is written.
 
-ghost use Rattle.std.specs.Prelude.{◌≡◌, ◌∷◌, ◌++◌, IfOk, MatchOption, Some, option_map};
-ghost use Rattle.encoding.specs.Limits.{IsKeyData};
+ghost use Rattle.std.specs.Prelude.{◌≡◌, ◌↔◌, ◌∷◌, ◌++◌, Ok, Some, option_map, IfOk, IsTrue, MatchOption};
+ghost use Rattle.encoding.specs.Limits.{IsKeyData, IsName};
+ghost use Rattle.hex.specs.Hex.{decode_of, encode_lower};
+ghost use Rattle.rootchain.specs.Promises.{SpellsPromise};
 ghost use Rattle.memory.specs.Finding.{Finds};
 ghost use Rattle.memory.specs.Words.{HasNoSpace, IsFoundWord, IsHexOf, IsNameWord, IsNumberWord, IsPromiseWord};
 
@@ -47,17 +49,30 @@ pub(crate) fn read_number(word: &[u8]) -> Option<u64>
 fn read_hex(alloc: Global, word: &[u8]) -> Result<Option<Vec<u8>>, AllocError>
     ensures { IfOk result (λ read. Finds (IsHexOf word.now) (option_map (λ bytes. bytes.items) read)) }
 {
-    let bytes = match hex::decode(alloc, word) {
-        Ok(bytes) => bytes,
-        Err(FromHexError::OutOfMemory) => return Err(AllocError),
-        Err(_) => return Ok(None),
-    };
-    // So no digit is in upper case.
-    if hex::encode(alloc, bytes.as_slice())?.as_bytes() == word {
+    match hex::decode(alloc, word) {
+        Ok(bytes) => only_lower(alloc, bytes, word),
+        Err(FromHexError::OutOfMemory) => Err(AllocError),
+        Err(_) => Ok(None),
+    }
+}
+
+/// The bytes of a word, if no digit is in upper case.
+fn only_lower(alloc: Global, bytes: Vec<u8>, word: &[u8]) -> Result<Option<Vec<u8>>, AllocError>
+    requires { decode_of word.now ≡ Ok bytes.items }
+    ensures { IfOk result (λ read. Finds (IsHexOf word.now) (option_map (λ bytes. bytes.items) read)) }
+{
+    if is_lower(alloc, &bytes, word)? {
         Ok(Some(bytes))
     } else {
         Ok(None)
     }
+}
+
+/// Whether a word is the digits of these bytes in lower case.
+fn is_lower(alloc: Global, bytes: &[u8], word: &[u8]) -> Result<bool, AllocError>
+    ensures { IfOk result (λ is. IsTrue is ↔ (word.now ≡ encode_lower bytes.now)) }
+{
+    Ok(hex::encode(alloc, bytes)?.as_bytes() == word)
 }
 
 /// The name that a word writes.
@@ -65,8 +80,17 @@ pub(crate) fn read_name(alloc: Global, word: &[u8]) -> Result<Option<Name>, Allo
     ensures { IfOk result (Finds (IsNameWord word.now)) }
 {
     match read_hex(alloc, word)? {
-        Some(bytes) => Ok(Name::new(&bytes).ok()),
+        Some(bytes) => Ok(name_of(&bytes)),
         None => Ok(None),
+    }
+}
+
+fn name_of(bytes: &[u8]) -> Option<Name>
+    ensures { MatchOption result (¬ IsName bytes.now) (λ name. IsName bytes.now × (name ≡ bytes.now)) }
+{
+    match Name::new(bytes) {
+        Ok(name) => Some(name),
+        Err(_) => None,
     }
 }
 
@@ -78,13 +102,13 @@ pub(crate) fn read_found(alloc: Global, word: &[u8]) -> Result<Option<Option<Key
         return Ok(Some(None));
     }
     match read_hex(alloc, word)? {
-        Some(bytes) => Ok(found_key(&bytes)),
+        Some(bytes) => Ok(key_of(&bytes)),
         None => Ok(None),
     }
 }
 
 /// The key of these bytes, as what was found.
-fn found_key(bytes: &[u8]) -> Option<Option<KeyData>>
+fn key_of(bytes: &[u8]) -> Option<Option<KeyData>>
     ensures { MatchOption result (¬ IsKeyData bytes.now) (λ found. IsKeyData bytes.now × (found ≡ Some bytes.now)) }
 {
     match KeyData::new(bytes) {
@@ -98,7 +122,16 @@ pub(crate) fn read_promise(alloc: Global, word: &[u8]) -> Result<Option<SignedPr
     ensures { IfOk result (Finds (IsPromiseWord word.now)) }
 {
     match read_hex(alloc, word)? {
-        Some(bytes) => Ok(SignedPromise::read(&bytes).ok()),
+        Some(bytes) => Ok(promise_of(&bytes)),
         None => Ok(None),
+    }
+}
+
+fn promise_of(bytes: &[u8]) -> Option<SignedPromise>
+    ensures { Finds (SpellsPromise bytes.now) result }
+{
+    match SignedPromise::read(bytes) {
+        Ok(signed) => Some(signed),
+        Err(_) => None,
     }
 }

@@ -91,12 +91,7 @@ fn push_word(text: &mut Vec<u8>, word: &[u8]) -> Result<(), AllocError>
 }
 
 /// Appends a word, a name in digits and an epoch.
-fn push_named(
-    text: &mut Vec<u8>,
-    word: &[u8],
-    name: &[u8],
-    epoch: u64,
-) -> Result<(), AllocError>
+fn push_named(text: &mut Vec<u8>, word: &[u8], name: &[u8], epoch: u64) -> Result<(), AllocError>
     ensures ok { OnOk result (text.new.items ≡ text.old.items ++ (word.now ++ 32 ∷ (encode_lower name.now ++ 32 ∷ decimal epoch))) }
     ensures grows { StartsWith text.new.items text.old.items }
 {
