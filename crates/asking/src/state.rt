@@ -48,8 +48,9 @@ pub(crate) struct State<'a> {
     size: Option<usize>,
     /// How many changes of this run were looked at.
     changes: usize,
-    /// How many promises the client kept, the head, and how many monitors there were, when it was last looked what is
-    /// left.
+    /// The promises that were tested in this run.
+    tested: Vec<SignedPromise>,
+    /// How many promises the client kept, the head, and how many monitors there were, when it was last looked.
     count: usize,
     head: u64,
     monitors: usize,
@@ -231,6 +232,7 @@ impl<'a> State<'a> {
             memory: Memory::new(alloc),
             size: Some(0),
             changes: 0,
+            tested: Vec::new(alloc),
             count: 0,
             head: 0,
             monitors: 0,
@@ -360,7 +362,7 @@ impl<'a> State<'a> {
         self.append_second(files, &lines)
     }
 
-    /// Adds the alarms that were told, and how far names were watched, and drops the promises that nobody needs.
+    /// Adds the alarms that were told, and how far names were watched, and notes the promises that were tested.
     ///
     /// # Errors
     ///
@@ -380,15 +382,25 @@ impl<'a> State<'a> {
     {
         let mut lines = Vec::new(self.alloc);
         self.take_told(told, b"alarm ", &mut lines)?;
-        let alarms = lines.len();
         self.add_marks(asker, &mut lines)?;
-        let is_marked = alarms < lines.len();
         self.append_second(files, &lines)?;
-        let promises = asker.client.promises();
-        if is_marked || promises.len() < self.count {
-            self.memory.leave(promises);
-        }
+        self.note_tested(asker.client.promises())?;
+        Ok(())
+    }
+
+    /// Notes the promises that the client no longer keeps: they were tested.
+    fn note_tested(&mut self, promises: &[SignedPromise]) -> Result<(), AllocError> {
+        let expected = self.count;
         self.count = promises.len();
+        if promises.len() == expected {
+            return Ok(());
+        }
+        for promised in self.memory.promises() {
+            let signed = &promised.signed;
+            if !promises.contains(signed) && !self.tested.contains(signed) {
+                self.tested.push(signed.copied())?;
+            }
+        }
         Ok(())
     }
 
@@ -421,26 +433,33 @@ impl<'a> State<'a> {
         V: VufCheck + Drop,
         S: Verifier + Drop,
     {
+        let promises = asker.client.promises();
+        let known = self.known_of(promises);
         let mut lines = Vec::new(self.alloc);
         for signed in asker.changes.iter().skip(self.changes) {
             let (signed, is_own) = (signed.copied(), true);
             self.take(Item::Promised(Promised { signed, is_own }), &mut lines)?;
         }
         self.changes = asker.changes.len();
-        // New promises stand at the end of the list.
-        let promises = asker.client.promises();
-        let mut known = promises.len();
-        for signed in promises.iter().rev() {
-            if self.knows(signed) {
-                break;
-            }
-            known = known.saturating_sub(1);
-        }
         for signed in promises.iter().skip(known) {
             let (signed, is_own) = (signed.copied(), false);
             self.take(Item::Promised(Promised { signed, is_own }), &mut lines)?;
         }
+        let added = promises.len().saturating_sub(known);
+        self.count = self.count.saturating_add(added);
         Ok(lines)
+    }
+
+    /// How many of these promises are remembered. New ones stand at the end.
+    fn known_of(&self, promises: &[SignedPromise]) -> usize {
+        let mut known = promises.len();
+        for signed in promises.iter().rev() {
+            if self.knows(signed) {
+                return known;
+            }
+            known = known.saturating_sub(1);
+        }
+        known
     }
 
     /// Takes the told lines that begin with a word, and appends those that are new.
@@ -510,13 +529,13 @@ impl<'a> State<'a> {
         self.take(Item::Watched(Mark { name, since, epoch }), lines)
     }
 
-    /// Writes the second file anew, if it has lines that no longer hold.
+    /// Drops the promises that nobody needs, and writes the second file anew if it has lines that no longer hold.
     ///
     /// # Errors
     ///
     /// `CannotWrite`: it has at least what it is to have; `OutOfMemory`.
     pub(crate) fn finish<F: Files<File = File>>(
-        &self,
+        &mut self,
         alloc: Global,
         files: &F,
     ) -> Result<(), ProgramFault>
@@ -526,6 +545,7 @@ impl<'a> State<'a> {
         if self.roots.is_none() {
             return Ok(());
         }
+        self.memory.leave(&self.tested);
         let mut text = Vec::new(alloc);
         self.memory.write(&mut text)?;
         // The file has at least these lines, so that it has no other ones where it is as long.

@@ -8,13 +8,13 @@ use Rattle.memory.specs.declared.alarm.Alarm.{Alarm}
 use Rattle.memory.specs.declared.mark.Mark.{Mark}
 use Rattle.memory.specs.declared.promised.Promised.{Promised}
 
--- the client still keeps the promise to test it, or it is the owner's own and a mark's monitors await it
+-- the promise is still to be tested, or it is the owner's own and awaited by a mark of its name
 abbrev pub IsNeeded : List SignedPromise → List Mark → Promised → Type 0
-IsNeeded kept marks promised = Contains kept promised.signed ⊎ (IsTrue promised.is_own × Any (IsAwaited promised.signed) marks)
+IsNeeded tested marks promised = (¬ Contains tested promised.signed) ⊎ (IsTrue promised.is_own × Any (IsAwaited promised.signed) marks)
 
--- the promises that are needed are left
+-- the promises that are needed are left, where these were tested
 abbrev pub Leaves : List SignedPromise → Memory → Memory → Type 0
-Leaves kept before after = IsLeft (IsNeeded kept before.marks) before.promises after.promises × (after ≡ record before { promises = after.promises })
+Leaves tested before after = IsLeft (IsNeeded tested before.marks) before.promises after.promises × (after ≡ record before { promises = after.promises })
 
 -- the alarms of other names are left
 abbrev pub Settles : List ℕ → Memory → Memory → Type 0

@@ -20,25 +20,25 @@ pub(crate) fn drop_alarms(alarms: &mut Vec<Alarm>, name: &Name) -> usize
     before - alarms.len()
 }
 
-pub(crate) fn leave_promises(promises: &mut Vec<Promised>, marks: &[Mark], kept: &[SignedPromise])
-    ensures left { IsLeft (IsNeeded kept.now marks.now) promises.old.items promises.new.items }
+pub(crate) fn leave_promises(promises: &mut Vec<Promised>, marks: &[Mark], tested: &[SignedPromise])
+    ensures left { IsLeft (IsNeeded tested.now marks.now) promises.old.items promises.new.items }
     ensures once { HasNoRepeat (map signed_of promises.old.items) → HasNoRepeat (map signed_of promises.new.items) }
 {
-    promises.retain(|promised| is_needed(promised, marks, kept));
+    promises.retain(|promised| is_needed(promised, marks, tested));
 }
 
-/// Whether a promise is among these, or is the owner's own and awaited by a mark.
-fn is_needed(promised: &Promised, marks: &[Mark], kept: &[SignedPromise]) -> bool
-    ensures { IsTrue result ↔ IsNeeded kept.now marks.now promised.now }
+/// Whether a promise is not among these, or is the owner's own and awaited by a mark.
+fn is_needed(promised: &Promised, marks: &[Mark], tested: &[SignedPromise]) -> bool
+    ensures { IsTrue result ↔ IsNeeded tested.now marks.now promised.now }
 {
-    is_kept(&promised.signed, kept) || promised.is_own && has_awaiting(&promised.signed, marks)
+    !is_among(&promised.signed, tested) || promised.is_own && has_awaiting(&promised.signed, marks)
 }
 
 /// Whether a promise is among these.
-fn is_kept(signed: &SignedPromise, kept: &[SignedPromise]) -> bool
-    ensures { IsTrue result ↔ Contains kept.now signed.now }
+fn is_among(signed: &SignedPromise, promises: &[SignedPromise]) -> bool
+    ensures { IsTrue result ↔ Contains promises.now signed.now }
 {
-    kept.iter().any(|other| other == signed)
+    promises.iter().any(|other| other == signed)
 }
 
 /// Whether a mark awaits the promise.

@@ -113,12 +113,11 @@ impl Memory {
         drop_alarms(&mut self.alarms, name)
     }
 
-    /// Drops each promise that is not needed: it is not among those that the client still keeps to test, and is not
-    /// one of the owner's own that a mark awaits.
-    pub fn leave(&mut self, kept: &[SignedPromise])
-        ensures { Leaves kept.now self.old self.new }
+    /// Drops each of these promises, which were tested, but for the owner's own that a mark awaits.
+    pub fn leave(&mut self, tested: &[SignedPromise])
+        ensures { Leaves tested.now self.old self.new }
     {
-        leave_promises(&mut self.promises, &self.marks, kept);
+        leave_promises(&mut self.promises, &self.marks, tested);
     }
     /// Appends the lines: promises, marks, alarms and evidence, each in order.
     ///
