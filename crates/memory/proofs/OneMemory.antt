@@ -1,10 +1,9 @@
 -- A text spells one memory.
-use Rattle.std.proofs.Common.{◌≡◌, ◌≢◌, ◌⊎◌, ℕ, ◌+◌, List, [], ◌∷◌, ◌++◌, map, All, Contains, Result, Ok, Err, refl, sym, ap, ap₂, subst, ◌∙◌, inl, inr, arith}
+use Rattle.std.proofs.Common.{◌≡◌, ◌≢◌, ℕ, ◌+◌, List, [], ◌∷◌, ◌++◌, map, All, Result, refl, sym, ap, ap₂, subst, ◌∙◌, inl, inr}
 use Rattle.std.specs.List.{AllByRecursion}
 use Rattle.std.proofs.lemmas.List.{map-append, map-id}
 use Rattle.std.proofs.lemmas.List.Elements.{recursion_from_All}
 use Rattle.textio.specs.Lines.{lines_of}
-use Rattle.memory.specs.Lines.{IsLineOf}
 use Rattle.memory.specs.Lists.{HasNoRepeat, Puts}
 use Rattle.memory.specs.Memories.{Memory, name_of, nothing, signed_of, HoldsEachOnce}
 use Rattle.memory.specs.Taking.{either, later, Takes}
@@ -15,7 +14,6 @@ use Rattle.memory.specs.declared.item.Item.TheVariants.{Promised, Watched, Alarm
 use Rattle.memory.specs.declared.mark.Mark.{Mark}
 use Rattle.memory.specs.declared.promised.Promised.{Promised as PromisedMade}
 use Rattle.memory.specs.declared.read_fault.ReadFault.{ReadFault}
-use Rattle.memory.specs.declared.read_fault.ReadFault.TheVariants.{BadItem}
 use Rattle.memory.proofs.Joined.{push-no_repeat}
 use Rattle.memory.proofs.OneItem.{one_item}
 
