@@ -7,3 +7,4 @@ pub mod OneItem
 pub mod SaidLines
 pub mod Least
 pub mod Recalled
+pub mod OneMemory

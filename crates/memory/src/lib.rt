@@ -26,7 +26,7 @@ mod writing;
 pub use alarm::Alarm;
 pub use evidence_line::EvidenceLine;
 pub use item::Item;
-pub use laws::{line_is_one_item, text_spells_memory};
+pub use laws::{line_is_one_item, text_is_one_memory, text_spells_memory};
 pub use mark::Mark;
 pub use memory::Memory;
 pub use promised::Promised;

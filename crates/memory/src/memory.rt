@@ -77,6 +77,7 @@ impl Memory {
     {
         &self.evidence
     }
+
     /// The mark of a name, if there is one.
     pub fn mark_of(&self, name: &Name) -> Option<&Mark>
         ensures { MatchOption result (All (λ mark. mark.name ≢ name.now) self.now.marks) (λ mark. Contains self.now.marks mark.now × (mark.now.name ≡ name.now)) }
@@ -119,6 +120,7 @@ impl Memory {
     {
         leave_promises(&mut self.promises, &self.marks, tested);
     }
+
     /// Appends the lines: promises, marks, alarms and evidence, each in order.
     ///
     /// # Errors
