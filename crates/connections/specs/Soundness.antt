@@ -63,8 +63,8 @@ IsReason idle before Unsynced course = IsFaultless course × (stage before ≡ T
 IsReason idle before Memory course = course.is_wanting ≡ true
 IsReason idle before Refused course = course.is_refused ≡ true
 
--- the connection at a place had its turn in this round: all were heard, and all that was answered is taken, or some of
--- it was offered
+-- the connection at a place had its turn in this round: no more is heard in it, and all that was answered is taken, or
+-- some of it was offered
 abbrev pub HadTurn : History → ℕ → Course → Type 0
 HadTurn before place course = (stage before ≢ Hearing) × (IsTaken course ⊎ InRound offers before place)
 
