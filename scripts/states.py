@@ -637,19 +637,17 @@ def logged(program, provider, library, folder, script):
             found.append("print")
         elif call.path in things:
             found.append(f"{what} {things[call.path]}")
-    # A folder is also synced where a file is made.
-    found = [call for place, call in enumerate(found) if call != "sync FOLDER" or found[place - 1 : place] == ["rename KEPT"]]
     return found, status
 
 
 def ordered(program, library):
-    """A line is printed once its roots and promises are on the disk."""
+    """A line is printed once its roots and promises are on the disk, and so are the entries of files that are new."""
     adds, keeps, marks = ["write FILE", "sync FILE"], ["write KEPT", "sync KEPT"], ["print", "write KEPT", "sync KEPT"]
     anew = ["write NEW", "sync NEW", "rename KEPT", "sync FOLDER"]
     runs = [
-        ("a beginning", b"head\n", [*adds, "print"]),
+        ("a beginning", b"head\n", ["sync FOLDER", *adds, "print"]),
         ("nothing new", b"head\nlookup 61 0\nhistory 0 1\n", ["print"] * 3),
-        ("a registration", b"register 61 6b31\n", [*keeps, "print"]),
+        ("a registration", b"register 61 6b31\n", ["sync FOLDER", *keeps, "print"]),
         ("two lines", b"register 62 6b31\nlookup 61 0\nregister 63 6b31\n", [*keeps, "print", "print", *keeps, "print"]),
         ("a watch", b"watch 61 -\n", marks),
         ("no more to watch", b"watch 61 -\nhead\n", ["print"]),
