@@ -1,5 +1,5 @@
 -- What a memory loses.
-use Rattle.std.specs.Prelude.{◌≡◌, ◌≢◌, ◌⊎◌, ℕ, List, Any, Contains, IsTrue}
+use Rattle.std.specs.Prelude.{◌≡◌, ◌≢◌, ◌⊎◌, ℕ, List, All, Any, IsTrue}
 use Rattle.rootchain.specs.declared.signed_promise.SignedPromise.{SignedPromise}
 use Rattle.memory.specs.Lists.{IsLeft}
 use Rattle.memory.specs.Memories.{Memory}
@@ -10,7 +10,7 @@ use Rattle.memory.specs.declared.promised.Promised.{Promised}
 
 -- the promise is still to be tested, or it is the owner's own and awaited by a mark of its name
 abbrev pub IsNeeded : List SignedPromise → List Mark → Promised → Type 0
-IsNeeded tested marks promised = (¬ Contains tested promised.signed) ⊎ (IsTrue promised.is_own × Any (IsAwaited promised.signed) marks)
+IsNeeded tested marks promised = All (λ other. other ≢ promised.signed) tested ⊎ (IsTrue promised.is_own × Any (IsAwaited promised.signed) marks)
 
 -- the promises that are needed are left, where these were tested
 abbrev pub Leaves : List SignedPromise → Memory → Memory → Type 0

@@ -1,6 +1,6 @@
 // Lists that lose what is no longer needed.
 
-ghost use Rattle.std.specs.Prelude.{◌≡◌, ◌≢◌, ◌↔◌, ◌+◌, map, length, Any, Contains, IsTrue};
+ghost use Rattle.std.specs.Prelude.{◌≡◌, ◌≢◌, ◌↔◌, ◌+◌, map, length, All, Any, IsTrue};
 ghost use Rattle.memory.specs.Leaving.{IsNeeded};
 ghost use Rattle.memory.specs.Watching.{IsAwaited};
 ghost use Rattle.memory.specs.Lists.{HasNoRepeat, IsLeft};
@@ -31,14 +31,14 @@ pub(crate) fn leave_promises(promises: &mut Vec<Promised>, marks: &[Mark], teste
 fn is_needed(promised: &Promised, marks: &[Mark], tested: &[SignedPromise]) -> bool
     ensures { IsTrue result ↔ IsNeeded tested.now marks.now promised.now }
 {
-    !is_among(&promised.signed, tested) || promised.is_own && has_awaiting(&promised.signed, marks)
+    is_untested(&promised.signed, tested) || promised.is_own && has_awaiting(&promised.signed, marks)
 }
 
-/// Whether a promise is among these.
-fn is_among(signed: &SignedPromise, promises: &[SignedPromise]) -> bool
-    ensures { IsTrue result ↔ Contains promises.now signed.now }
+/// Whether a promise is not among these.
+fn is_untested(signed: &SignedPromise, tested: &[SignedPromise]) -> bool
+    ensures { IsTrue result ↔ All (λ other. other ≢ signed.now) tested.now }
 {
-    promises.iter().any(|other| other == signed)
+    tested.iter().all(|other| other != signed)
 }
 
 /// Whether a mark awaits the promise.
