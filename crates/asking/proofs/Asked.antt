@@ -1,6 +1,7 @@
 -- A line that was asked.
-use Rattle.std.proofs.Common.{◌≡◌, ◌∙◌, ◌⊎◌, ◌-◌, ◌<◌, ◌≤◌, ◌++◌, ◌∷◌, [], ℕ, List, Option, Some, Result, Ok, Err, Global, Vec, ap, arith, inl, inr, length, refl, rules, subst, sym}
-use Rattle.std.specs.Prelude.{slice_get, OnOk}
+use Rattle.std.proofs.Common.{◌≡◌, ◌≢◌, ◌∙◌, ◌⊎◌, ◌-◌, ◌<◌, ◌≤◌, ◌++◌, ◌∷◌, [], ℕ, zero, suc, Bool, true, nat_lt, if◌then◌else◌, List, Option, Some, Result, Ok, Err, Global, Vec, ap, arith, inl, inr, length, refl, rules, subst, sym}
+use Rattle.std.specs.Prelude.{slice_get, OnErr, OnOk}
+use Rattle.std.proofs.lemmas.Bool.Decides.{nat_tests}
 use Rattle.std.proofs.lemmas.Option.{slice_get_cases}
 use Rattle.commands.specs.declared.edit.Verb.{Verb}
 use Rattle.rootchain.specs.Chains.{IsHead}
@@ -10,17 +11,18 @@ use Rattle.client.specs.Clients.{Client}
 use Rattle.monitor.specs.Monitors.{Monitor}
 use Rattle.wire.specs.Frames.{Frame}
 use Rattle.commands.specs.Operations.{Head}
-use Rattle.wire.specs.Requests.{RequestContent, Put, Query}
+use Rattle.wire.specs.Requests.{RequestContent, Put, Query, Turn}
 use Rattle.play.specs.Scripts.{with_token}
 use Rattle.asking.specs.declared.asker.Asker.{Asker}
 use Rattle.memory.specs.declared.mark.Mark.{Mark}
 use Rattle.asking.specs.declared.said.Said.{Said}
-use Rattle.asking.specs.Asking.{AsksDirectory, CatchesUp, FindsHead, GetsReply, GoesOnAbove, Hands, HandsAll, Notes, SpeaksOf}
+use Rattle.asking.specs.Asking.{AsksDirectory, CatchesUp, FindsHead, GetsReply, GoesOnAbove, Hands, HandsAll, IsChange, Notes, SpeaksOf}
 use Rattle.asking.specs.Checking.{HearsFrame}
 use Rattle.asking.specs.Scenes.{scene, Scene}
 use Rattle.asking.specs.Reports.{Report, Tells, report_of, silent, told_after, unless_fine}
 use Rattle.asking.proofs.Going.{told_onto}
 use Rattle.asking.proofs.Handed.{hands_none, told_silent}
+use Rattle.asking.proofs.Telling.{worse_none}
 
 -- a list that is not empty has a last element
 last-of : {X : Type 0} (xs : List X) → 0 < length xs → (x : X) × (slice_get xs (length xs - 1) ≡ Some x)
@@ -29,6 +31,11 @@ last-of xs some = elim (slice_get_cases xs (length xs - 1)).1 [ inl found ↦ (f
 -- a change is asked for
 abbrev pub IsPut : RequestContent → Type 0
 IsPut asked = (verb : Verb) × (name : List ℕ) × (key : List ℕ) × (asked ≡ Put verb name key)
+
+pub is_put : (asked : RequestContent) → IsChange asked → IsPut asked
+is_put (Put verb name key) change = (verb, name, key, refl)
+is_put (Query query) change = absurd change
+is_put (Turn token epoch nonce) change = absurd change
 
 -- the last promise was noted, and it is one that was kept
 pub notes_kept : {A E : Type 0} (result : Result A E) (asked : RequestContent) (before kept after noted noted' : List SignedPromise) → IsPut asked → length before < length kept → after ≡ kept
@@ -40,12 +47,31 @@ notes_kept (Ok done) asked before kept after noted noted' (verb, name, key, put)
     subst (λ (r : RequestContent). Notes r before after noted noted') (sym put) of_all
 notes_kept (Err fault) asked before kept after noted noted' put more same notes = tt
 
+-- nothing was kept for a change of the client's own, so nothing is noted
+pub notes_none : (asked : RequestContent) (before after noted noted' : List SignedPromise) → (¬ IsChange asked) ⊎ (length after ≤ length before) → noted' ≡ noted → Notes asked before after noted noted'
+notes_none (Put verb name key) before after noted noted' (inl other) same = absurd (other tt)
+notes_none (Put verb name key) before after noted noted' (inr few) same = inl (few, same)
+notes_none (Query query) before after noted noted' none same = same
+notes_none (Turn token epoch nonce) before after noted noted' none same = same
+
 -- what was noted, where the lists stay before and after
 pub notes_as : (asked : RequestContent) (before after : List SignedPromise) (first noted noted' last : Vec SignedPromise Global) → noted ≡ first → last ≡ noted'
     → Notes asked before after noted.items noted'.items → Notes asked before after first.items last.items
 notes_as asked before after first noted noted' last old new notes =
     let from = subst (λ (all : Vec SignedPromise Global). Notes asked before after all.items noted'.items) old notes in
     subst (λ (all : Vec SignedPromise Global). Notes asked before after first.items all.items) (sym new) from
+
+-- it is told behind nothing
+told_alone : (told : Report) → told_after silent told ≡ told
+told_alone told = ap (λ (n : ℕ). let t : Report = record { lines = told.lines; status = n } in t) (worse_none told.status)
+
+some_status : (status : ℕ) → status ≢ 0 → nat_lt 0 status ≡ true
+some_status zero not = absurd (not refl)
+some_status (suc n) not = grind (arith, nat_tests)
+
+-- what is refused is told
+unless_refused : (told : Report) → told.status ≢ 0 → unless_fine told ≡ told
+unless_refused told not = ap (λ (b : Bool). if b then told else silent) (some_status told.status not)
 
 module _ (hash : List ℕ → List ℕ) (accepted verified : List ℕ → List ℕ → List ℕ → Type 0) where
   -- a promise for a change was kept and handed out, and what the monitors refuse was told behind it
@@ -67,9 +93,17 @@ module _ (hash : List ℕ → List ℕ) (accepted verified : List ℕ → List �
       )
   hands_kept (Err fault) held asked frame client after kept given back told said middle said' put more same hears tells hands = tt
 
+  -- memory ran out before it was handed out
+  pub heard_untold : {A E : Type 0} (P : Type 0) (result : Result A E) (held : ℕ) (asked : RequestContent) (frame : Frame) (client after last : Client) (told : Report) (said middle said' : Said)
+      → HearsFrame hash accepted verified held client asked frame told after → last ≡ after → Tells said told middle → OnErr result (report_of said' ≡ report_of middle)
+      → OnErr result (P ⊎ ((x : Report) × HearsFrame hash accepted verified held client asked frame x last × (report_of said' ≡ told_after (report_of said) x)))
+  heard_untold P (Ok done) held asked frame client after last told said middle said' hears same tells untold = tt
+  heard_untold P (Err why) held asked frame client after last told said middle said' hears same tells untold =
+      inr (told, subst (λ (c : Client). HearsFrame hash accepted verified held client asked frame told c) (sym same) hears, untold ∙ told_onto said middle told tells)
+
   -- none was handed out
   pub heard_only : (held : ℕ) (asked : RequestContent) (frame : Frame) (client after : Client) (monitors : List Monitor) (told : Report) (said said' : Said)
-      → (¬ IsPut asked) ⊎ (length after.promises ≤ length client.promises) → HearsFrame hash accepted verified held client asked frame told after → Tells said told said'
+      → (¬ IsChange asked) ⊎ (length after.promises ≤ length client.promises) → HearsFrame hash accepted verified held client asked frame told after → Tells said told said'
       → (told : Report) × (handed : Report) × HearsFrame hash accepted verified held client asked frame told after
       × Hands hash accepted verified asked frame.body client.promises after.promises monitors handed monitors × (report_of said' ≡ told_after (told_after (report_of said) told) handed)
   heard_only held asked frame client after monitors told said said' none hears tells = (
@@ -81,7 +115,7 @@ module _ (hash : List ℕ → List ℕ) (accepted verified : List ℕ → List �
   )
 
   -- a frame came back for what was asked when the chain had a head of an epoch
-  pub reply_to : {T : Type 0} (exchanged : T → RequestContent → Frame → T → Type 0) (token : List ℕ) (asked : RequestContent) (before : Scene T) (sent : T) (frame : Frame) (head : SignedRoot) (low epoch : ℕ)
+  abbrev pub reply_to : {T : Type 0} (exchanged : T → RequestContent → Frame → T → Type 0) (token : List ℕ) (asked : RequestContent) (before : Scene T) (sent : T) (frame : Frame) (head : SignedRoot) (low epoch : ℕ)
       → IsHead before.client.chain head → low ≡ head.body.epoch → exchanged before.stream (with_token token asked) frame sent → SpeaksOf low asked frame epoch → GetsReply exchanged token asked before
   reply_to exchanged token asked before sent frame head low epoch is at exchange speaks = record {
     head = head;
@@ -140,3 +174,13 @@ module _ (hash : List ℕ → List ℕ) (accepted verified : List ℕ → List �
     same = (ap (λ (ms : Vec Monitor Global). ms.items) same, refl);
   }
   finds_all exchanged (Err why) first ready last said caught said' stream sent later frame head low epoch is at exchange speaks catches same finds = tt
+
+  -- the latest root was refused, which is told
+  pub finds_refused : {A E : Type 0} (result : Result A E) (held : ℕ) (client after : Client) (frame : Frame) (told : Report) (empty now said said' : Said) → report_of empty ≡ silent → now.status ≢ 0
+      → HearsFrame hash accepted verified held client (Query Head) frame told after → Tells empty told now → OnOk result (Tells said (report_of now) said')
+      → OnOk result ((x : Report) × HearsFrame hash accepted verified held client (Query Head) frame x after × (report_of said' ≡ told_after (report_of said) (unless_fine x)))
+  finds_refused (Ok done) held client after frame told empty now said said' none not hears tells joined =
+      let same : report_of now ≡ told = told_onto empty now told tells ∙ ap (λ (r : Report). told_after r told) none ∙ told_alone told in
+      let bad : told.status ≢ 0 = λ fine. not (ap (λ (r : Report). r.status) same ∙ fine) in
+      (told, hears, told_onto said said' (report_of now) joined ∙ ap (λ (r : Report). told_after (report_of said) r) (same ∙ sym (unless_refused told bad)))
+  finds_refused (Err why) held client after frame told empty now said said' none not hears tells joined = tt

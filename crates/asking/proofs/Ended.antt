@@ -1,6 +1,6 @@
 -- How a run ends before all is asked.
-use Rattle.std.proofs.Common.{◌≡◌, ◌≢◌, ◌∙◌, ◌<◌, ◌≤◌, ℕ, true, List, [], ◌∷◌, ◌++◌, Option, None, Some, Result, Ok, Err, ap, append-nil, append_assoc, arith, inl, inr, refl, rules, subst, sym}
-use Rattle.std.specs.Prelude.{Bor, IfErr, IfOk, IfSome, OnErr, OnOk, option_map}
+use Rattle.std.proofs.Common.{◌≡◌, ◌≢◌, ◌∙◌, ◌<◌, ◌≤◌, ℕ, true, List, [], ◌∷◌, ◌++◌, Bor, Option, None, Some, Result, Ok, Err, ap, option_map, append-nil, append_assoc, arith, inl, inr, refl, rules, subst, sym}
+use Rattle.std.specs.Prelude.{IfErr, IfOk, IfSome, OnErr, OnOk}
 use Rattle.std.specs.Io.KnownBytes.{Appends}
 use Rattle.std.proofs.KnownBytes.{Appends-nil, Appends-trans, Keeps-refl}
 use Rattle.std.proofs.lemmas.Bool.Decides.{nat_tests}
@@ -288,7 +288,7 @@ module _ (hash : List ℕ → List ℕ) (accepted verified : List ℕ → List �
         by (inr (state, same, sound, kept)) = inr ((λ none. state (without none)), same, sound, kept)
 
     new-with : (background : Background) (before after : Scene T) → TakesNew hash accepted verified exchanged background NoState before after → TakesNew hash accepted verified exchanged background None' before after
-    new-with background before after (inl (none, follows)) = inl (within none, follows)
+    new-with background before after (inl (none, count, follows)) = inl (within none, count, follows)
     new-with background before after (inr (some, finds)) = inr ((λ none. some (without none)), finds)
 
     some-new-with : (background : Background) (before after : Scene T) → TakesSomeNew hash accepted verified exchanged background NoState before after → TakesSomeNew hash accepted verified exchanged background None' before after
@@ -305,7 +305,7 @@ module _ (hash : List ℕ → List ℕ) (accepted verified : List ℕ → List �
 
     pub writes_with : (background : Background) (before : Scene T) (old now : Option (List ℕ)) (after : Scene T) → Writes (Prepares hash accepted verified exchanged background NoState) before old now after
         → Writes (Prepares hash accepted verified exchanged background None') before old now after
-    writes_with background before old now after (done, prepares, written) = (done, prepares-with background before done prepares, written)
+    writes_with background before old now after (done, prepares, appends, left) = (done, prepares-with background before done prepares, appends, left)
 
     ends-with : (background : Background) (input : Option (List ℕ)) (start : Scene T) (old : Option (List ℕ)) (told : Report) (now : Option (List ℕ))
         → RunEndsAt hash accepted verified exchanged background options NoState input start old told now → RunEndsAt hash accepted verified exchanged background options None' input start old told now

@@ -67,18 +67,18 @@ module _ {H V S T : Type 0} (hash : List ℕ → List ℕ) (accepted verified : 
         (reached, asks-on last.changes.items reached is exchange speaks (inl (ap (λ (all : Vec SignedPromise Global). all.items) still, some)), halts)
 
     -- the latest root was asked for, and the chain is on its way to it
-    pub halts_finding : (fault : AskFault) (last : Asker H V S) (said' : Said) → asked ≡ Query Head → IsHead first.client.chain head → exchanged stream (with_token first.token asked) frame sent → SpeaksOf low asked frame epoch
+    pub halts_finding : (fault : AskFault) (last : Asker H V S) (said' : Said) → IsHead first.client.chain head → exchanged stream (with_token first.token (Query Head)) frame sent → SpeaksOf low (Query Head) frame epoch
         → HaltsAfter (CatchesSome hash accepted verified exchanged epoch (scene first said sent)) fault last said'
         → HaltsAfter (FindsSome hash accepted verified exchanged first.token (scene first said stream)) fault last said'
-    halts_finding fault last said' refl is exchange speaks (reached, some, halts) =
+    halts_finding fault last said' is exchange speaks (reached, some, halts) =
         (reached, inr (reply_to hash accepted verified exchanged first.token (Query Head) (scene first said stream) sent frame head low epoch is at exchange speaks, inl some), halts)
 
     module _ (ready : Asker H V S) (caught : Said) (later : T) where
       -- the chain is there, and memory ran out before the root was told
-      pub halts_found : (fault : AskFault) (last : Asker H V S) (said' : Said) → asked ≡ Query Head → IsHead first.client.chain head → exchanged stream (with_token first.token asked) frame sent → SpeaksOf low asked frame epoch
+      pub halts_found : (fault : AskFault) (last : Asker H V S) (said' : Said) → IsHead first.client.chain head → exchanged stream (with_token first.token (Query Head)) frame sent → SpeaksOf low (Query Head) frame epoch
           → CatchesUp hash accepted verified exchanged epoch (scene first said sent) (scene ready caught later) → fault ≢ NoReply → report_of said' ≡ report_of caught
           → HaltsAfter (FindsSome hash accepted verified exchanged first.token (scene first said stream)) fault last said'
-      halts_found fault last said' refl is exchange speaks catches not same =
+      halts_found fault last said' is exchange speaks catches not same =
           (scene ready caught later, inr (reply_to hash accepted verified exchanged first.token (Query Head) (scene first said stream) sent frame head low epoch is at exchange speaks, inr catches), (same, λ none. absurd (not none)))
 
       -- the frame was heard, and perhaps told

@@ -2,13 +2,12 @@
 use Rattle.std.proofs.Common.{◌≡◌, ◌∙◌, ◌⊎◌, ◌+◌, ◌-◌, ◌<◌, ◌≤◌, ◌++◌, ◌∷◌, [], ℕ, zero, suc, List, Option, Some, None, Result, Ok, Err, ap, arith, append-nil, append_assoc, drop, get_or, inl, inr, length, refl, rules, slice_set, subst, sym, take, take_all}
 use Rattle.std.specs.Prelude.{slice_get, OnOk}
 use Rattle.std.proofs.lemmas.List.{drop_all, drop_more, take_more_set}
-use Rattle.commands.specs.declared.edit.Verb.{Verb}
 use Rattle.rootchain.specs.declared.signed_promise.SignedPromise.{SignedPromise}
 use Rattle.monitor.specs.Monitors.{Monitor}
 use Rattle.monitor.specs.declared.monitor_refusal.Refusal.{Refusal}
 use Rattle.wire.specs.Requests.{RequestContent, Put, Query, Turn}
 use Rattle.asking.specs.declared.said.Said.{Said}
-use Rattle.asking.specs.Asking.{handed_told, Hands, HandsAll, HandsTo}
+use Rattle.asking.specs.Asking.{handed_told, Hands, HandsAll, HandsTo, IsChange}
 use Rattle.asking.specs.Reports.{Report, Tells, report_of, silent, told_after, worse}
 use Rattle.play.proofs.Moved.{AreMoved, moved-begin, moved-step}
 
@@ -86,8 +85,8 @@ module _ (hash : List ℕ → List ℕ) (accepted verified : List ℕ → List �
 
   -- nothing was kept for a change of the client's own, so none is handed out
   pub hands_none : (asked : RequestContent) (promise : List ℕ) (before after : List SignedPromise) (monitors : List Monitor)
-      → (¬ ((verb : Verb) × (name : List ℕ) × (key : List ℕ) × (asked ≡ Put verb name key))) ⊎ (length after ≤ length before) → Hands hash accepted verified asked promise before after monitors silent monitors
-  hands_none (Put verb name key) promise before after monitors (inl other) = absurd (other (verb, name, key, refl))
+      → (¬ IsChange asked) ⊎ (length after ≤ length before) → Hands hash accepted verified asked promise before after monitors silent monitors
+  hands_none (Put verb name key) promise before after monitors (inl other) = absurd (other tt)
   hands_none (Put verb name key) promise before after monitors (inr few) = inl (few, refl, refl)
   hands_none (Query query) promise before after monitors none = (refl, refl)
   hands_none (Turn token epoch nonce) promise before after monitors none = (refl, refl)

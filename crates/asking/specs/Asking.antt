@@ -1,5 +1,5 @@
 -- What comes of a line that asks.
-use Rattle.std.specs.Prelude.{◌≡◌, ◌≢◌, ◌⊎◌, ℕ, ◌<◌, ◌≤◌, ◌-◌, List, [], ◌∷◌, ◌++◌, length, Option, None, Some, Ok, Err, codes, slice_get}
+use Rattle.std.specs.Prelude.{◌≡◌, ◌≢◌, ◌⊎◌, ℕ, ◌<◌, ◌≤◌, ◌-◌, List, [], ◌∷◌, ◌++◌, length, Option, None, Some, Ok, Err, codes, slice_get, ⊤}
 use Rattle.rootchain.specs.Chains.{IsHead}
 use Rattle.rootchain.specs.declared.signed_promise.SignedPromise.{SignedPromise}
 use Rattle.rootchain.specs.declared.signed_root.SignedRoot.{SignedRoot}
@@ -11,7 +11,7 @@ use Rattle.monitor.specs.declared.monitor_refusal.Refusal.{Refusal}
 use Rattle.monitor.specs.declared.monitor_refusal.Refusal.TheVariants.{Client}
 use Rattle.commands.specs.Operations.{Head}
 use Rattle.wire.specs.Frames.{Frame}
-use Rattle.wire.specs.Requests.{RequestContent, Put, Query}
+use Rattle.wire.specs.Requests.{RequestContent, Put, Query, Turn}
 use Rattle.wire.specs.Responses.{ResponseContent, Promise, Proof, Roots, Root, Refused, Responds, ReadsResponse}
 use Rattle.wire.specs.declared.message_refusals.ReadRefusal.{ReadRefusal}
 use Rattle.play.specs.Scripts.{with_token}
@@ -53,6 +53,12 @@ pub record GetsReply {T : Type 0} (exchanged : T → RequestContent → Frame �
 -- the scene once the frame has come
 abbrev pub replied : {T : Type 0} {exchanged : T → RequestContent → Frame → T → Type 0} {token : List ℕ} {asked : RequestContent} {before : Scene T} → GetsReply exchanged token asked before → Scene T
 replied {T} {exchanged} {token} {asked} {before} reply = record before { stream = reply.stream }
+
+-- the line asks for a change of the client's own
+abbrev pub IsChange : RequestContent → Type 0
+IsChange (Put verb name key) = ⊤
+IsChange (Query query) = ⊥
+IsChange (Turn token epoch nonce) = ⊥
 
 -- the last of these promises is noted behind the others
 abbrev pub NotesLast : List SignedPromise → List SignedPromise → List SignedPromise → Type 0

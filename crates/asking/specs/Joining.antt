@@ -12,7 +12,7 @@ use Rattle.client.specs.Starting.{Starts}
 use Rattle.client.specs.Updating.{Updates}
 use Rattle.client.specs.declared.client_refusal.Refusal.{Refusal}
 use Rattle.client.specs.declared.client_refusal.Refusal.TheVariants.{Memory}
-use Rattle.memory.specs.Memories.{Memory}
+use Rattle.memory.specs.Memories.{Memory as Remembered}
 use Rattle.monitor.specs.Monitors.{Monitor, new_monitor}
 use Rattle.monitor.specs.declared.monitor_refusal.Refusal.{Refusal as MonitorRefusal}
 use Rattle.wire.specs.Frames.{Frame}
@@ -119,7 +119,7 @@ module _ (hash : List ℕ → List ℕ) (accepted verified : List ℕ → List �
     WatchesSome before after = (first : SignedRoot) × IsUnwatched before.client.chain name marks (Some first)
         × (BeginsSomeAt first before after ⊎ ((middle : Scene T) × BeginsAt first before middle × TestsSome hash accepted exchanged marks middle after))
 
-  module _ {T : Type 0} (exchanged : T → RequestContent → Frame → T → Type 0) (known : Memory) (marks : List Mark) (key : List ℕ) (earlier : List SignedPromise) (name : List ℕ) (given : Option (List ℕ)) where
+  module _ {T : Type 0} (exchanged : T → RequestContent → Frame → T → Type 0) (known : Remembered) (marks : List Mark) (key : List ℕ) (earlier : List SignedPromise) (name : List ℕ) (given : Option (List ℕ)) where
     -- the alarms that earlier runs told of a name are told again, and then it is watched
     abbrev pub BeginsWatch : Scene T → Scene T → Type 0
     BeginsWatch before after = (again : Report) × TellsAlarms name known again

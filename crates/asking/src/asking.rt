@@ -1,5 +1,5 @@
 // A question over a stream: what the client makes of its reply, and what follows from it.
-ghost use Rattle.std.specs.Prelude.{◌≡◌, ◌≢◌, ◌⊎◌, Err, IfErr, IfOk, OnErr, OnOk};
+ghost use Rattle.std.specs.Prelude.{◌≡◌, ◌≢◌, ◌⊎◌, ◌↔◌, Err, IfErr, IfOk, IsTrue, OnErr, OnOk};
 ghost use Rattle.commands.specs.Operations.{Head};
 ghost use Rattle.wire.specs.Frames.{Frame};
 ghost use Rattle.wire.specs.FrameViews.{frame_seen};
@@ -7,7 +7,7 @@ ghost use Rattle.wire.specs.Requests.{Query};
 ghost use Rattle.wire.specs.Responses.{response_seen};
 ghost use Rattle.play.specs.Scripts.{ask_seen, with_token};
 ghost use Rattle.asking.specs.Askers.{asker_changes, asker_marks, asker_token};
-ghost use Rattle.asking.specs.Asking.{response_epoch, AsksDirectory, AsksSome, CatchesSome, CatchesUp, FindsHead, FindsSome, GoesOnAbove, GoesSomeAbove, Hands, Notes, SpeaksOf, StopsAsking, StopsBelow};
+ghost use Rattle.asking.specs.Asking.{response_epoch, AsksDirectory, AsksSome, CatchesSome, CatchesUp, FindsHead, FindsSome, GoesOnAbove, GoesSomeAbove, Hands, IsChange, Notes, SpeaksOf, StopsAsking, StopsBelow};
 ghost use Rattle.asking.specs.Checking.{HearsFrame};
 ghost use Rattle.asking.specs.Exchanges.{ExchangesFrames, HoldsFrame, IsOneFrame};
 ghost use Rattle.asking.specs.Scenes.{scene, HaltsAfter, Remains, StaysWhole};
@@ -38,6 +38,20 @@ fn epoch_of(held: u64, ask: &Ask, frame: &FrameView<'_>) -> u64
             epoch_in(&response)
         }
         Err(_) => 0,
+    }
+}
+
+/// Whether a line asks for a change of the client's own.
+fn is_change(ask: &Ask) -> bool
+    ensures { IsTrue result ↔ IsChange (ask_seen ask.now) }
+{
+    match ask {
+        Ask::Put { .. } => true,
+        Ask::Promise { .. } => false,
+        Ask::Lookup { .. } => false,
+        Ask::History { .. } => false,
+        Ask::Head => false,
+        Ask::Turn { .. } => false,
     }
 }
 
@@ -168,7 +182,7 @@ where
         let kept = self.client.promises().len();
         let checks = &mut self.checks;
         hear(self.alloc, &mut self.client, checks, held, ask, frame, said)?;
-        if !matches!(ask, Ask::Put { .. }) || self.client.promises().len() <= kept {
+        if !is_change(ask) || self.client.promises().len() <= kept {
             return Ok(());
         }
         self.hand_out(frame.body, said)

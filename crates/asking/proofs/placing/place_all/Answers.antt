@@ -7,13 +7,13 @@ use Rattle.asking.proofs.placing.place_all.Goals as goal
 pub returns-in-Some : goal.returns-in-Some
 returns-in-Some g c =
     tells_stop g.H.NodeHash.digest_of g.S.Verifier.verified c.args.client.now.chain c.args.roots c.refuse_root.result c.in-Some.why c.args.said.now c.refuse_root.new.said
-    (subst (λ (stop : Option Refusal). StopsAmong g.H.NodeHash.digest_of g.S.Verifier.verified c.args.client.now.chain c.args.roots stop) c.in-Some.is c.in_ok-push_epochs.ensures.stops) c.refuse_root.ensures
+    (subst (λ (stop : Option Refusal). StopsAmong g.H.NodeHash.digest_of g.S.Verifier.verified c.args.client.now.chain c.args.roots stop) c.in-Some.is c.in_ok-why.ensures.stops) c.refuse_root.ensures
 
 pub returns : goal.returns
 returns g c =
     tells_all g.H.NodeHash.digest_of g.S.Verifier.verified c.args.client.now.chain c.args.roots c.extend_from_slice.result c.deref.result.now c.args.said.now
     (record { text = c.extend_from_slice.new.self; words = c.args.said.now.words; status = c.args.said.now.status })
-    (subst (λ (stop : Option Refusal). StopsAmong g.H.NodeHash.digest_of g.S.Verifier.verified c.args.client.now.chain c.args.roots stop) c.in-None.is c.in_ok-push_epochs.ensures.stops)
+    (subst (λ (stop : Option Refusal). StopsAmong g.H.NodeHash.digest_of g.S.Verifier.verified c.args.client.now.chain c.args.roots stop) c.in-None.is c.in_ok-why.ensures.stops)
     (c.deref.ensures.value ∙ c.in_ok-push-in-None.ensures.items ∙ ap (λ (xs : List ℕ). xs ++ 10 ∷ [])
-    (c.in_ok-push_epochs.ensures.text c.in-None.is ∙ ap (λ (xs : List ℕ). xs ++ epochs_text c.args.roots) c.in_ok-line.ensures.items))
+    (c.in_ok-why.ensures.text c.in-None.is ∙ ap (λ (xs : List ℕ). xs ++ epochs_text c.args.roots) c.in_ok-line.ensures.items))
     c.extend_from_slice.ensures.items refl

@@ -13,8 +13,8 @@ loop-monitor-init g c = handing_begins g.H.NodeHash.digest_of g.V.VufCheck.accep
 pub loop-monitor-preserved : goal.loop-monitor-preserved
 loop-monitor-preserved g c =
     handing_goes g.H.NodeHash.digest_of g.V.VufCheck.accepted g.S.Verifier.verified c.args.signed.now c.args.promise.now c.args.monitors.now c.loop-monitor.monitors (report_of c.args.said.now)
-    (report_of c.loop-monitor.said) (report_of c.tell_handed.new.said) c.loop-monitor.monitor-index c.in_ok-why.why c.hand_one-why.new.monitor (omega arith) (c.loop-monitor.auto.monitors)
-    (λ d. subst (λ (one : Monitor). HandsTo g.H.NodeHash.digest_of g.V.VufCheck.accepted g.S.Verifier.verified c.args.signed.now c.args.promise.now one c.in_ok-why.why c.hand_one-why.new.monitor)
+    (report_of c.loop-monitor.said) (report_of c.tell_handed.new.said) c.loop-monitor.monitor-index c.in_ok-why.why c.hand_one.new.monitor (omega arith) (c.loop-monitor.auto.monitors)
+    (λ d. subst (λ (one : Monitor). HandsTo g.H.NodeHash.digest_of g.V.VufCheck.accepted g.S.Verifier.verified c.args.signed.now c.args.promise.now one c.in_ok-why.why c.hand_one.new.monitor)
     (get_or_default c.loop-monitor.monitors c.loop-monitor.monitor-index c.monitor-item.result d (omega arith)) c.in_ok-why.ensures)
     (told_onto c.loop-monitor.said c.tell_handed.new.said (handed_told c.in_ok-why.why) c.in_ok-tell_handed.ensures) c.loop-monitor.invariant
 

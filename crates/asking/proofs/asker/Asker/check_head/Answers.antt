@@ -44,7 +44,7 @@ returns-in_err-catch_up-clause-halts g c =
     let passed : c.from_residual-in_err-catch_up.result ≡ Err c.in_err-catch_up.field-0.0 = search rules in
     rw passed (λ unstopped. halts_finding g.H.NodeHash.digest_of g.V.VufCheck.accepted g.S.Verifier.verified (ExchangesFrames g.T.Write.contents g.T.Read.remaining) c.args.self.now.marks c.args.self.now c.args.said.now c.args.stream.now
     c.request.new.stream (Query Head) (frame_seen c.in_ok-frame.frame) c.head-held.ensures.0 c.head-held.result c.epoch_of.result c.head-held.ensures.2
-    c.in_err-catch_up.field-0.0 c.catch_up.new.self c.catch_up.new.said refl c.head-held.ensures.1 (c.in_ok-reply.ensures.sent (frame_seen c.in_ok-frame.frame) (rw c.deref.ensures.value at c.in_ok-frame.ensures.ok)) c.epoch_of.ensures (c.in_err-catch_up.ensures.halts unstopped))
+    c.in_err-catch_up.field-0.0 c.catch_up.new.self c.catch_up.new.said c.head-held.ensures.1 (c.in_ok-reply.ensures.sent (frame_seen c.in_ok-frame.frame) (rw c.deref.ensures.value at c.in_ok-frame.ensures.ok)) c.epoch_of.ensures (c.in_err-catch_up.ensures.halts unstopped))
 
 pub returns-in_err-find_head-clause-halts : goal.returns-in_err-find_head-clause-halts
 returns-in_err-find_head-clause-halts g c =
@@ -52,4 +52,4 @@ returns-in_err-find_head-clause-halts g c =
     let not : OutOfMemory ≢ NoReply = search rules in
     rw passed (λ unstopped. halts_found g.H.NodeHash.digest_of g.V.VufCheck.accepted g.S.Verifier.verified (ExchangesFrames g.T.Write.contents g.T.Read.remaining) c.args.self.now.marks c.args.self.now c.args.said.now c.args.stream.now
     c.request.new.stream (Query Head) (frame_seen c.in_ok-frame.frame) c.head-held.ensures.0 c.head-held.result c.epoch_of.result c.head-held.ensures.2
-    c.catch_up.new.self c.catch_up.new.said c.catch_up.new.stream OutOfMemory c.find_head.new.self c.find_head.new.said refl c.head-held.ensures.1 (c.in_ok-reply.ensures.sent (frame_seen c.in_ok-frame.frame) (rw c.deref.ensures.value at c.in_ok-frame.ensures.ok)) c.epoch_of.ensures c.in_ok-catch_up.ensures.catches not c.in_err-find_head.ensures.untold)
+    c.catch_up.new.self c.catch_up.new.said c.catch_up.new.stream OutOfMemory c.find_head.new.self c.find_head.new.said c.head-held.ensures.1 (c.in_ok-reply.ensures.sent (frame_seen c.in_ok-frame.frame) (rw c.deref.ensures.value at c.in_ok-frame.ensures.ok)) c.epoch_of.ensures c.in_ok-catch_up.ensures.catches not c.in_err-find_head.ensures.untold)

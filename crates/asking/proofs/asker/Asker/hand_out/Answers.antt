@@ -16,4 +16,4 @@ returns-in_ok-hand_to-in-Some-clause-hands g c =
     hands_last g.H.NodeHash.digest_of g.V.VufCheck.accepted g.S.Verifier.verified c.join.result (slice_get c.args.self.now.client.promises (length c.args.self.now.client.promises - 1))
     c.in-Some.signed.now c.args.promise.now c.args.self.now.monitors.items c.deref_mut.result.now c.hand_to.new.monitors (with_items c.args.self.now.monitors c.hand_to.new.monitors).items
     c.new-now.result c.hand_to.new.said c.args.said.now c.join.new.self last old
-    (with_items_is c.args.self.now.monitors c.hand_to.new.monitors long) (report_silent c.new-now.result c.new-now.ensures.text c.new-now.ensures.status) c.in_ok-hand_to.ensures c.join.ensures.tells
+    (with_items_is c.args.self.now.monitors c.hand_to.new.monitors long) (report_silent c.new-now.result c.new-now.ensures.text c.new-now.ensures.status) c.in_ok-hand_to-in-Some.ensures c.join.ensures.tells

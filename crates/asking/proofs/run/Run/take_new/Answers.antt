@@ -7,8 +7,8 @@ use Rattle.asking.proofs.Ran.{ok_then}
 use Rattle.asking.proofs.Rising.{find_rises, follow_rises}
 use Rattle.asking.proofs.run.Run.take_new.Goals as goal
 
-pub returns-then-clause-takes : goal.returns-then-clause-takes
-returns-then-clause-takes g c =
+pub returns-then-is_none-clause-takes : goal.returns-then-is_none-clause-takes
+returns-then-is_none-clause-takes g c =
     let none : c.args.self.now.state ≡ None = search rules in
     ok_then c.follow.result c.follow.ensures.follows (λ follows. inl (none, follows.0, follows.1))
 
@@ -17,8 +17,8 @@ returns-clause-takes g c =
     let some : ¬ (c.args.self.now.state ≡ None) = search rules in
     ok_then c.check_head.result c.check_head.ensures.finds (λ finds. inr (some, finds))
 
-pub returns-then-clause-part : goal.returns-then-clause-part
-returns-then-clause-part g c =
+pub returns-then-is_none-clause-part : goal.returns-then-is_none-clause-part
+returns-then-is_none-clause-part g c =
     let none : c.args.self.now.state ≡ None = search rules in
     some_followed g.H.NodeHash.digest_of g.V.VufCheck.accepted g.S.Verifier.verified (ExchangesFrames g.T.Write.contents g.T.Read.remaining) (background_of c.args.asker.now) (c.args.self.now.state ≡ None) c.follow.result
     (scene c.args.asker.now c.args.self.now.said c.args.stream.now) (scene c.follow.new.self c.follow.new.said c.follow.new.stream) c.follow.new.self c.follow.new.said none refl
@@ -31,8 +31,8 @@ returns-clause-part g c =
     (scene c.args.asker.now c.args.self.now.said c.args.stream.now) (scene c.check_head.new.self c.check_head.new.said c.check_head.new.stream) c.check_head.new.self c.check_head.new.said some refl
     c.check_head.ensures.stops c.check_head.ensures.halts
 
-pub returns-then-clause-rises : goal.returns-then-clause-rises
-returns-then-clause-rises g c =
+pub returns-then-is_none-clause-rises : goal.returns-then-is_none-clause-rises
+returns-then-is_none-clause-rises g c =
     follow_rises g.H.NodeHash.digest_of g.V.VufCheck.accepted g.S.Verifier.verified (ExchangesFrames g.T.Write.contents g.T.Read.remaining) c.follow.result
     (scene c.args.asker.now c.args.self.now.said c.args.stream.now) (scene c.follow.new.self c.follow.new.said c.follow.new.stream) c.follow.new.self c.follow.new.said refl
     c.follow.ensures.follows c.follow.ensures.stops c.follow.ensures.halts
