@@ -165,9 +165,10 @@ where
         ensures err { IfErr result IsFaultOfState }
     {
         let signed = self.keep_again(&promised.signed, number)?;
-        if promised.is_own {
-            self.earlier.push(signed)?;
+        if !promised.is_own {
+            return Ok(());
         }
+        self.earlier.push(signed)?;
         Ok(())
     }
 
