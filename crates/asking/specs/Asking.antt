@@ -58,7 +58,7 @@ replied {T} {exchanged} {token} {asked} {before} reply = record before { stream 
 abbrev pub IsChange : RequestContent → Type 0
 IsChange (Put verb name key) = ⊤
 IsChange (Query query) = ⊥
-IsChange (Turn token epoch nonce) = ⊥
+IsChange (Turn token epoch _) = ⊥
 
 -- the last of these promises is noted behind the others
 abbrev pub NotesLast : List SignedPromise → List SignedPromise → List SignedPromise → Type 0

@@ -1,10 +1,11 @@
-use Rattle.std.proofs.Common.{◌≡◌, ◌≢◌, ◌∙◌, Err, inl, refl, rules, sym}
+use Rattle.std.proofs.Common.{◌≡◌, ◌≢◌, ◌∙◌, Ok, Err, inl, refl, rules, sym}
 use Rattle.commands.specs.Operations.{Head}
 use Rattle.wire.specs.FrameViews.{frame_seen}
 use Rattle.wire.specs.Requests.{Query}
 use Rattle.asking.specs.Asking.{FindsSome}
 use Rattle.asking.specs.Exchanges.{ExchangesFrames}
 use Rattle.asking.specs.Scenes.{scene}
+use Rattle.asking.specs.declared.ask_fault.AskFault.{AskFault}
 use Rattle.asking.specs.declared.ask_fault.AskFault.TheVariants.{NoReply, OutOfMemory, Stopped}
 use Rattle.asking.proofs.Asked.{finds_all, reply_to}
 use Rattle.asking.proofs.Halted.{halts_finding, halts_found, halts_here}
@@ -12,10 +13,10 @@ use Rattle.asking.proofs.asker.Asker.check_head.Goals as goal
 
 pub returns-clause-finds : goal.returns-clause-finds
 returns-clause-finds g c =
-    finds_all g.H.NodeHash.digest_of g.V.VufCheck.accepted g.S.Verifier.verified (ExchangesFrames g.T.Write.contents g.T.Read.remaining) c.find_head.result c.args.self.now c.catch_up.new.self c.find_head.new.self
+    finds_all g.H.NodeHash.digest_of g.V.VufCheck.accepted g.S.Verifier.verified {A = Unit {0}} {E = AskFault} (ExchangesFrames g.T.Write.contents g.T.Read.remaining) (Ok tt) c.args.self.now c.catch_up.new.self c.find_head.new.self
     c.args.said.now c.catch_up.new.said c.find_head.new.said c.args.stream.now c.request.new.stream c.catch_up.new.stream (frame_seen c.in_ok-frame.frame) c.head-held.ensures.0 c.head-held.result c.epoch_of.result
     c.head-held.ensures.1 c.head-held.ensures.2 (c.in_ok-reply.ensures.sent (frame_seen c.in_ok-frame.frame) (rw c.deref.ensures.value at c.in_ok-frame.ensures.ok)) c.epoch_of.ensures
-    c.in_ok-catch_up.ensures.catches c.find_head.ensures.monitors c.find_head.ensures.finds
+    c.in_ok-catch_up.ensures.catches c.find_head.ensures.monitors c.in_ok-find_head.ensures.finds
 
 pub returns-in_err-catch_up-clause-stops : goal.returns-in_err-catch_up-clause-stops
 returns-in_err-catch_up-clause-stops g c =
