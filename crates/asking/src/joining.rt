@@ -15,7 +15,7 @@ use crate::watching::hand_one;
 use crate::{AskFault, Asker, Checks, Said};
 use client::{Client, Refusal};
 use encoding::{Hash32, KeyData, Name};
-use memory::{Alarm, Mark};
+use memory::{Alarm, Mark, Memory};
 use monitor::Monitor;
 use nodehash::NodeHash;
 use play::push_number;
@@ -61,11 +61,7 @@ where
         ensures tells { OnOk result ((again : Report) × TellsAlarms name.now (self.now).known again × Tells said.old again said.new) }
         ensures untold { OnErr result (report_of said.new ≡ report_of said.old) }
     {
-        let mut now = Said::new(self.alloc);
-        let count = self.known.tell_again(name, &mut now.text)?;
-        if 0 < count {
-            now.raise(ALARM);
-        }
+        let mut now = alarms_said(self.alloc, &self.known, name)?;
         explain_again(name, self.known.alarms(), &mut now)?;
         said.join(now)
     }
@@ -142,6 +138,19 @@ where
         }
         Ok(monitor)
     }
+}
+
+/// What is said of the alarms of a name that earlier runs told.
+fn alarms_said(alloc: Global, known: &Memory, name: &Name) -> Result<Said, AllocError>
+    ensures { IfOk result (λ said. TellsAlarms name.now known.now (report_of said)) }
+{
+    let mut said = Said::new(alloc);
+    let count = known.tell_again(name, &mut said.text)?;
+    if count == 0 {
+        return Ok(said);
+    }
+    said.raise(ALARM);
+    Ok(said)
 }
 
 /// Says that the alarms of a name are of an earlier run, in lines of the errors.

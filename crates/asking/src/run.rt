@@ -1,5 +1,5 @@
 // A run: each line of the input is asked, what is told of it is written, and the state is kept.
-ghost use Rattle.std.specs.Prelude.{◌≡◌, ◌⊎◌, ◌↔◌, ◌<◌, ◌≤◌, ◌++◌, map, List, ℕ, [], Err, IfErr, IfOk, IfSome, MatchOption, None, Ok, OnErr, OnOk, Option, Some, option_map, ⊤};
+ghost use Rattle.std.specs.Prelude.{◌≡◌, ◌⊎◌, ◌↔◌, ◌<◌, ◌≤◌, ◌++◌, List, ℕ, [], Err, IfErr, IfOk, IfSome, MatchOption, None, Ok, OnErr, OnOk, Option, Some, option_map, ⊤};
 ghost use Rattle.std.specs.Io.KnownBytes.{Appends};
 ghost use Rattle.textio.specs.Lines.{lines_of};
 ghost use Rattle.textio.specs.Output.{WritesSome};
@@ -10,8 +10,6 @@ ghost use Rattle.asking.specs.Ending.{AsksPart, AsksSomeLine, BeginsNone, DoesSo
 ghost use Rattle.asking.specs.Exchanges.{ExchangesFrames};
 ghost use Rattle.asking.specs.Recalled.{evidence_again};
 ghost use Rattle.asking.specs.Reports.{report_of, told_after, Report};
-ghost use Rattle.memory.specs.Texts.{items_text};
-ghost use Rattle.memory.specs.declared.item.Item.TheVariants.{Evidence};
 ghost use Rattle.asking.specs.RunFaults.{AsksInput, CannotBeAsked, IsFaultOfSaving, IsFaultOfState, IsFaultWith, IsFirstUnasked, StopsOr};
 ghost use Rattle.asking.specs.Runs.{AsksLine, AsksLines, BeginsAsking, DoesLine, emptied, Grows, IsSoundFor, KeepsAll, new_background, background_of, lines_asked, Prepares, RunsWhole, TakesNew, with_word, words_line, Writes};
 ghost use Rattle.asking.specs.declared.ask_fault.RunFault.TheVariants.{Program};
@@ -28,7 +26,7 @@ use crate::settling::tell_settled;
 use crate::state::State;
 use crate::{AskFault, AskKeys, AskOrder, Asker, Checks, Said};
 use encoding::Name;
-use memory::{EvidenceLine, Memory};
+use memory::Memory;
 use nodehash::NodeHash;
 use play::{Line, next_line, push_number, read_line};
 use sigiface::Verifier;
@@ -301,11 +299,7 @@ where
         ensures untold { OnErr result (report_of (self.new).said ≡ report_of (self.old).said) }
         ensures still { (self.new).state ≡ (self.old).state }
     {
-        let mut now = Said::new(self.alloc);
-        push_evidence(known.evidence(), &mut now.text)?;
-        if !known.evidence().is_empty() {
-            now.raise(REFUSED);
-        }
+        let mut now = evidence_said(self.alloc, known)?;
         if let Some(state) = self.state.as_ref() {
             state.explain_evidence(&mut now)?;
         }
@@ -633,15 +627,17 @@ where
     }
 }
 
-/// Appends the lines of evidence.
-fn push_evidence(evidence: &[EvidenceLine], text: &mut Vec<u8>) -> Result<(), AllocError>
-    ensures { OnOk result (text.new.items ≡ text.old.items ++ items_text (map Evidence evidence.now)) }
+/// What is said of the evidence of earlier runs.
+fn evidence_said(alloc: Global, known: &Memory) -> Result<Said, AllocError>
+    ensures { IfOk result (λ said. report_of said ≡ evidence_again known.now) }
 {
-    for line in evidence {
-        text.extend_from_slice(line.bytes())?;
-        text.push(b'\n')?;
+    let mut said = Said::new(alloc);
+    known.tell_evidence(&mut said.text)?;
+    if known.evidence().is_empty() {
+        return Ok(said);
     }
-    Ok(())
+    said.raise(REFUSED);
+    Ok(said)
 }
 
 /// Asks what a line says, or nothing if that asks nothing of a directory.

@@ -1,9 +1,10 @@
-ghost use Rattle.std.specs.Prelude.{◌≡◌, ◌≢◌, ◌+◌, ◌++◌, ℕ, List, length, All, Contains, IfOk, MatchBool, MatchOption, OnErr, OnOk};
+ghost use Rattle.std.specs.Prelude.{◌≡◌, ◌≢◌, ◌+◌, ◌++◌, ℕ, List, length, map, All, Contains, IfOk, MatchBool, MatchOption, OnErr, OnOk};
 ghost use Rattle.std.specs.Io.{StartsWith};
 ghost use Rattle.memory.specs.Leaving.{Leaves, Settles};
 ghost use Rattle.memory.specs.Memories.{nothing, HoldsEachOnce};
 ghost use Rattle.memory.specs.Taking.{Takes};
-ghost use Rattle.memory.specs.Texts.{memory_text, TellsAgain};
+ghost use Rattle.memory.specs.Texts.{items_text, memory_text, TellsAgain};
+ghost use Rattle.memory.specs.declared.item.Item.TheVariants.{Evidence};
 
 use crate::leaving::{drop_alarms, leave_promises};
 use crate::putting::{place_of_mark, put_alarm, put_evidence, put_mark, put_promised};
@@ -133,6 +134,18 @@ impl Memory {
         push_promises(text, &self.promises)?;
         push_marks(text, &self.marks)?;
         push_alarms(text, &self.alarms)?;
+        push_lines(text, &self.evidence)
+    }
+
+    /// Appends the lines of the evidence.
+    ///
+    /// # Errors
+    ///
+    /// `AllocError` if memory runs out. Then the text may have grown by a part of the lines.
+    pub fn tell_evidence(&self, text: &mut Vec<u8>) -> Result<(), AllocError>
+        ensures ok { OnOk result (text.new.items ≡ text.old.items ++ items_text (map Evidence self.now.evidence)) }
+        ensures grows { StartsWith text.new.items text.old.items }
+    {
         push_lines(text, &self.evidence)
     }
 
