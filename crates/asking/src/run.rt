@@ -300,10 +300,18 @@ where
         ensures still { (self.new).state ≡ (self.old).state }
     {
         let mut now = evidence_said(self.alloc, known)?;
-        if let Some(state) = self.state.as_ref() {
-            state.explain_evidence(&mut now)?;
-        }
+        self.explain_evidence(&mut now)?;
         self.said.join(now)
+    }
+
+    /// Says that evidence is of an earlier run, in lines of the errors.
+    fn explain_evidence(&self, said: &mut Said) -> Result<(), AllocError>
+        ensures { report_of said.new ≡ report_of said.old }
+    {
+        match self.state.as_ref() {
+            Some(state) => state.explain_evidence(said),
+            None => Ok(()),
+        }
     }
 
     /// What asks with the chain of the state, or gives back the checks if there is none yet.
