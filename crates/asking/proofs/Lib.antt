@@ -13,6 +13,7 @@ pub mod Placed
 pub mod Ran
 pub mod Recalling
 pub mod Rising
+pub mod Settled
 pub mod Stepped
 pub mod Stopped
 pub mod Telling

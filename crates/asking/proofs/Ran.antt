@@ -132,7 +132,7 @@ begins_at_head hash accepted verified exchanged key token HasNoState (Ok asker) 
 begins_at_head hash accepted verified exchanged key token HasNoState (Err why) stream stream' starts knows = tt
 
 -- it is told after nothing
-after_none : (told : Report) → told_after (emptied 0) told ≡ told
+pub after_none : (told : Report) → told_after (emptied 0) told ≡ told
 after_none told = ap (λ (n : ℕ). let t : Report = record { lines = told.lines; status = n } in t) (worse_none told.status)
 
 -- a run begins, if nothing was told before

@@ -15,10 +15,10 @@ use crate::watching::hand_one;
 use crate::{AskFault, Asker, Checks, Said};
 use client::{Client, Refusal};
 use encoding::{Hash32, KeyData, Name};
-use memory::{Alarm, Mark, Memory};
+use memory::{Alarm, Mark};
 use monitor::Monitor;
 use nodehash::NodeHash;
-use play::push_number;
+use play::{push_hex, push_number};
 use rootchain::{SignedPromise, SignedRoot, write_list};
 use sigiface::Verifier;
 use std::alloc::{AllocError, Global};
@@ -62,7 +62,7 @@ where
         ensures untold { OnErr result (report_of said.new ≡ report_of said.old) }
     {
         let mut now = alarms_said(self.alloc, &self.known, name)?;
-        explain_again(name, self.known.alarms(), &mut now)?;
+        explain_again(self.alloc, name, self.known.alarms(), &mut now)?;
         said.join(now)
     }
 
@@ -141,7 +141,7 @@ where
 }
 
 /// What is said of the alarms of a name that earlier runs told.
-fn alarms_said(alloc: Global, known: &Memory, name: &Name) -> Result<Said, AllocError>
+fn alarms_said(alloc: Global, known: &memory::Memory, name: &Name) -> Result<Said, AllocError>
     ensures { IfOk result (λ said. TellsAlarms name.now known.now (report_of said)) }
 {
     let mut said = Said::new(alloc);
@@ -154,18 +154,25 @@ fn alarms_said(alloc: Global, known: &Memory, name: &Name) -> Result<Said, Alloc
 }
 
 /// Says that the alarms of a name are of an earlier run, in lines of the errors.
-fn explain_again(name: &Name, alarms: &[Alarm], said: &mut Said) -> Result<(), AllocError>
+fn explain_again(
+    alloc: Global,
+    name: &Name,
+    alarms: &[Alarm],
+    said: &mut Said,
+) -> Result<(), AllocError>
     ensures { report_of said.new ≡ report_of said.old }
 {
+    let mut words = Vec::new(alloc);
     for alarm in alarms {
         if alarm.name == *name {
-            said.begin(b"watching ", name)?;
-            said.words.extend_from_slice(b" at epoch ")?;
-            push_number(&mut said.words, alarm.epoch)?;
-            said.words.extend_from_slice(b": alarm of an earlier run\n")?;
+            words.extend_from_slice(b"watching ")?;
+            push_hex(&mut words, name.bytes())?;
+            words.extend_from_slice(b" at epoch ")?;
+            push_number(&mut words, alarm.epoch)?;
+            words.extend_from_slice(b": alarm of an earlier run\n")?;
         }
     }
-    Ok(())
+    said.words.extend_from_slice(&words)
 }
 
 /// The first root whose epoch was not watched for a name in an earlier run.

@@ -79,7 +79,7 @@ where
         ensures err { IfErr result IsFaultOfState }
     {
         self.remember_lines(text, memory)?;
-        self.remember_marks(memory)?;
+        self.marks = copied_marks(self.alloc, memory.marks())?;
         self.known = read_lines(self.alloc, text)?;
         Ok(())
     }
@@ -200,18 +200,6 @@ where
         }
     }
 
-    /// Remembers how far names were watched in earlier runs.
-    fn remember_marks(&mut self, memory: &Memory) -> Result<(), AllocError>
-        ensures same { IsSameAsker self.old self.new }
-        ensures kept { ((self.new).client ≡ (self.old).client) × ((self.new).earlier ≡ (self.old).earlier) }
-    {
-        for mark in memory.marks() {
-            let (name, since, epoch) = (mark.name.copied(), mark.since, mark.epoch);
-            self.marks.push(Mark { name, since, epoch })?;
-        }
-        Ok(())
-    }
-
     /// The lines of the roots above an epoch.
     pub(crate) fn lines_after(&self, epoch: u64) -> Result<Vec<u8>, AllocError> {
         let mut text = Vec::new(self.alloc);
@@ -227,6 +215,16 @@ where
         }
         Ok(text)
     }
+}
+
+/// Copies of marks.
+fn copied_marks(alloc: Global, marks: &[Mark]) -> Result<Vec<Mark>, AllocError> {
+    let mut copies = Vec::new(alloc);
+    for mark in marks {
+        let (name, since, epoch) = (mark.name.copied(), mark.since, mark.epoch);
+        copies.push(Mark { name, since, epoch })?;
+    }
+    Ok(copies)
 }
 
 /// The memory that a text spells.

@@ -583,12 +583,33 @@ where
         ensures part { report_of (self.old).said ≡ emptied 0 → (known : Memory) × (count : ℕ) × (rest : List ℕ) × (settled_text known name.now count ≡ (self.new).said.text.items ++ rest) }
         ensures err { IfErr result IsFaultOfState }
     {
-        if let Ok(asker) = self.load(checks, keys)? {
-            self.tell_evidence(&asker.known)?;
-        }
+        self.recall(checks, keys)?;
         let count = self.drop_alarms(name)?;
         tell_settled(self.alloc, name, count, &mut self.said)?;
         Ok(())
+    }
+
+    /// Loads the state, and tells the evidence of earlier runs again.
+    fn recall<H, V, S>(
+        &mut self,
+        checks: Checks<H, V, S>,
+        keys: &AskKeys,
+    ) -> Result<(), ProgramFault>
+    where
+        H: NodeHash + Drop,
+        V: VufCheck + Drop,
+        S: Verifier + Drop,
+        ensures tells { OnOk result (report_of (self.old).said ≡ emptied 0 → (known : Memory) × (report_of (self.new).said ≡ evidence_again known)) }
+        ensures untold { OnErr result (report_of (self.new).said ≡ report_of (self.old).said) }
+        ensures err { IfErr result IsFaultOfState }
+    {
+        match self.load(checks, keys)? {
+            Ok(asker) => {
+                self.tell_evidence(&asker.known)?;
+                Ok(())
+            }
+            Err(_) => Ok(()),
+        }
     }
 
     /// Drops the alarms of a name from the files of the state. Returns how many there were.

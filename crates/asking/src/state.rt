@@ -70,11 +70,16 @@ fn whole_lines(bytes: &[u8]) -> &[u8]
 fn tell_file(said: &mut Said, path: &str, what: &[u8]) -> Result<(), AllocError>
     ensures { report_of said.new ≡ report_of said.old }
 {
-    said.words.extend_from_slice(b"state: ")?;
-    said.words.extend_from_slice(path.as_bytes())?;
-    said.words.extend_from_slice(b": ")?;
-    said.words.extend_from_slice(what)?;
-    said.words.push(b'\n')?;
+    push_words(&mut said.words, path, what)
+}
+
+/// Appends what is said of a file of the state.
+fn push_words(words: &mut Vec<u8>, path: &str, what: &[u8]) -> Result<(), AllocError> {
+    words.extend_from_slice(b"state: ")?;
+    words.extend_from_slice(path.as_bytes())?;
+    words.extend_from_slice(b": ")?;
+    words.extend_from_slice(what)?;
+    words.push(b'\n')?;
     Ok(())
 }
 
@@ -327,10 +332,11 @@ impl<'a> State<'a> {
     pub(crate) fn explain_evidence(&self, said: &mut Said) -> Result<(), AllocError>
         ensures { report_of said.new ≡ report_of said.old }
     {
+        let mut words = Vec::new(self.alloc);
         for _ in self.memory.evidence() {
-            tell_file(said, self.beside.as_str(), b"evidence of an earlier run")?;
+            push_words(&mut words, self.beside.as_str(), b"evidence of an earlier run")?;
         }
-        Ok(())
+        said.words.extend_from_slice(&words)
     }
 
     /// Adds the roots, the promises and the evidence that are new to what the files have. The text is what was told.

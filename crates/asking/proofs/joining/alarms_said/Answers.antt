@@ -5,8 +5,8 @@ use Rattle.asking.specs.declared.said.TheConstants.{ALARM}
 use Rattle.asking.proofs.Recalling.{status_none, status_some}
 use Rattle.asking.proofs.joining.alarms_said.Goals as goal
 
-pub returns-then-count : goal.returns-then-count
-returns-then-count c =
+pub returns-then-count-eq0 : goal.returns-then-count-eq0
+returns-then-count-eq0 c =
     let (added, text, tells) = c.in_ok-count.ensures.ok in
     let all : c.tell_again.new.text.items ≡ added = text ∙ ap (λ (xs : List ℕ). xs ++ added) c.new-said.ensures.text in
     let none : c.in_ok-count.count ≡ 0 = search rules in (

@@ -3,8 +3,8 @@ use Rattle.rootchain.specs.declared.signed_promise.SignedPromise.{SignedPromise}
 use Rattle.asking.proofs.Earlier.{keeps_change, keeps_more, pushed_on}
 use Rattle.asking.proofs.asker.Asker.keep_earlier.Goals as goal
 
-pub returns-then-not-is_own-clause-kept : goal.returns-then-not-is_own-clause-kept
-returns-then-not-is_own-clause-kept g c =
+pub returns-then-not-promised-clause-kept : goal.returns-then-not-promised-clause-kept
+returns-then-not-promised-clause-kept g c =
     keeps_more c.args.self.now.client c.keep_again.new.self.client c.in_ok-signed.signed c.args.self.now.earlier.items c.keep_again.new.self.earlier.items
     c.in_ok-signed.ensures.kept (ap (λ (all : Vec SignedPromise Global). all.items) c.keep_again.ensures.earlier)
 
