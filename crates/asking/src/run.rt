@@ -20,8 +20,8 @@ ghost use Rattle.asking.specs.Settling.{settled_text};
 ghost use Rattle.memory.specs.Memories.{Memory};
 
 use crate::ask_fault::RunFault;
-use crate::said::{ALARM, REFUSED};
 use crate::lines::lines_beginning;
+use crate::said::{ALARM, REFUSED};
 use crate::settling::tell_settled;
 use crate::state::State;
 use crate::{AskFault, AskKeys, AskOrder, Asker, Checks, Said};
@@ -603,13 +603,11 @@ where
         ensures untold { OnErr result (report_of (self.new).said ≡ report_of (self.old).said) }
         ensures err { IfErr result IsFaultOfState }
     {
-        match self.load(checks, keys)? {
-            Ok(asker) => {
-                self.tell_evidence(&asker.known)?;
-                Ok(())
-            }
-            Err(_) => Ok(()),
-        }
+        let Ok(asker) = self.load(checks, keys)? else {
+            return Ok(());
+        };
+        self.tell_evidence(&asker.known)?;
+        Ok(())
     }
 
     /// Drops the alarms of a name from the files of the state. Returns how many there were.

@@ -334,7 +334,11 @@ impl<'a> State<'a> {
     {
         let mut words = Vec::new(self.alloc);
         for _ in self.memory.evidence() {
-            push_words(&mut words, self.beside.as_str(), b"evidence of an earlier run")?;
+            push_words(
+                &mut words,
+                self.beside.as_str(),
+                b"evidence of an earlier run",
+            )?;
         }
         said.words.extend_from_slice(&words)
     }

@@ -31,7 +31,8 @@ pub(crate) fn leave_promises(promises: &mut Vec<Promised>, marks: &[Mark], teste
 fn is_needed(promised: &Promised, marks: &[Mark], tested: &[SignedPromise]) -> bool
     ensures { IsTrue result ↔ IsNeeded tested.now marks.now promised.now }
 {
-    is_untested(&promised.signed, tested) || promised.is_own && has_awaiting(&promised.signed, marks)
+    is_untested(&promised.signed, tested)
+        || promised.is_own && has_awaiting(&promised.signed, marks)
 }
 
 /// Whether a promise is not among these.

@@ -1,23 +1,15 @@
 use Rattle.asking.specs.AskOptions.{ask_values}
-use Rattle.asking.proofs.Ended.{err_so, unwritten}
-use Rattle.asking.proofs.Faulty.{grows_not}
 use Rattle.asking.proofs.Settled.{settled_fails, settled_faults, settled_runs}
 use Rattle.asking.proofs.running.ask_under.Goals as goal
 
 pub returns-in-Some-clause-runs : goal.returns-in-Some-clause-runs
 returns-in-Some-clause-runs g c = λ are.
-    settled_runs (ask_values c.args.order) (g.R.Read.remaining c.args.reader.now) c.in-Some.name.now (rw c.in-Some.is at c.in_ok-name_to_settle.ensures) (g.W.Write.contents c.args.writer.now) (g.W.Write.contents c.settle.new.writer) c.settle.result c.settle.ensures.settles
+    settled_runs (ask_values c.args.order) (g.R.Read.remaining c.args.reader.now) _ (rw c.in-Some.is at c.in_ok-name.ensures) (g.W.Write.contents c.args.writer.now) (g.W.Write.contents c.settle.new.writer) c.settle.result c.settle.ensures.settles
 
 pub returns-in-Some-clause-fails : goal.returns-in-Some-clause-fails
 returns-in-Some-clause-fails g c = λ are.
-    settled_fails (ask_values c.args.order) (g.R.Read.remaining c.args.reader.now) c.in-Some.name.now (rw c.in-Some.is at c.in_ok-name_to_settle.ensures) (g.W.Write.contents c.args.writer.now) (g.W.Write.contents c.settle.new.writer) c.settle.result c.settle.ensures.part
+    settled_fails (ask_values c.args.order) (g.R.Read.remaining c.args.reader.now) _ (rw c.in-Some.is at c.in_ok-name.ensures) (g.W.Write.contents c.args.writer.now) (g.W.Write.contents c.settle.new.writer) c.settle.result c.settle.ensures.part
 
 pub returns-in-Some-clause-faults : goal.returns-in-Some-clause-faults
 returns-in-Some-clause-faults g c =
-    settled_faults (ask_values c.args.order) (g.R.Read.remaining c.args.reader.now) c.in-Some.name.now (rw c.in-Some.is at c.in_ok-name_to_settle.ensures) (g.W.Write.contents c.args.writer.now) (g.W.Write.contents c.settle.new.writer) c.settle.result c.settle.ensures.err
-
-pub returns-in_err-name_to_settle-clause-fails : goal.returns-in_err-name_to_settle-clause-fails
-returns-in_err-name_to_settle-clause-fails g c = λ are. err_so _ (unwritten (ask_values c.args.order) (g.R.Read.remaining c.args.reader.now) (g.W.Write.contents c.args.writer.now))
-
-pub returns-in_err-name_to_settle-clause-grows : goal.returns-in_err-name_to_settle-clause-grows
-returns-in_err-name_to_settle-clause-grows g c = grows_not (g.W.Write.contents c.args.writer.now)
+    settled_faults (ask_values c.args.order) (g.R.Read.remaining c.args.reader.now) _ (rw c.in-Some.is at c.in_ok-name.ensures) (g.W.Write.contents c.args.writer.now) (g.W.Write.contents c.settle.new.writer) c.settle.result c.settle.ensures.err

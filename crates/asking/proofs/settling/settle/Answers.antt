@@ -1,5 +1,6 @@
 use Rattle.std.proofs.Common.{◌∙◌}
 use Rattle.memory.specs.Memories.{nothing}
+use Rattle.asking.specs.Settling.{settled_text, SettlesPart}
 use Rattle.asking.proofs.Ended.{err_so, some_not}
 use Rattle.asking.proofs.Faulty.{grows_not}
 use Rattle.asking.proofs.Settled.{settles_part, settles_so}
@@ -22,7 +23,10 @@ returns-in_err-written-clause-part g c =
     (c.settle_alarms-settled.ensures.part c.in_ok-run.ensures.said) c.write-written.ensures.some)
 
 pub returns-in_err-run-clause-part : goal.returns-in_err-run-clause-part
-returns-in_err-run-clause-part g c = err_so _ (nothing, 0, some_not (g.W.Write.contents c.args.writer.now) _)
+returns-in_err-run-clause-part g c =
+    let part : SettlesPart c.args.name.now (g.W.Write.contents c.args.writer.now) (g.W.Write.contents c.args.writer.now) =
+    (nothing, 0, some_not (g.W.Write.contents c.args.writer.now) (settled_text nothing c.args.name.now 0)) in
+    err_so _ part
 
 pub returns-in_err-run-clause-grows : goal.returns-in_err-run-clause-grows
 returns-in_err-run-clause-grows g c = grows_not (g.W.Write.contents c.args.writer.now)
