@@ -5,15 +5,14 @@ files of the state, the words and the status with what a model of the client com
     scripts/asks.py PROGRAM [--drawn N] [--lies N] [--seed N]
 
 The scripts are those of `play` without its lines about other sessions, and N drawn ones (40 unless given), asked of
-`directoryd listen`: what they print is the text of `play`. Then N runs (200 unless given) ask a directory that may lie:
-it alters or cuts a reply, signs another history, or breaks its promises. One more is silent. The last line is `N passed, M failed`, and the
-status is 0 where none failed.
+`directoryd listen`: what they print is the text of `play`. Then come N times (400 unless given) some runs over one
+state, of a directory that may lie: it alters or cuts a reply, answers with what was right earlier, signs another
+history, breaks its promises, or lets others change keys. The runs that are stored have to end as it says here too. One
+more directory is silent. The last line is `N passed, M failed`, and the status is 0 where none failed.
 """
 
 import argparse
 import contextlib
-import copy
-import itertools
 import os
 import pathlib
 import random
@@ -23,487 +22,18 @@ import subprocess
 import sys
 import tempfile
 import threading
-from dataclasses import replace
 
 sys.dont_write_bytecode = True
 
 import play_scripts
 import plays
 import sessions
+from ask_model import *
 from formats import *
+from liars import *
 from sessions import *
 
-PROVIDER = SIGNING_KEY
-OTHER_KEY = bytes([9]) * 32
 SECONDS = 60
-
-# A model of the client --------------------------------------------------------------------------------------
-
-
-class NoReply(Exception):
-    """No whole frame comes."""
-
-
-class Stopped(Exception):
-    """A root that has to be taken is refused."""
-
-
-class OtherReply(Exception):
-    """A root of an epoch that was not asked for."""
-
-
-class ReplyRefused(Refusal):
-    texts = {25: "the reply is not to what was asked", 26: "the name has another index"}
-
-
-WORDS = {
-    **FeedRefusal.texts,
-    **ReadRefusal.texts,
-    **DirectoryRefusal.texts,
-    12: "the token is not the operator's",
-    14: "out of memory",
-    19: "the record was not kept",
-}
-EXPECTED = {PROMISE: ("register", "change", "promise"), PROOF: ("lookup",), ROOTS: ("history",), ROOT: ("head", "close", "rotate")}
-
-
-def answers(request, kind, value):
-    """Whether a response is one to the request: of its kind, and about what it names."""
-    command, *words = request
-    if command not in EXPECTED.get(kind, ()):
-        return False
-    match request:
-        case "register" | "change", name, key:
-            return (value.promise.name, value.promise.key) == (name, key)
-        case "promise", name:
-            return value.promise.name == name
-        case "lookup", epoch, name:
-            return epoch in (0, value.body.epoch) and 1 <= len(name) <= MAX_NAME
-        case "history", start, count:
-            return len(value) <= count
-        case "close", _, epoch:
-            return value.epoch == epoch
-        case "rotate", _, epoch, nonce:
-            return (value.epoch, value.body.nonce) == (epoch, nonce)
-    return True
-
-
-class Asked:
-    """A run of `ask` against what a provider sends."""
-
-    def __init__(self, provider, roots=None, kept=()):
-        self.provider, self.text, self.words, self.status = provider, [], [], 0
-        self.monitors, self.marks, self.earlier, self.changes, self.client = [], {}, [], [], None
-        self.saved, self.kept = roots or [], list(kept)
-
-    def ask(self, *request):
-        """What the provider sends back, as a response that answers the request, or None where it is told why not."""
-        kind, body = self.provider.frame(request_frame(*request))
-        try:
-            value = read_response(kind, body)
-        except ReadRefusal as refusal:
-            return self.refuse("reply", refusal)
-        if kind == REFUSED:
-            self.text.append(f"refused {value}")
-            self.explain(f"refused {value}", WORDS.get(value, "no reason is known by this number"))
-            return None
-        if not answers(request, kind, value):
-            return self.refuse("reply", ReplyRefused(25))
-        return kind, value, body
-
-    def explain(self, line, words):
-        self.words.append(f"{line}: {words}")
-        self.status = max(self.status, 1)
-
-    def refuse(self, what, refusal, of=""):
-        """Tells a refusal of the client, behind its evidence. Its words begin with what it is of."""
-        if getattr(refusal, "evidence", None) is not None:
-            self.text.append(evidence_json(refusal.evidence))
-        self.text.append(f"client refuses {what} {refusal.number}")
-        self.explain(of + self.text[-1], refusal.text)
-
-    def begin(self):
-        """The client of the saved chain, or one that starts at the head."""
-        if self.saved:
-            self.client = Client(PROVIDER, self.saved[0], sha256, KeyedVuf(PROVIDER))
-            for root in self.saved[1:]:
-                self.client.update(write_list([SignedRoot.read(root)]))
-            for line in self.kept:
-                word, *words = line.split(" ")
-                if word in ("promise", "change"):
-                    self.client.keep_promise(bytes.fromhex(words[0]))
-                    if word == "change":
-                        self.earlier.append(self.client.promises[-1])
-                else:
-                    self.marks[bytes.fromhex(words[0])] = int(words[1])
-            return
-        got = self.ask("head")
-        if got is None:
-            raise Stopped
-        try:
-            self.client = Client(PROVIDER, got[2], sha256, KeyedVuf(PROVIDER))
-        except RootRefusal as refusal:
-            self.refuse("root", refusal)
-            raise Stopped from None
-        self.words.append(f"state: begins at epoch {self.client.head().epoch}")
-
-    def follow(self):
-        try:
-            self.take_new()
-        except Stopped:
-            self.words.append(f"no root is taken after epoch {self.client.head().epoch}")
-            raise
-
-    def take_new(self):
-        while (start := self.client.head().epoch + 1) <= MAX_EPOCH:
-            got = self.ask("history", start, MAX_ROOTS)
-            if got is None:
-                raise Stopped
-            if not got[1]:
-                return
-            for taker in [self.client, *self.monitors]:
-                try:
-                    taker.update(got[2])
-                except Refusal as refusal:
-                    self.refuse("root", refusal)
-                    raise Stopped from None
-            if self.client.head().epoch < start:
-                self.refuse("reply", ReplyRefused(25))
-                raise Stopped
-
-    def go_on(self):
-        for monitor in self.monitors:
-            self.steps(monitor)
-        self.test_promises()
-
-    def test_promises(self):
-        for signed in list(self.client.promises):
-            name = signed.promise.name
-            if name in self.marks and all(monitor.name != name for monitor in self.monitors):
-                continue
-            if (epoch := self.client.due_epoch(name)) is None:
-                continue
-            if (got := self.ask("lookup", epoch, name)) is None:
-                continue
-            try:
-                due = self.client.due(name, got[2])
-            except Refusal as refusal:
-                self.refuse("proof", refusal, f"promise for {name.hex()}: ")
-                continue
-            if due == OTHER_INDEX:
-                self.refuse("promise", ReplyRefused(26))
-            elif due != KEPT:
-                self.text.append(evidence_json(due))
-                self.explain(f"promise for {name.hex()}", "it was not kept")
-
-    def line(self, line):
-        if line == b"" or line.startswith(b"#"):
-            return
-        command, words = command_of(line)
-        if command in ("bytes", "end"):
-            raise NotACommand
-        if command == "watch":
-            return self.watch(*words)
-        before = self.client.head()
-        request = request_of(command, words)
-        got = self.ask(*request)
-        if got is not None:
-            self.check(request, *got)
-        if self.client.head() != before:
-            self.go_on()
-
-    def check(self, request, kind, value, body):
-        spoken = {PROMISE: lambda: value.promise.epoch, PROOF: lambda: value.body.epoch, ROOT: lambda: value.epoch}
-        if kind in spoken and spoken[kind]() > self.client.head().epoch:
-            self.follow()
-        line = response_line(kind, value)
-        try:
-            if kind == PROOF:
-                _, epoch, name = request
-                key = self.client.look(name, epoch, body)
-                line = f"absent {value.body.epoch}" if key is None else f"present {value.body.epoch} {key.hex()}"
-            elif kind == PROMISE:
-                self.client.keep_promise(body)
-                if request[0] != "promise":
-                    self.hand_out(value, body)
-            else:
-                self.places([value] if kind == ROOT else value, request)
-        except OtherReply:
-            return self.refuse("reply", ReplyRefused(25))
-        except Refusal as refusal:
-            return self.refuse({PROOF: "proof", PROMISE: "promise"}.get(kind, "root"), refusal)
-        self.text.append(line)
-
-    def places(self, roots, request):
-        for root in roots:
-            if request[0] == "history" and root.epoch < request[1]:
-                raise OtherReply
-            place = self.client.chain.place(root)
-            if isinstance(place, RootEvidence):
-                raise ClientRefusal(21, place)
-            if place != KNOWN and request[0] != "history":
-                raise RootRefusal(NOT_LATER if place == BEFORE_START else BAD_LINK)
-
-    def hand_out(self, signed, body):
-        self.changes.append(signed)
-        for monitor in self.monitors:
-            if monitor.name == signed.promise.name:
-                try:
-                    monitor.expect_change(signed.promise.key, body)
-                except Refusal:
-                    pass
-
-    def watch(self, name, key):
-        if not 1 <= len(name) <= MAX_NAME or len(key) > MAX_KEY:
-            raise NotACommand
-        first = self.client.head() if name not in self.marks else self.client.chain.after(self.marks[name])
-        if first is None:
-            return
-        client = Client(PROVIDER, first.write(), sha256, KeyedVuf(PROVIDER))
-        while (root := self.client.chain.after(client.head().epoch)) is not None:
-            client.update(write_list([root]))
-        promised = [signed for signed in self.earlier if signed.promise.name == name]
-        before = [signed for signed in promised if signed.promise.epoch < first.epoch]
-        start = max(before, key=lambda signed: signed.promise.epoch).promise.key if before else key or None
-        monitor = Monitor(client, name, start)
-        for signed in promised:
-            try:
-                monitor.expect_change(signed.promise.key, signed.write())
-            except Refusal:
-                pass
-        self.monitors.append(monitor)
-        self.steps(monitor)
-        self.test_promises()
-
-    def steps(self, monitor):
-        while (epoch := monitor.next_epoch()) is not None:
-            if (got := self.ask("lookup", epoch, monitor.name)) is None:
-                return
-            try:
-                step = monitor.step(got[2])
-            except Refusal as refusal:
-                return self.refuse("proof", refusal, f"watching {monitor.name.hex()} at epoch {epoch}: ")
-            self.text.append(step_line(monitor.name.hex(), epoch, step))
-            if step != KEPT:
-                self.status = 3
-
-    def state(self):
-        """The lines of the two files after the run."""
-        if self.client is None:
-            return [root.hex() for root in self.saved], self.kept
-        own = {signed.write() for signed in [*self.earlier, *self.changes]}
-        word = {True: "change", False: "promise"}
-        kept = [f"{word[signed.write() in own]} {signed.write().hex()}" for signed in self.client.promises]
-        marks = {}
-        for monitor in self.monitors:
-            chain, following = monitor.client.chain, monitor.next_epoch()
-            epoch = monitor.client.head().epoch if following is None else chain.at(following).body.previous_epoch
-            marks[monitor.name] = min(epoch, marks.get(monitor.name, epoch))
-        marks = {**self.marks, **marks}
-        kept += [f"watched {name.hex()} {epoch}" for name, epoch in marks.items()]
-        # A change is expected until its name was watched above the promise.
-        left = {signed.write() for signed in self.client.promises}
-        awaited = [
-            signed
-            for signed in [*self.earlier, *self.changes]
-            if signed.write() not in left and marks.get(signed.promise.name, MAX_EPOCH + 1) <= signed.promise.epoch
-        ]
-        kept += [f"change {signed.write().hex()}" for signed in awaited]
-        return [root.write().hex() for root in self.client.chain.roots], kept
-
-    def run(self, script):
-        """Asks the lines of a script."""
-        for _ in self.stages(script):
-            pass
-
-    def stages(self, script):
-        """The same, with a stop after the beginning and after each line."""
-        try:
-            self.begin()
-            self.follow()
-            self.test_promises()
-            yield
-            for place, line in enumerate(lines_of(script), 1):
-                try:
-                    self.line(line)
-                except NotACommand:
-                    self.words.append(f"line {place}: not a command")
-                    self.status = max(self.status, 1)
-                    return
-                yield
-        except NoReply:
-            self.words.append("no reply")
-            self.status = max(self.status, 1)
-        except Stopped:
-            self.status = max(self.status, 1)
-
-
-# Providers ----------------------------------------------------------------------------------------------------
-
-
-class Provider:
-    """A directory that answers frames, of which a lie may alter what is sent. The same one serves a connection and
-    the model."""
-
-    def __init__(self, lie=None):
-        self.hub = Hub(keyed_directory(1, ZERO32, SIGNING_KEY, VUF_KEY, SALT_KEY), TOKEN)
-        self.hub.open(0)
-        self.lie = lie
-        self.begin()
-
-    def begin(self):
-        """Begins a connection."""
-        self.count, self.is_cut, self.rest = 0, False, b""
-        self.hub.feeds[0] = Feed()
-
-    def copied(self):
-        """Another one that answers alike."""
-        directory = self.hub.directory
-        drawn, directory.salts = directory.salts, None
-        other = copy.deepcopy(self)
-        directory.salts, other.hub.directory.salts = itertools.tee(drawn)
-        return other
-
-    def answer(self, request):
-        """The bytes that are sent for the frame of a request. The connection may then be cut."""
-        reply = self.hub.bytes(0, request)
-        self.count += 1
-        return reply if self.lie is None else self.lie(self, request, reply)
-
-    def frame(self, request):
-        """The next frame, as the model of the client gets it."""
-        if not self.is_cut:
-            self.rest += self.answer(request)
-        found, _, bad = split_frames(self.rest)
-        if bad or not found:
-            raise NoReply
-        self.rest = self.rest[5 + len(found[0][1]) :]
-        return found[0]
-
-    def serve(self, connection):
-        with connection:
-            stream = b""
-            while not self.is_cut and (piece := connection.recv(65536)):
-                found, _, _ = split_frames(stream + piece)
-                size = sum(5 + len(body) for _, body in found)
-                for kind, body in found:
-                    if not self.is_cut:
-                        connection.sendall(self.answer(frame(kind, body)))
-                stream = (stream + piece)[size:]
-
-
-def altered(place, seed):
-    """Alters one byte behind the length of the reply of this number, or takes one away at its end."""
-
-    def lie(provider, _request, reply):
-        if provider.count != place:
-            return reply
-        rng = random.Random(seed)
-        body = bytearray(reply[4:])
-        match rng.randrange(4):
-            case 0:
-                body[rng.randrange(len(body))] ^= 1 << rng.randrange(8)
-            case 1:
-                body[rng.randrange(min(len(body), 12))] ^= 1 << rng.randrange(8)
-            case 2:
-                body[0] = rng.choice([0x81, 0x82, 0x83, 0x84, 0xFF, rng.randrange(256)])
-            case 3:
-                body = body[:-1] or bytearray(1)
-        return u32(len(body)) + bytes(body)
-
-    return lie
-
-
-def cut(place, seed):
-    """Cuts the connection within the reply of this number."""
-
-    def lie(provider, _request, reply):
-        if provider.count != place:
-            return reply
-        provider.is_cut = True
-        return reply[: random.Random(seed).randrange(len(reply))]
-
-    return lie
-
-
-def bad_length(place, seed):
-    """Sends a length that no frame has, or one that is longer than what comes."""
-
-    def lie(provider, _request, reply):
-        if provider.count != place:
-            return reply
-        provider.is_cut = True
-        size = random.Random(seed).choice([0, 65537, 2**32 - 1, 60000])
-        return u32(size) + reply[4:]
-
-    return lie
-
-
-def replayed(place, _seed):
-    """From this reply on, answers each request of a kind by the first reply to one of that kind."""
-    seen = {}
-
-    def lie(provider, request, reply):
-        first = seen.setdefault(request[4], reply)
-        return first if provider.count >= place else reply
-
-    return lie
-
-
-def forked(place, seed):
-    """From this reply on, all roots are those of another history, under the provider's key or another one."""
-
-    def lie(provider, request, reply):
-        if provider.count == place:
-            rng = random.Random(seed)
-            key = rng.choice([SIGNING_KEY, SIGNING_KEY, OTHER_KEY])
-            provider.hub.directory = fork(provider.hub.directory, key, rng)
-            provider.hub.feeds[0] = Feed()
-            return provider.hub.bytes(0, request)
-        return reply
-
-    return lie
-
-
-def fork(directory, key, rng):
-    """A directory with the same epochs, whose first page from some place on has another nonce."""
-    other = keyed_directory(1, rng.choice([ZERO32, bytes([7]) * 32]), key, VUF_KEY, SALT_KEY)
-    for page in directory.pages[1:]:
-        other.rotate(page.epoch, bytes([rng.randrange(2)]) * 32)
-    return other
-
-
-def forgetful(_place, _seed):
-    """Drops all that waits before each closing, so that no promise is kept."""
-
-    def lie(provider, _request, reply):
-        provider.hub.directory.waiting = {}
-        return reply
-
-    return lie
-
-
-def older_first(place, _seed):
-    """From this reply on, a list of roots has the directory's first root in front, which a client passes over as known."""
-
-    def lie(provider, _request, reply):
-        [(kind, body)], _, _ = split_frames(reply)
-        if kind != ROOTS or provider.count < place:
-            return reply
-        roots = read_response(kind, body)
-        if not 1 <= len(roots) < MAX_ROOTS or roots[0].body.epoch == 1:
-            return reply
-        return frame(ROOTS, write_list([provider.hub.directory.pages[0].root, *roots]))
-
-    return lie
-
-
-def nothing(_place, _seed):
-    """No lie."""
-    return None
-
-
-LIES = nothing, altered, altered, altered, cut, bad_length, replayed, forked, forgetful, older_first
 
 # Runs ---------------------------------------------------------------------------------------------------------
 
@@ -533,8 +63,9 @@ def asking(program, state, address, *words):
 def ran(program, provider, script, state, words=(), **how):
     """What the program does at a provider: output, words and status."""
     with answering(provider) as address:
-        run = subprocess.run(asking(program, state, address, *words), input=script, capture_output=True, timeout=SECONDS + 30, **how)
-    return run.stdout.decode().splitlines(), run.stderr.decode().splitlines(), run.returncode
+        how = {"stdout": subprocess.PIPE, "stderr": subprocess.PIPE, "timeout": SECONDS + 30, **how}
+        run = subprocess.run(asking(program, state, address, *words), input=script, **how)
+    return (run.stdout or b"").decode().splitlines(), run.stderr.decode().splitlines(), run.returncode
 
 
 def paths(state):
@@ -569,18 +100,29 @@ def difference(name, program, make_lie, runs):
 def otherwise(program, provider, other, script, state, words=()):
     """What the program does otherwise at a provider than the model at another one with the same answers, or None."""
     said, (roots, kept) = cut_off(state), files_of(state)
-    model = Asked(other, [bytes.fromhex(root) for root in roots], kept)
-    model.run(script)
+    model = Asked(other, [bytes.fromhex(root) for root in roots], kept, state)
+    model.run(script, words)
     got = ran(program, provider, b"" if words else script, state, words)
     wanted = model.text, [*said, *model.words], model.status
     for what, a, b in zip(("output", "words", "status"), wanted, got):
         if a != b:
             return f"{what}: wanted {a!r}, got {b!r}"
-    # The lines of the second file come in any order, and a promise that was given twice is one.
-    (roots, kept), files = model.state(), files_of(state)
-    if (roots, set(kept)) != (files[0], set(files[1])):
-        return f"state: wanted {kept}, {len(roots)} roots, got {files[1]}, {len(files[0])} roots"
+    # The lines of the second file come in any order, and a promise that was given twice is one. A line of the older
+    # form stays until the file is written anew.
+    (roots, after), files = model.state(), files_of(state)
+    newly = {line for line in files[1] if is_older_form(line)} - set(kept)
+    if newly or (roots, set(after)) != (files[0], set(map(newer_form, files[1]))):
+        return f"state: wanted {after}, {len(roots)} roots, got {files[1]}, {len(files[0])} roots"
     return None
+
+
+def is_older_form(line):
+    return re.fullmatch("watched [0-9a-f]+ [0-9]+", line) is not None
+
+
+def newer_form(line):
+    """A mark of the older form says nothing of what was watched before it."""
+    return f"{line} {line.split(' ')[2]}" if is_older_form(line) else line
 
 
 def is_of_other_sessions(line):
@@ -621,82 +163,331 @@ def honest(program, drawn, seed):
             yield None
 
 
+NAMES, KEYS = ("61", "62", "616c696365"), ("6b31", "6b32", "6b33")
+
+
+def drawn_line(rng, epoch):
+    name, key = rng.choice(NAMES), rng.choice(KEYS)
+    return rng.choice([
+        f"register {name} {key}", f"register {name} {key}", f"change {name} {key}", f"promise {name}",
+        f"lookup {name} {rng.choice([0, 0, 1, epoch])}", "head", f"history {rng.choice([0, 1, epoch])} 64",
+        f"close {epoch}", f"close {epoch}", f"rotate {epoch} {'05' * 32}", f"watch {name} {key}", f"watch {name} -",
+    ])
+
+
+def owner_line(rng, epoch):
+    """What an owner does who changes one key to and fro."""
+    key = rng.choice(KEYS[:2])
+    return rng.choice([
+        "register 61 6b31", f"change 61 {key}", f"change 61 {key}", f"change 61 {key}", "promise 61", "lookup 61 0", "head",
+        f"close {epoch}", f"close {epoch}", f"close {epoch}", "watch 61 6b31", f"watch 61 {key}",
+    ])
+
+
 def drawn_runs(rng):
-    """Some runs over one state: commands of a few names, and a closing now and then."""
-    runs, epoch = [], 1
-    for _ in range(rng.randrange(1, 4)):
+    """Some runs over one state: commands of a few names, or of one owner, and a closing now and then. Alarms are
+    settled between them."""
+    runs, epoch, line = [], 1, rng.choice([drawn_line, owner_line, owner_line])
+    for _ in range(rng.randrange(1, 6)):
         lines = []
         for _ in range(rng.randrange(1, 7)):
-            name, key = rng.choice(["61", "62", "616c696365"]), rng.choice(["6b31", "6b32", "6b33"])
             epoch += rng.randrange(1, 3)
-            lines.append(rng.choice([
-                f"register {name} {key}", f"register {name} {key}", f"change {name} {key}", f"promise {name}",
-                f"lookup {name} {rng.choice([0, 0, 1, epoch])}", "head", f"history {rng.choice([0, 1, epoch])} 64",
-                f"close {epoch}", f"close {epoch}", f"rotate {epoch} {'05' * 32}", f"watch {name} {key}", f"watch {name} -",
-            ]))
-        script = "".join(f"{line}\n" for line in lines).encode()
-        runs.append((script, ()) if rng.randrange(3) else (lines[0].encode(), lines[0].split(" ")))
+            lines.append(line(rng, epoch))
+        if line == owner_line and not runs:
+            lines = ["register 61 6b31", f"close {epoch + 1}", "watch 61 6b31", *lines]
+        elif line == owner_line and rng.randrange(3):
+            lines = [f"close {epoch + 1}", "watch 61 6b31", *lines]
+        runs.append(run_of_words(lines[0]) if runs and rng.randrange(3) == 0 else run_of_lines(*lines))
+        if rng.randrange(5) == 0:
+            runs.append(run_of_words(f"settle {rng.choice(NAMES[:2])}"))
     return runs
+
+
+def run_of_lines(*lines):
+    """A script, and no words."""
+    return "".join(f"{line}\n" for line in lines).encode(), ()
+
+
+def run_of_words(line):
+    """The words of a line. As a script they are that line."""
+    return line.encode(), line.split(" ")
 
 
 def lying(program, lies, seed):
     for each in range(seed, seed + lies):
         rng = random.Random(each)
         runs, lie = drawn_runs(rng), rng.choice(LIES)
-        place, other = rng.randrange(1, 12), rng.randrange(2**32)
-        yield difference(f"{lie.__name__} {each}", program, lambda: lie(place, other), runs)
+        first, place, other = rng.randrange(1, 4), rng.choice([rng.randrange(1, 12), rng.randrange(1, 4)]), rng.randrange(2**32)
+        yield difference(f"{lie.__name__} {each}", program, lambda: from_run(first, lie(place, other)), runs)
 
 
-def robbed_unseen():
-    """Somebody else changes the key of a watched name, and the list with the new root begins with an older one."""
-    older, robbed = older_first(1, 0), False
+# Stored runs ----------------------------------------------------------------------------------------------------
+
+
+class Ending(NamedTuple):
+    """What a run prints, its status, and its words, where FILE is `FILE`."""
+
+    text: list
+    status: int
+    words: list
+
+
+def lies(*cases):
+    """What a directory does in some runs: in the run of a number, with the replies to a command, or with the first
+    reply where there is no command. It may send something else."""
 
     def lie(provider, request, reply):
-        nonlocal robbed
-        if request[4] == REQUEST_KINDS["lookup"] and not robbed:
-            robbed = True
-            provider.hub.open(1)
-            provider.hub.bytes(1, request_frame("change", b"a", b"ev"))
-        return older(provider, request, reply)
+        for run, command, act in cases:
+            if provider.runs == run and (provider.count == 1 if command is None else is_of(request, command)):
+                reply = act(provider, request, reply)
+        return reply
 
-    return lie
+    return lambda: lie
 
 
-def late_proof():
-    """The first proof of epoch 3 is altered."""
-    altered_once = False
-
-    def lie(_provider, request, reply):
-        nonlocal altered_once
-        if altered_once or request[4] != REQUEST_KINDS["lookup"] or read_response(reply[4], reply[5:]).body.epoch != 3:
-            return reply
-        altered_once = True
-        return reply[:-1] + bytes([reply[-1] ^ 1])
-
-    return lie
+def key_is_robbed(provider, _request, reply):
+    rob(provider, b"a")
+    return reply
 
 
-WATCH = b"watch 61 6b31", ["watch", "61", "6b31"]
+def root_1_is_in_front(provider, request, reply):
+    return with_older(provider, request, reply, 0)
+
+
+def memory_runs_out(_provider, _request, _reply):
+    return response_frame(REFUSED, 14)
+
+
+def is_first_of(epoch, provider, request):
+    """Whether this is the first look-up of an epoch."""
+    is_first = words_of(request)[0] == epoch and epoch not in provider.noted
+    provider.noted.add(words_of(request)[0])
+    return is_first
+
+
+def memory_runs_out_at(epoch):
+    """The first look-up of an epoch finds no memory."""
+    return lambda provider, request, reply: response_frame(REFUSED, 14) if is_first_of(epoch, provider, request) else reply
+
+
+def memory_runs_out_for(epoch):
+    """No look-up of an epoch finds memory."""
+    return lambda provider, request, reply: response_frame(REFUSED, 14) if words_of(request)[0] == epoch else reply
+
+
+def proof_is_altered_at(epoch):
+    """The first proof of an epoch is altered."""
+    return lambda provider, request, reply: flipped(reply, len(reply) - 1) if is_first_of(epoch, provider, request) else reply
+
+
+def promise_is_of_epoch_3(provider, _request, reply):
+    return frame(PROMISE, over(provider, provider.hub.directory.page(3), read_response(reply[4], reply[5:])).write())
+
+
+def head_is_root_1(provider, _request, _reply):
+    return frame(ROOT, provider.hub.directory.pages[0].root.write())
+
+
+def change_is_taken_again(provider, request, _reply):
+    provider.hub.directory.waiting.clear()
+    return provider.hub.bytes(0, request)
+
+
+def epochs_end(provider, request, _reply):
+    """One ends before the reply, and one behind it."""
+    close(provider)
+    reply = provider.hub.bytes(0, request)
+    close(provider)
+    return reply
+
+
+def directory_goes_back(epochs):
+    def act(provider, request, _reply):
+        begin_anew(provider, b"a", epochs)
+        return provider.hub.bytes(0, request)
+
+    return act
+
+
+def nothing_is_kept(provider, _request, reply):
+    provider.hub.directory.waiting.clear()
+    return reply
+
+
+def root_2(key):
+    """The root of epoch 2 of a directory that was given this key for the name."""
+    directory = keyed_directory(1, ZERO32, SIGNING_KEY, VUF_KEY, SALT_KEY)
+    directory.register(b"a", key)
+    return directory.close(2)
+
+
+def list_is_forked_and_older(provider, _request, _reply):
+    return frame(ROOTS, write_list([root_2(EVIL), provider.hub.directory.pages[0].root]))
+
+
+def promise_and_root():
+    """The evidence of a promise that was not kept."""
+    directory = keyed_directory(1, ZERO32, SIGNING_KEY, VUF_KEY, SALT_KEY)
+    promise = directory.register(b"a", b"k1")
+    directory.waiting.clear()
+    return evidence_json(BrokenPromise(promise, directory.close(2), directory.lookup(b"a", 2).write()))
+
+
+BEGUN_LINES = "register 61 6b31", "close 2", "watch 61 6b31"
+BEGUN = run_of_lines(*BEGUN_LINES)
+WATCH, SETTLE = run_of_words("watch 61 6b31"), run_of_words("settle 61")
+REPLY_25 = "client refuses reply 25: the reply is not to what was asked"
+ROOT_3 = "client refuses root 3: the epoch is not above that of the head of the chain"
+ROOT_21 = "client refuses root 21: the root contradicts the chain"
+NO_MEMORY = "refused 14: out of memory"
+ALARM, EARLIER_ALARM = "alarm 61 3 6576", "watching 61 at epoch 3: alarm of an earlier run"
+FORKED = evidence_json(RootEvidence(FORK, root_2(b"k1"), root_2(EVIL)))
+EARLIER_EVIDENCE = "state: FILE.kept: evidence of an earlier run"
+
+# Of a name: what the directory does, the runs over one state, and how the last of them ends.
 STORED_LIES = {
-    # The mark is no further than the chain of the monitor, so the next run finds the change.
+    # 1. A list of new roots with an older one is refused before client or monitor takes any of it, so the mark is no
+    # further than the monitors' chains, and a later run finds the change.
     "an epoch that no monitor looked at": (
-        robbed_unseen, [(b"register 61 6b31\nclose 2\nclose 3\nwatch 61 6b31\nclose 4\n", ()), WATCH], ["alarm 61 4 6576"]),
-    # The change stays expected until it was watched, though its promise was tested.
-    "a change whose monitor was held up": (
-        late_proof, [(b"register 61 6b31\nclose 2\nwatch 61 6b31\nchange 61 6b32\nclose 3\n", ()), WATCH], ["kept 61 3"]),
+        lies((2, None, key_is_robbed), (2, "history", root_1_is_in_front)),
+        [run_of_lines("register 61 6b31", "close 2", "close 3"), run_of_lines("watch 61 6b31", "close 4")],
+        Ending(["kept 61 3", "client refuses reply 25"], 1, [REPLY_25, "no root is taken after epoch 3"]),
+    ),
+    "an epoch that is watched later": (
+        lies((2, None, key_is_robbed), (2, "history", root_1_is_in_front)),
+        [run_of_lines("register 61 6b31", "close 2", "close 3"), run_of_lines("watch 61 6b31", "close 4"), WATCH],
+        Ending(["alarm 61 4 6576"], 3, []),
+    ),
+    "an older root among new ones, and no monitor": (
+        lies((2, "history", root_1_is_in_front)),
+        [BEGUN, run_of_lines("close 3", "lookup 61 0")],
+        Ending(["client refuses reply 25"], 1, [REPLY_25, "no root is taken after epoch 2"]),
+    ),
+    "evidence in a list with an older root": (
+        lies((2, "history", list_is_forked_and_older)),
+        [BEGUN, run_of_words("history 2 64")],
+        Ending(["client refuses reply 25"], 1, [REPLY_25]),
+    ),
+    # 2. The change stays expected until it was watched, though its promise was tested.
+    "a change whose first monitor was held up": (
+        lies((2, "lookup", memory_runs_out_for(4))),
+        [run_of_lines("register 61 6b31", "close 2", "change 61 6b32"), run_of_lines("close 3", "close 4", "watch 61 6b31"), WATCH],
+        Ending(["kept 61 4"], 0, []),
+    ),
+    "a change whose monitor was held up twice": (
+        lies((1, "lookup", memory_runs_out_at(3)), (2, None, memory_runs_out)),
+        [run_of_lines("register 61 6b31", "close 2", "watch 61 6b31", "change 61 6b32", "close 3"), WATCH],
+        Ending(["refused 14", "kept 61 3"], 1, [NO_MEMORY]),
+    ),
+    "two changes whose monitor was held up, in a file that was written anew": (
+        lies((2, "lookup", memory_runs_out_for(3))),
+        [
+            BEGUN,
+            run_of_lines("close 3", "watch 61 6b31", "change 61 6b32", "register 62 6b31", "close 4", "change 61 6b33"),
+            run_of_lines("close 5", "watch 61 6b31"),
+        ],
+        Ending(["root 5 after 4", "kept 61 3", "kept 61 4", "kept 61 5"], 0, []),
+    ),
+    "a change whose proof came late": (
+        lies((1, "lookup", proof_is_altered_at(3))),
+        [run_of_lines("register 61 6b31", "close 2", "watch 61 6b31", "change 61 6b32", "close 3"), WATCH],
+        Ending(["kept 61 3"], 0, []),
+    ),
+    # 3. What answers is not older than the head, and a monitor's refusal is told.
+    "an old promise for a change": (
+        lies((2, "change", promise_is_of_epoch_3)),
+        [
+            run_of_lines(
+                *BEGUN_LINES, "change 61 6b32", "close 3", "change 61 6b31", "close 4", "change 61 6b32", "close 5"),
+            run_of_words("change 61 6b31"),
+        ],
+        Ending(["client refuses reply 25"], 1, [REPLY_25]),
+    ),
+    "an old promise that is asked for": (
+        lies((2, "promise", promise_is_of_epoch_3)),
+        [run_of_lines("register 61 6b31", "close 2", "close 3", "close 4", "change 61 6b32"), run_of_words("promise 61")],
+        Ending(["client refuses reply 25"], 1, [REPLY_25]),
+    ),
+    "an old root as the latest": (
+        lies((2, "head", head_is_root_1)),
+        [run_of_lines("close 2", "close 3", "close 4"), run_of_words("head")],
+        Ending(["client refuses root 3"] * 2, 1, [ROOT_3] * 2),
+    ),
+    "two changes of one epoch": (
+        lies((2, "change", change_is_taken_again)),
+        [BEGUN, run_of_lines("close 3", "watch 61 6b31", "change 61 6b32", "change 61 6b33")],
+        Ending(["root 3 after 2", "kept 61 3", "promise 3", "promise 3", "client refuses promise 24"], 1, [
+            "watching 61: client refuses promise 24: the promise is not one of this change, or comes too late"]),
+    ),
+    # 4. A look-up of the latest epoch is checked under the root of its own.
+    "an epoch that ends behind a look-up": (
+        lies((2, "lookup", epochs_end)),
+        [run_of_lines("register 61 6b31", "close 2"), run_of_words("lookup 61 0")],
+        Ending(["present 3 6b31"], 0, []),
+    ),
+    # 5. Each run sees where the directory's head stands.
+    "a directory that went back": (
+        lies((2, None, directory_goes_back(1))),
+        [run_of_lines("register 61 6b31", "close 2", "close 3", "watch 61 6b31"), WATCH],
+        Ending([FORKED, "client refuses root 21"], 1, [ROOT_21]),
+    ),
+    "a directory that went back to a known root": (
+        lies((2, None, directory_goes_back(0))),
+        [run_of_lines("register 61 6b31", "close 2", "close 3", "watch 61 6b31"), WATCH],
+        Ending(["client refuses root 3"], 1, [ROOT_3]),
+    ),
+    # 6. Alarms are told until they are settled, and evidence for good.
+    "an alarm that was told": (
+        lies((2, None, key_is_robbed)),
+        [BEGUN, run_of_lines("close 3", "watch 61 6b31"), WATCH],
+        Ending([ALARM], 3, [EARLIER_ALARM]),
+    ),
+    "an alarm, and new epochs": (
+        lies((2, None, key_is_robbed)),
+        [BEGUN, run_of_lines("close 3", "watch 61 6b31"), run_of_lines("close 4", "watch 61 6576", "watch 61 6b31")],
+        Ending(["root 4 after 3", ALARM, "kept 61 4", ALARM, "alarm 61 4 6576"], 3, [EARLIER_ALARM] * 2),
+    ),
+    "an alarm that is settled": (
+        lies((2, None, key_is_robbed)),
+        [BEGUN, run_of_lines("close 3", "watch 61 6b31"), SETTLE],
+        Ending(["settled 61 1"], 0, []),
+    ),
+    "an alarm that was settled": (
+        lies((2, None, key_is_robbed)),
+        [BEGUN, run_of_lines("close 3", "watch 61 6b31"), run_of_words("settle 62"), SETTLE, WATCH],
+        Ending([], 0, []),
+    ),
+    "evidence that was told": (
+        lies((2, None, directory_goes_back(1))),
+        [run_of_lines("register 61 6b31", "close 2", "close 3", "watch 61 6b31"), WATCH, SETTLE],
+        Ending([FORKED, "settled 61 0"], 1, [EARLIER_EVIDENCE]),
+    ),
+    "a broken promise that was told": (
+        lies((1, "register", nothing_is_kept)),
+        [run_of_lines("register 61 6b31", "close 2"), SETTLE],
+        Ending([promise_and_root(), "settled 61 0"], 1, [EARLIER_EVIDENCE]),
+    ),
 }
 
 
 def stored_lies(program):
-    """Runs over one state in which a directory cheats, and what the last one has to print."""
-    for name, (make_lie, runs, last) in STORED_LIES.items():
+    """Runs over one state in which a directory cheats, and how the last one has to end."""
+    for name, (make_lie, runs, ending) in STORED_LIES.items():
         yield difference(name, program, make_lie, runs)
-        provider, text = Provider(make_lie()), None
         with tempfile.TemporaryDirectory() as folder:
-            for script, words in runs:
-                provider.begin()
-                text, _, _ = ran(program, provider, b"" if words else script, f"{folder}/state", words)
-        yield None if text == last else f"{name}: the last run wanted {last}, got {text}"
+            got = last_ending(program, make_lie, runs, f"{folder}/state")
+        yield None if got == ending else f"{name}: the last run wanted {ending}, got {got}"
+
+
+def last_ending(program, make_lie, runs, state):
+    provider = Provider(make_lie())
+    for script, words in runs:
+        provider.begin()
+        text, said, status = ran(program, provider, b"" if words else script, state, words)
+    return Ending(text, status, [line.replace(state, "FILE") for line in said])
+
+
+# Other runs -----------------------------------------------------------------------------------------------------
 
 
 def silent(program):
@@ -786,13 +577,80 @@ def input_of_others(program):
     return None if got == [(b"root 1 after 0\n", b"", 0), (b"", b"bad hex\n", 1)] else f"an input without end: {got}"
 
 
-OTHERS = changed_by_another, alarm_unwritten, change_unwritten, alarm_and_fault, line_by_line, input_of_others
+def evidence_unwritten(program):
+    """Evidence that could not be written is kept."""
+    provider = Provider(lies((2, None, directory_goes_back(1)))())
+    with tempfile.TemporaryDirectory() as folder, open("/dev/full", "wb") as full:
+        for (script, words), how in ((BEGUN, {}), (WATCH, {"stdout": full}), (SETTLE, {})):
+            provider.begin()
+            got = ran(program, provider, b"" if words else script, f"{folder}/state", words, **how)
+    return None if got[::2] == ([FORKED, "settled 61 0"], 1) else f"evidence that was not written: {got}"
+
+
+def older_form(program):
+    """A mark of the older form is read as one that says nothing of earlier epochs, and is written in the new form."""
+    provider, found = Provider(), []
+    with tempfile.TemporaryDirectory() as folder:
+        state = f"{folder}/state"
+        for script, words in (BEGUN, run_of_words("head"), run_of_lines("close 3", "watch 61 6b31")):
+            provider.begin()
+            ran(program, provider, b"" if words else script, state, words)
+            found.append(files_of(state)[1])
+            if len(found) == 1:
+                paths(state)[1].write_text("watched 61 2\n")
+    wanted = [["watched 61 1 2"], ["watched 61 2 2"], ["watched 61 2 3"]]
+    return None if found == wanted else f"a mark of the older form: wanted {wanted}, got {found}"
+
+
+def settled_alone(program):
+    """The directory is not asked, so it need not be there."""
+    provider = Provider(lies((2, None, key_is_robbed))())
+    with tempfile.TemporaryDirectory() as folder:
+        for script, _ in (BEGUN, run_of_lines("close 3", "watch 61 6b31")):
+            provider.begin()
+            ran(program, provider, script, f"{folder}/state")
+        order = asking(program, f"{folder}/state", "127.0.0.1:1", "settle", "61")
+        run = subprocess.run(order, capture_output=True, timeout=SECONDS)
+    got = run.stdout, run.stderr, run.returncode
+    return None if got == (b"settled 61 1\n", b"", 0) else f"settle without a directory: {got}"
+
+
+BAD_SETTLES = ["settle"], ["settle", "6"], ["settle", "0g"], ["settle", "-"], ["settle", "61" * 256], ["settle", "61", "61"]
+
+
+def settled_badly(program):
+    """Without a state, without a good name, with more words or in a script it is not a command, and nothing is dropped."""
+    provider = Provider(lies((2, None, key_is_robbed))())
+
+    def ended(has_state, script, *words):
+        provider.begin()
+        state = ["--state", f"{folder}/state"] if has_state else []
+        with answering(provider) as address:
+            order = [program, "ask", "--provider", PROVIDER.hex(), *state, address, *words]
+            run = subprocess.run(order, input=script, capture_output=True, timeout=SECONDS)
+        return run.stdout, run.stderr.splitlines()[-1:], run.returncode
+
+    with tempfile.TemporaryDirectory() as folder:
+        for script in (BEGUN[0], b"close 3\nwatch 61 6b31\n"):
+            ended(True, script)
+        before = files_of(f"{folder}/state")
+        found = [ended(True, b"", *words) for words in BAD_SETTLES]
+        found += [ended(True, b"settle 61\n"), ended(False, b"settle 61\n"), ended(False, b"", "settle", "61")]
+        after = files_of(f"{folder}/state")
+    wanted = [(b"", [b"line 1: not a command"], 1)] * len(found)
+    return None if (found, after) == (wanted, before) else f"a bad settle: {found}, {before}, {after}"
+
+
+OTHERS = (
+    changed_by_another, alarm_unwritten, change_unwritten, alarm_and_fault, line_by_line, input_of_others,
+    evidence_unwritten, older_form, settled_alone, settled_badly,
+)
 
 
 def main():
     parser = argparse.ArgumentParser(usage=__doc__)
     parser.add_argument("program")
-    for name, default in ("--drawn", 40), ("--lies", 200), ("--seed", 1):
+    for name, default in ("--drawn", 40), ("--lies", 400), ("--seed", 1):
         parser.add_argument(name, type=int, default=default)
     words = parser.parse_args()
     program = os.path.abspath(words.program)

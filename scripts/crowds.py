@@ -8,7 +8,9 @@
     scripts/crowds.py HOST:PORT deaf                  one that asks and takes no reply, others beside it, and then its replies
     scripts/crowds.py HOST:PORT resets COUNT          COUNT clients that reset their connections, and one beside them
     scripts/crowds.py HOST:PORT idle SECONDS          silent clients are closed after so long, and one that asks is not
-    scripts/crowds.py HOST:PORT late SECONDS          a client that is answered in a round longer than so long asks again
+    scripts/crowds.py HOST:PORT late SECONDS          a client that is answered in a round longer than so long asks again, and
+                                                      another asks in that round
+    scripts/crowds.py HOST:PORT suspended SECONDS PID a client asks the server, which is suspended for longer than so long
     scripts/crowds.py HOST:PORT full PLACES           a client waits for a place, and has it once another is gone
     scripts/crowds.py HOST:PORT many COUNT            COUNT clients of a server with fewer file handles: each is answered
     scripts/crowds.py HOST:PORT stopped               what each client has of a server that is ordered to stop, once `ready`
@@ -18,7 +20,9 @@ The server has the keys of `scripts/formats.py --keys`, and for `checked` it has
 status is 0 where all is.
 """
 
+import os
 import select
+import signal
 import socket
 import struct
 import sys
@@ -230,21 +234,39 @@ def idle(address, seconds):
 
 def late(address, seconds):
     seconds = float(seconds)
-    with connected(address) as client:
+    with connected(address) as client, connected(address) as beside:
         for number in (1, 2):
+            ask(beside, "head")
             start = time.monotonic()
             client.sendall(request_frame("register", b"name %d" % number, b"key"))
+            time.sleep(0.2 * seconds)
+            beside.sendall(HEAD)
             if len(answers(client, 1)) != 1:
                 yield f"request {number} was not answered"
                 return
             if time.monotonic() - start < seconds:
                 yield f"the round of request {number} took less than {seconds} seconds"
+            if len(answers(beside, 1)) != 1:
+                yield f"a client that asked in the round of request {number} was not answered"
+                return
             time.sleep(0.4 * seconds)
         client.sendall(HEAD)
         if len(answers(client, 1)) != 1:
             yield "the last request was not answered"
         if not is_closed(client, 2 * seconds):
             yield "a silent client was not closed"
+
+
+def suspended(address, seconds, server):
+    with connected(address) as client:
+        ask(client, "head")
+        time.sleep(PATIENCE)
+        os.kill(int(server), signal.SIGSTOP)
+        client.sendall(HEAD)
+        time.sleep(1.5 * float(seconds))
+        os.kill(int(server), signal.SIGCONT)
+        if len(answers(client, 1)) != 1:
+            yield "a client that asked meanwhile was not answered"
 
 
 def full(address, places):
@@ -299,7 +321,7 @@ def stopped(address):
         yield f"one that takes no reply was closed after {taken:.1f} seconds"
 
 
-WAYS = {"checked": checked, "kept": kept, "slow": slow, "deaf": deaf, "resets": resets, "idle": idle, "late": late, "full": full, "many": many, "stopped": stopped}
+WAYS = {"checked": checked, "kept": kept, "slow": slow, "deaf": deaf, "resets": resets, "idle": idle, "late": late, "suspended": suspended, "full": full, "many": many, "stopped": stopped}
 
 
 def main(address, way, *words):

@@ -158,12 +158,13 @@ ends_now
 
 starts --idle 1
 well "silent clients are closed" scripts/crowds.py "$address" idle 1
+well "a server that is suspended" scripts/crowds.py "$address" suspended 1 "$server"
 ends_now
 
-# A round that lasts longer than that, since its sync is slow, closes nobody who is answered in it.
+# A round that lasts longer than that, since its sync is slow, closes nobody who is answered in it, or asks.
 if library scripts/sync_order.c "$folder/sync_order.so"; then
     SLOW_SYNC=1500 LD_PRELOAD=$folder/sync_order.so starts --idle 1 --journal "$folder/slow_journal"
-    well "a client that is answered in a long round asks again" scripts/crowds.py "$address" late 1
+    well "clients of a long round ask again" scripts/crowds.py "$address" late 1
     ends_now
 else
     fails "sync_order.c is not built"

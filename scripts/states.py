@@ -48,15 +48,25 @@ class Remembered(NamedTuple):
     # The lines that are printed by then.
     printed: int
     roots: list
+    # The lines of promises and of evidence.
     promises: set
-    # The epoch of each name.
+    # The lines of alarms.
+    alarms: set
+    # The line of each name.
     marks: dict
 
 
 def remembered(printed, roots, kept):
     """The last mark of a name counts."""
-    marks = dict(line.split(" ")[1:] for line in kept if re.fullmatch("watched [0-9a-f]+ [0-9]+", line))
-    return Remembered(printed, roots, {line for line in kept if not line.startswith("watched ")}, marks)
+    lines = [newer_form(line) for line in kept]
+    marks = {name_of(line): line for line in lines if line.startswith("watched ")}
+    alarms = {line for line in lines if line.startswith("alarm ")}
+    return Remembered(printed, roots, set(lines) - alarms - {line for line in lines if line.startswith("watched ")}, alarms, marks)
+
+
+def name_of(line):
+    """The name in a line of a mark or of an alarm."""
+    return line.split(" ")[1]
 
 
 def expected(provider, state, script):
@@ -93,10 +103,21 @@ def lost(state, before, printed, text, stages, is_told):
     known = set.union(*(stage.promises for stage in stages[: reached + 2]))
     if not now.promises <= known:
         return f"promises that nobody gave: {now.promises - known}"
-    for name in now.marks.keys() | stages[first].marks.keys():
-        # The mark of a line is kept once the line is printed.
-        if now.marks.get(name) not in [stage.marks.get(name) for stage in stages[max(first - 1, 0) : reached + 2]]:
+    return lost_of_watches(now, stages[max(first - 1, 0) : reached + 2], printed)
+
+
+def lost_of_watches(now, could_be, printed):
+    """What is wrong in the alarms and marks, or None. Those of a line are kept once the line is printed, and a mark
+    behind its alarms."""
+    if not could_be[0].alarms <= now.alarms <= set.union(*(stage.alarms for stage in could_be)):
+        return f"alarms are {now.alarms}, after {printed}"
+    for name in set.union(*(set(stage.marks) for stage in could_be), now.marks):
+        moved = [stage for stage in could_be if stage.marks.get(name) == now.marks.get(name)]
+        if not moved:
             return f"{name} is watched to {now.marks.get(name)}, after {printed}"
+        told = {line for line in moved[0].alarms if name_of(line) == name}
+        if not told <= now.alarms:
+            return f"alarms are lost: {told - now.alarms}, after {printed}"
     return None
 
 
@@ -511,9 +532,12 @@ def bad_items(program):
                 yield check(f"root {number} is {bad[:10]}..", roots, begun.kept, "", number)
                 yield check(f"root {number} is {bad[:10]}.. alone", roots, None, "", number)
         lines = [
-            "x", "watched", "watched 61", "watched 6 2", "watched 6g 2", "watched 61 ", "watched 61 x", "watched 61 2 3", "watched  2",
+            "x", "watched", "watched 61", "watched 6 2", "watched 6g 2", "watched 61 ", "watched 61 x", "watched 61 1 2 3", "watched  2",
             f"watched {'61' * 256} 2", "watched 61 -1", "watched 61 18446744073709551616", "watch 61 2", f"promises {promise[7:]}",
             f"change  {promise[7:]}", promise[:-2], promise[:-1], f"{promise}00", f"{promise[:-1]}g", changed_digit(promise), "promise", "change ",
+            "watched 61 1 x", "watched 61 1 ", "watched 61 -1 2", "alarm", "alarm 61", "alarm 61 2", "alarm 61 2 ", "alarm 6 2 6b31",
+            "alarm 61 x 6b31", "alarm 61 2 6b3", "alarm 61 2 none", "alarm 61 2 absent 2", "alarm 61 18446744073709551616 6b31",
+            f"alarm {'61' * 256} 2 6b31", f"alarm 61 2 {'61' * 2049}", "{", "{}", '{"first":"","kind":"fork","second":""}',
         ]
         for bad in lines:
             for number in (1, 2, 3):
@@ -521,7 +545,7 @@ def bad_items(program):
                 kept.insert(number - 1, bad)
                 yield check(f"line {number} of what is kept is {bad[:20]}", begun.roots, kept, ".kept", number)
         # What is above FILE's last root.
-        for bad in ("watched 61 4", "watched 61 18446744073709551615", "watched 7a 4"):
+        for bad in ("watched 61 4", "watched 61 18446744073709551615", "watched 7a 4", "watched 61 1 4", "watched 61 4 4"):
             for kept in ([mark, bad], [mark, bad, promise, mark]):
                 yield check(f"a mark above the head: {bad}", begun.roots, kept, ".kept", 2)
         for bad in ("watched 61 3", *above):
@@ -561,7 +585,8 @@ def beginnings(program):
 
 
 def old_states(program, seed):
-    """States as they were written before lines were appended: promises and then marks, readable by all."""
+    """States as they were written before lines were appended, and before alarms and evidence were kept: promises and
+    then marks of the older form, readable by all."""
     for each in range(seed, seed + 20):
         with tempfile.TemporaryDirectory() as folder:
             state, provider = f"{folder}/state", Provider()
@@ -570,9 +595,19 @@ def old_states(program, seed):
                 model = Asked(provider, *([bytes.fromhex(line) for line in lines] if number == 0 else lines for number, lines in enumerate(files_of(state))))
                 provider.begin()
                 model.run(script)
-                put(state, *map(text_of, model.state()))
+                roots, kept = model.state()
+                put(state, text_of(roots), text_of(map(older_form_of, filter(is_of_older_states, kept))))
             provider.begin()
             yield otherwise(program, provider, provider.copied(), b"head\nregister 7a 6b31\nclose 99\nwatch 61 6b31\n", state)
+
+
+def is_of_older_states(line):
+    return line.split(" ")[0] in ("promise", "change", "watched")
+
+
+def older_form_of(line):
+    """A mark with its last epoch alone."""
+    return re.sub("^(watched [0-9a-f]+) [0-9]+ ", "\\1 ", line)
 
 
 def left_over(program):
@@ -602,19 +637,17 @@ def logged(program, provider, library, folder, script):
             found.append("print")
         elif call.path in things:
             found.append(f"{what} {things[call.path]}")
-    # A folder is also synced where a file is made.
-    found = [call for place, call in enumerate(found) if call != "sync FOLDER" or found[place - 1 : place] == ["rename KEPT"]]
     return found, status
 
 
 def ordered(program, library):
-    """A line is printed once its roots and promises are on the disk."""
+    """A line is printed once its roots and promises are on the disk, and so are the entries of files that are new."""
     adds, keeps, marks = ["write FILE", "sync FILE"], ["write KEPT", "sync KEPT"], ["print", "write KEPT", "sync KEPT"]
     anew = ["write NEW", "sync NEW", "rename KEPT", "sync FOLDER"]
     runs = [
-        ("a beginning", b"head\n", [*adds, "print"]),
+        ("a beginning", b"head\n", ["sync FOLDER", *adds, "print"]),
         ("nothing new", b"head\nlookup 61 0\nhistory 0 1\n", ["print"] * 3),
-        ("a registration", b"register 61 6b31\n", [*keeps, "print"]),
+        ("a registration", b"register 61 6b31\n", ["sync FOLDER", *keeps, "print"]),
         ("two lines", b"register 62 6b31\nlookup 61 0\nregister 63 6b31\n", [*keeps, "print", "print", *keeps, "print"]),
         ("a watch", b"watch 61 -\n", marks),
         ("no more to watch", b"watch 61 -\nhead\n", ["print"]),

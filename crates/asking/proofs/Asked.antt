@@ -14,7 +14,7 @@ use Rattle.commands.specs.Operations.{Head}
 use Rattle.wire.specs.Requests.{RequestContent, Put, Query, Turn}
 use Rattle.play.specs.Scripts.{with_token}
 use Rattle.asking.specs.declared.asker.Asker.{Asker}
-use Rattle.asking.specs.declared.asker.Mark.{Mark}
+use Rattle.memory.specs.declared.mark.Mark.{Mark}
 use Rattle.asking.specs.declared.said.Said.{Said}
 use Rattle.asking.specs.Asking.{AsksDirectory, CatchesUp, FindsHead, GetsReply, GoesOnAbove, Hands, HandsAll, IsChange, Notes, SpeaksOf}
 use Rattle.asking.specs.Checking.{HearsFrame}
@@ -35,7 +35,7 @@ IsPut asked = (verb : Verb) × (name : List ℕ) × (key : List ℕ) × (asked �
 pub is_put : (asked : RequestContent) → IsChange asked → IsPut asked
 is_put (Put verb name key) change = (verb, name, key, refl)
 is_put (Query query) change = absurd change
-is_put (Turn token epoch nonce) change = absurd change
+is_put (Turn token epoch _) change = absurd change
 
 -- the last promise was noted, and it is one that was kept
 pub notes_kept : {A E : Type 0} (result : Result A E) (asked : RequestContent) (before kept after noted noted' : List SignedPromise) → IsPut asked → length before < length kept → after ≡ kept
@@ -52,7 +52,7 @@ pub notes_none : (asked : RequestContent) (before after noted noted' : List Sign
 notes_none (Put verb name key) before after noted noted' (inl other) same = absurd (other tt)
 notes_none (Put verb name key) before after noted noted' (inr few) same = inl (few, same)
 notes_none (Query query) before after noted noted' none same = same
-notes_none (Turn token epoch nonce) before after noted noted' none same = same
+notes_none (Turn token epoch _) before after noted noted' none same = same
 
 -- what was noted, where the lists stay before and after
 pub notes_as : (asked : RequestContent) (before after : List SignedPromise) (first noted noted' last : Vec SignedPromise Global) → noted ≡ first → last ≡ noted'

@@ -21,7 +21,7 @@ use Rattle.play.specs.Scripts.{ScriptLine, Ask, Watch, line_of}
 use Rattle.asking.specs.declared.ask_fault.AskFault.{AskFault}
 use Rattle.asking.specs.declared.ask_fault.AskFault.TheVariants as fault
 use Rattle.asking.specs.declared.asker.Asker.{Asker}
-use Rattle.asking.specs.declared.asker.Mark.{Mark}
+use Rattle.memory.specs.declared.mark.Mark.{Mark}
 use Rattle.asking.specs.declared.order.AskOrder.{AskOrder}
 use Rattle.asking.specs.declared.run.RunEnd.{RunEnd}
 use Rattle.asking.specs.declared.run.RunEnd.TheVariants.{Whole, Stopped}
@@ -165,13 +165,13 @@ module _ (hash : List ℕ → List ℕ) (accepted verified : List ℕ → List �
 
     -- a name is watched, or some of its epochs
     pub watched_reaches : {H V S A : Type 0} (name : List ℕ) (given given' : Option (List ℕ)) (result : Result A AskFault) (before after : Scene T) (asker : Asker H V S) (said : Said) → given ≡ given' → report_of said ≡ after.told
-        → OnOk result (BeginsWatch hash accepted verified exchanged background.marks background.key background.earlier name given before after)
-        → IfErr result (λ why. HaltsAfter (BeginsSome hash accepted verified exchanged background.marks background.key background.earlier name given before) why asker said)
+        → OnOk result (BeginsWatch hash accepted verified exchanged background.known background.marks background.key background.earlier name given before after)
+        → IfErr result (λ why. HaltsAfter (BeginsSome hash accepted verified exchanged background.known background.marks background.key background.earlier name given before) why asker said)
         → (reached : Scene T) × DoesSome hash accepted verified exchanged background (Watch name given') before reached × (report_of said ≡ reached.told)
     watched_reaches name given given' (Ok done) before after asker said is same begins halts =
-        (after, inr (inl (subst (λ (g : Option (List ℕ)). BeginsWatch hash accepted verified exchanged background.marks background.key background.earlier name g before after) is begins)), same)
+        (after, inr (inl (subst (λ (g : Option (List ℕ)). BeginsWatch hash accepted verified exchanged background.known background.marks background.key background.earlier name g before after) is begins)), same)
     watched_reaches name given given' (Err why) before after asker said is same begins (reached, some, halted) =
-        (reached, inr (inr (subst (λ (g : Option (List ℕ)). BeginsSome hash accepted verified exchanged background.marks background.key background.earlier name g before reached) is some)), halted.0)
+        (reached, inr (inr (subst (λ (g : Option (List ℕ)). BeginsSome hash accepted verified exchanged background.known background.marks background.key background.earlier name g before reached) is some)), halted.0)
 
     -- it is what a line says
     pub line_reaches : (line : List ℕ) (said : ScriptLine) (told : Report) (before : Scene T) → line_of line ≡ Some said
@@ -281,7 +281,7 @@ module _ (hash : List ℕ → List ℕ) (accepted verified : List ℕ → List �
 
   module _ (key token : List ℕ) (options : AskOptions) (NoState None' : Type 0) (without : None' → NoState) (within : NoState → None') where
     begun-with : (background : Background) (stream : T) (start : Scene T) → StartsRun hash accepted verified exchanged key token NoState stream background start → StartsRun hash accepted verified exchanged key token None' stream background start
-    begun-with background stream start begun = record { silent = begun.silent; begins = by begun.begins; knows = begun.knows }
+    begun-with background stream start begun = record { again = begun.again; begins = by begun.begins; knows = begun.knows }
       where
         by : BeginsAsking hash accepted verified exchanged key token NoState stream background start.client start.stream → BeginsAsking hash accepted verified exchanged key token None' stream background start.client start.stream
         by (inl head) = inl head
@@ -390,7 +390,7 @@ pub over_socket : (order : AskOrder) (key token : List ℕ) (socket socket' : Tc
     → RunsAs sha256 KeyedAccepts KeyedVerifies (ExchangesFrames {T = TcpStream} (λ _. None) (λ _. None)) key token (ask_values order) (order.state ≡ None) socket socket' input ended old new
     → AsksOverSocket (ask_values order) input (end_status ended) old new
 over_socket order key token socket socket' input old new ended are run =
-    inr (
+    inr (inr (
       key,
       token,
       are,
@@ -400,20 +400,20 @@ over_socket order key token socket socket' input old new ended are run =
       refl,
       runs_with sha256 KeyedAccepts KeyedVerifies (ExchangesFrames {T = TcpStream} (λ _. None) (λ _. None)) key token (ask_values order) (order.state ≡ None) ((ask_values order).state ≡ None)
           (none_before (λ text. text.now) order.state) (λ none. ap (λ (state : Option (Bor (List ℕ))). option_map (λ text. text.now) state) none) socket socket' input old new ended run,
-    )
+    ))
 
 pub fails_over_socket : (order : AskOrder) (key token : List ℕ) (socket : TcpStream) (input old new : Option (List ℕ)) → ask_keys_of (ask_values order) ≡ Some (key, token)
     → FailsAs sha256 KeyedAccepts KeyedVerifies (ExchangesFrames {T = TcpStream} (λ _. None) (λ _. None)) key token (ask_values order) (order.state ≡ None) socket input old new
     → FailsOverSocket (ask_values order) input old new
 fails_over_socket order key token socket input old new are run =
-    inr (
+    inr (inr (
       key,
       token,
       are,
       socket,
       fails_with sha256 KeyedAccepts KeyedVerifies (ExchangesFrames {T = TcpStream} (λ _. None) (λ _. None)) key token (ask_values order) (order.state ≡ None) ((ask_values order).state ≡ None)
           (none_before (λ text. text.now) order.state) (λ none. ap (λ (state : Option (Bor (List ℕ))). option_map (λ text. text.now) state) none) socket input old new run,
-    )
+    ))
 
 pub unwritten : (options : AskOptions) (input old : Option (List ℕ)) → FailsOverSocket options input old old
 unwritten options input old = inl (Keeps-refl old)

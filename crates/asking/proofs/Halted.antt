@@ -10,14 +10,14 @@ use Rattle.commands.specs.Operations.{Head}
 use Rattle.wire.specs.Requests.{RequestContent, Query}
 use Rattle.play.specs.Scripts.{with_token}
 use Rattle.asking.specs.declared.asker.Asker.{Asker}
-use Rattle.asking.specs.declared.asker.Mark.{Mark}
+use Rattle.memory.specs.declared.mark.Mark.{Mark}
 use Rattle.asking.specs.declared.ask_fault.AskFault.{AskFault}
 use Rattle.asking.specs.declared.ask_fault.AskFault.TheVariants.{NoReply, OutOfMemory, Stopped}
 use Rattle.asking.specs.declared.said.Said.{Said}
 use Rattle.asking.specs.Asking.{AsksSome, CatchesSome, CatchesUp, FindsSome, GoesSomeAbove, Hands, HearsSome, Notes, SpeaksOf}
 use Rattle.asking.specs.Checking.{HearsFrame}
 use Rattle.asking.specs.Following.{TakesSome}
-use Rattle.asking.specs.Joining.{BeginsAt, BeginsSome, BeginsSomeAt, IsJoined, IsUnwatched}
+use Rattle.asking.specs.Joining.{BeginsAt, BeginsSomeAt, WatchesSome, IsJoined, IsUnwatched}
 use Rattle.asking.specs.Reports.{Report, report_of, told_after}
 use Rattle.asking.specs.Scenes.{HaltsAfter, Scene, scene}
 use Rattle.asking.specs.Visiting.{TestsSome}
@@ -143,7 +143,7 @@ module _ {H V S T : Type 0} (hash : List ℕ → List ℕ) (accepted verified : 
         → IsUnwatched asker.client.chain name marks.items (Some first) → marks' ≡ marks
         → BeginsAt hash accepted verified exchanged marks.items key earlier name given first (scene asker said stream) middle
         → IfErr result (λ fault. HaltsAfter (TestsSome hash accepted exchanged marks'.items middle) fault last said')
-        → IfErr result (λ fault. HaltsAfter (BeginsSome hash accepted verified exchanged marks.items key earlier name given (scene asker said stream)) fault last said')
+        → IfErr result (λ fault. HaltsAfter (WatchesSome hash accepted verified exchanged marks.items key earlier name given (scene asker said stream)) fault last said')
     halts_begun (Ok done) marks marks' middle last said' unwatched same begun halts = tt
     halts_begun (Err fault) marks marks' middle last said' unwatched same begun (reached, tests, halts) =
         (reached, (first, unwatched, inr (middle, begun, subst (λ (all : Vec Mark Global). TestsSome hash accepted exchanged all.items middle reached) same tests)), halts)

@@ -89,4 +89,4 @@ module _ (hash : List ℕ → List ℕ) (accepted verified : List ℕ → List �
   hands_none (Put verb name key) promise before after monitors (inl other) = absurd (other tt)
   hands_none (Put verb name key) promise before after monitors (inr few) = inl (few, refl, refl)
   hands_none (Query query) promise before after monitors none = (refl, refl)
-  hands_none (Turn token epoch nonce) promise before after monitors none = (refl, refl)
+  hands_none (Turn token epoch _) promise before after monitors none = (refl, refl)

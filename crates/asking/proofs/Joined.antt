@@ -13,9 +13,9 @@ use Rattle.monitor.specs.Monitors.{Monitor}
 use Rattle.wire.specs.Frames.{Frame}
 use Rattle.wire.specs.Requests.{RequestContent}
 use Rattle.asking.specs.declared.asker.Asker.{Asker}
-use Rattle.asking.specs.declared.asker.Mark.{Mark}
+use Rattle.memory.specs.declared.mark.Mark.{Mark}
 use Rattle.asking.specs.declared.said.Said.{Said}
-use Rattle.asking.specs.Joining.{BeginsAt, BeginsWatch, IsFirstAfter, IsJoined, IsUnwatched, StartsFrom}
+use Rattle.asking.specs.Joining.{BeginsAt, WatchesNew, IsFirstAfter, IsJoined, IsUnwatched, StartsFrom}
 use Rattle.asking.specs.Refused.{client_refuses}
 use Rattle.asking.specs.Scenes.{Scene, scene}
 use Rattle.asking.specs.Reports.{Report, Tells, report_of, told_after}
@@ -73,7 +73,7 @@ module _ {H V S T : Type 0} (hash : List ℕ → List ℕ) (accepted verified : 
     -- the watch began, and the promises were tested
     pub begins : {A E : Type 0} (result : Result A E) (marks marks' : Vec Mark Global) (middle after : Scene T) → IsUnwatched asker.client.chain name marks.items (Some first) → marks' ≡ marks
         → BeginsAt hash accepted verified exchanged marks.items key earlier name given first (scene asker said stream) middle → OnOk result (TestsAll hash accepted exchanged marks'.items middle after)
-        → OnOk result (BeginsWatch hash accepted verified exchanged marks.items key earlier name given (scene asker said stream) after)
+        → OnOk result (WatchesNew hash accepted verified exchanged marks.items key earlier name given (scene asker said stream) after)
     begins (Ok done) marks marks' middle after unwatched same begun tests =
         inr (first, unwatched, (middle, begun, subst (λ (all : Vec Mark Global). TestsAll hash accepted exchanged all.items middle after) same tests))
     begins (Err fault) marks marks' middle after unwatched same begun tests = tt

@@ -11,7 +11,9 @@ pub mod Left
 pub mod Listed
 pub mod Placed
 pub mod Ran
+pub mod Recalling
 pub mod Rising
+pub mod Settled
 pub mod Stepped
 pub mod Stopped
 pub mod Telling

@@ -14,25 +14,30 @@ use Rattle.wire.specs.Frames.{Frame}
 use Rattle.wire.specs.Requests.{RequestContent}
 use Rattle.play.specs.Reading.{TakesWholeLine}
 use Rattle.asking.specs.declared.asker.Asker.{Asker}
-use Rattle.asking.specs.declared.asker.Mark.{Mark}
+use Rattle.memory.specs.Memories.{Memory}
+use Rattle.memory.specs.declared.mark.Mark.{Mark}
 use Rattle.asking.specs.declared.order.AskOrder.{AskOrder}
 use Rattle.asking.specs.declared.said.Said.{Said}
 use Rattle.asking.specs.AskOptions.{AskOptions, ask_values}
-use Rattle.asking.specs.Reports.{Report, report_of}
+use Rattle.asking.specs.Recalled.{evidence_again}
+use Rattle.asking.specs.Reports.{Report, report_of, told_after}
 use Rattle.asking.specs.Runs.{AsksLine, AsksLines, BeginsAsking, StartsRun, emptied, Background, new_background, background_of, lines_asked, Prepares, RunsWhole, words_line, Writes}
 use Rattle.asking.specs.Scenes.{Scene, scene, Remains, StartsAtHead}
 use Rattle.asking.proofs.Joined.{scene_of}
+use Rattle.asking.proofs.Telling.{worse_none}
 
-background-by : {H V S : Type 0} (before after : Asker H V S) → after.key ≡ before.key → after.token ≡ before.token → after.marks.items ≡ before.marks.items → after.earlier.items ≡ before.earlier.items → background_of after ≡ background_of before
-background-by before after key token marks earlier =
-    ap (λ (k : List ℕ). let t : Background = record { key = k; token = after.token; marks = after.marks.items; earlier = after.earlier.items } in t) key
-    ∙ ap (λ (k : List ℕ). let t : Background = record { key = before.key; token = k; marks = after.marks.items; earlier = after.earlier.items } in t) token
-    ∙ ap (λ (k : List Mark). let t : Background = record { key = before.key; token = before.token; marks = k; earlier = after.earlier.items } in t) marks
-    ∙ ap (λ (k : List SignedPromise). let t : Background = record { key = before.key; token = before.token; marks = before.marks.items; earlier = k } in t) earlier
+background-by : {H V S : Type 0} (before after : Asker H V S) → after.key ≡ before.key → after.token ≡ before.token → after.marks.items ≡ before.marks.items → after.earlier.items ≡ before.earlier.items → after.known ≡ before.known
+    → background_of after ≡ background_of before
+background-by before after key token marks earlier known =
+    ap (λ (k : List ℕ). let t : Background = record { key = k; token = after.token; marks = after.marks.items; earlier = after.earlier.items; known = after.known } in t) key
+    ∙ ap (λ (k : List ℕ). let t : Background = record { key = before.key; token = k; marks = after.marks.items; earlier = after.earlier.items; known = after.known } in t) token
+    ∙ ap (λ (k : List Mark). let t : Background = record { key = before.key; token = before.token; marks = k; earlier = after.earlier.items; known = after.known } in t) marks
+    ∙ ap (λ (k : List SignedPromise). let t : Background = record { key = before.key; token = before.token; marks = before.marks.items; earlier = k; known = after.known } in t) earlier
+    ∙ ap (λ (k : Memory). let t : Background = record { key = before.key; token = before.token; marks = before.marks.items; earlier = before.earlier.items; known = k } in t) known
 
 -- no answer changes what is known
 pub known_stays : {H V S : Type 0} (before after : Asker H V S) → Remains before after → background_of after ≡ background_of before
-known_stays before after (key, token, marks, earlier) = background-by before after key token (ap (λ (all : Vec Mark Global). all.items) marks) (ap (λ (all : Vec SignedPromise Global). all.items) earlier)
+known_stays before after (key, token, marks, earlier, known) = background-by before after key token (ap (λ (all : Vec Mark Global). all.items) marks) (ap (λ (all : Vec SignedPromise Global). all.items) earlier) known
 
 module _ (hash : List ℕ → List ℕ) (accepted verified : List ℕ → List ℕ → List ℕ → Type 0) {T : Type 0} (exchanged : T → RequestContent → Frame → T → Type 0) (background : Background) where
   -- an output to which nothing was appended is as good
@@ -126,12 +131,20 @@ pub begins_at_head : {H V S T E : Type 0} (hash : List ℕ → List ℕ) (accept
 begins_at_head hash accepted verified exchanged key token HasNoState (Ok asker) stream stream' starts knows = inl (starts, knows.0)
 begins_at_head hash accepted verified exchanged key token HasNoState (Err why) stream stream' starts knows = tt
 
+-- it is told after nothing
+pub after_none : (told : Report) → told_after (emptied 0) told ≡ told
+after_none told = ap (λ (n : ℕ). let t : Report = record { lines = told.lines; status = n } in t) (worse_none told.status)
+
 -- a run begins, if nothing was told before
 pub begins_run : {T : Type 0} (hash : List ℕ → List ℕ) (accepted verified : List ℕ → List ℕ → List ℕ → Type 0) (exchanged : T → RequestContent → Frame → T → Type 0) (key token : List ℕ) (HasNoState : Type 0)
-    (background : Background) (stream : T) (start : Scene T) (first : Report) → start.told ≡ first
+    (background : Background) (stream : T) (start : Scene T) (first : Report) → start.told ≡ told_after first (evidence_again background.known)
     → BeginsAsking hash accepted verified exchanged key token HasNoState stream background start.client start.stream → (background.key ≡ key) × (background.token ≡ token) × (start.monitors ≡ [])
     → first ≡ emptied 0 → StartsRun hash accepted verified exchanged key token HasNoState stream background start
-begins_run hash accepted verified exchanged key token HasNoState background stream start first told begins knows none = record { silent = told ∙ none; begins = begins; knows = knows }
+begins_run hash accepted verified exchanged key token HasNoState background stream start first told begins knows none = record {
+  again = told ∙ ap (λ (r : Report). told_after r (evidence_again background.known)) none ∙ after_none (evidence_again background.known);
+  begins = begins;
+  knows = knows;
+}
 
 -- a run is whole, where its lines are asked to the end
 pub whole : {T E : Type 0} (hash : List ℕ → List ℕ) (accepted verified : List ℕ → List ℕ → List ℕ → Type 0) (exchanged : T → RequestContent → Frame → T → Type 0) (key token : List ℕ) (options : AskOptions) (HasNoState : Type 0)

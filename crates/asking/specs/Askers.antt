@@ -2,9 +2,10 @@
 use Rattle.std.specs.Prelude.{ℕ, List}
 use Rattle.rootchain.specs.declared.signed_promise.SignedPromise.{SignedPromise}
 use Rattle.client.specs.Clients.{Client}
+use Rattle.memory.specs.Memories.{Memory}
 use Rattle.monitor.specs.Monitors.{Monitor}
 use Rattle.asking.specs.declared.asker.Asker.{Asker}
-use Rattle.asking.specs.declared.asker.Mark.{Mark}
+use Rattle.memory.specs.declared.mark.Mark.{Mark}
 
 abbrev pub asker_client : {H V S : Type 0} → Asker H V S → Client
 asker_client asker = asker.client
@@ -23,6 +24,10 @@ asker_token asker = asker.token
 -- how far names were watched in earlier runs
 abbrev pub asker_marks : {H V S : Type 0} → Asker H V S → List Mark
 asker_marks asker = asker.marks.items
+
+-- what is remembered of earlier runs
+abbrev pub asker_known : {H V S : Type 0} → Asker H V S → Memory
+asker_known asker = asker.known
 
 -- what the client was promised for its own changes in earlier runs
 abbrev pub asker_earlier : {H V S : Type 0} → Asker H V S → List SignedPromise

@@ -15,7 +15,7 @@ use Rattle.wire.specs.Requests.{RequestContent, Put, Query, Turn}
 use Rattle.wire.specs.Responses.{ResponseContent, Promise, Proof, Roots, Root, Refused, Responds, ReadsResponse}
 use Rattle.wire.specs.declared.message_refusals.ReadRefusal.{ReadRefusal}
 use Rattle.play.specs.Scripts.{with_token}
-use Rattle.asking.specs.declared.asker.Mark.{Mark}
+use Rattle.memory.specs.declared.mark.Mark.{Mark}
 use Rattle.asking.specs.Answering.{IsAnswerAt}
 use Rattle.asking.specs.Checking.{HearsFrame}
 use Rattle.asking.specs.Following.{Follows, StopsAfter, TakesSome}

@@ -19,6 +19,7 @@ use Rattle.asking.specs.Joining.{BeginsSome}
 use Rattle.asking.specs.Reports.{Report}
 use Rattle.asking.specs.Runs.{AsksLines, StartsRun, DoesLine, emptied, Background, lines_asked, Prepares, RunsWhole, TakesNew, Writes}
 use Rattle.asking.specs.Scenes.{Scene, StopsAtHead}
+use Rattle.asking.specs.Settling.{IsSettling, Settles, SettlesPart}
 use Rattle.asking.specs.Visiting.{TestsSome}
 use Rattle.asking.specs.declared.run.RunEnd.{RunEnd}
 use Rattle.asking.specs.declared.run.RunEnd.TheVariants.{Whole, Stopped}
@@ -61,7 +62,7 @@ module _ (hash : List ℕ → List ℕ) (accepted verified : List ℕ → List �
     DoesPart Pass before reached = ⊥
     DoesPart (Ask asked) before reached = StopsAsking hash accepted verified exchanged background.token asked before reached
         ⊎ ((noted : List SignedPromise) × (noted' : List SignedPromise) × AsksSome hash accepted verified exchanged background.marks background.token asked noted noted' before reached)
-    DoesPart (Watch name given) before reached = BeginsSome hash accepted verified exchanged background.marks background.key background.earlier name given before reached
+    DoesPart (Watch name given) before reached = BeginsSome hash accepted verified exchanged background.known background.marks background.key background.earlier name given before reached
     DoesPart (Piece session piece) before reached = ⊥
     DoesPart (End session) before reached = ⊥
 
@@ -114,14 +115,18 @@ module _ (hash : List ℕ → List ℕ) (accepted verified : List ℕ → List �
   FailsAs key token options HasNoState stream input old new = EndsEarly key token options HasNoState stream input old (λ told now. (told.status < ALARM) × WritesSome now new told.lines)
 
 -- A run over a socket, of which definitions know neither what it took nor what it will give: nothing is written, as
--- where no connection came about; or the run is one for some frames that came.
+-- where no connection came about; or a name is settled, and nothing is asked; or the run is one for some frames that
+-- came.
 abbrev pub AsksOverSocket : AskOptions → Option (List ℕ) → ℕ → Option (List ℕ) → Option (List ℕ) → Type 0
 AsksOverSocket options input status old new = ((status ≡ REFUSED) × Keeps old new)
+    ⊎ (((name : List ℕ) × IsSettling options name × Settles name status old new)
     ⊎ ((key token : List ℕ) × (ask_keys_of options ≡ Some (key, token)) × (socket socket' : TcpStream) × (ended : RunEnd) × (status ≡ end_status ended)
-    × RunsAs sha256 KeyedAccepts KeyedVerifies (ExchangesFrames {T = TcpStream} (λ _. None) (λ _. None)) key token options (options.state ≡ None) socket socket' input ended old new)
+    × RunsAs sha256 KeyedAccepts KeyedVerifies (ExchangesFrames {T = TcpStream} (λ _. None) (λ _. None)) key token options (options.state ≡ None) socket socket' input ended old new))
 
--- one that ends with a fault: nothing is written, or the run is one for some frames that came
+-- one that ends with a fault: nothing is written, or some of what settling a name tells, or the run is one for some
+-- frames that came
 abbrev pub FailsOverSocket : AskOptions → Option (List ℕ) → Option (List ℕ) → Option (List ℕ) → Type 0
 FailsOverSocket options input old new = Keeps old new
+    ⊎ (((name : List ℕ) × IsSettling options name × SettlesPart name old new)
     ⊎ ((key token : List ℕ) × (ask_keys_of options ≡ Some (key, token)) × (socket : TcpStream)
-    × FailsAs sha256 KeyedAccepts KeyedVerifies (ExchangesFrames {T = TcpStream} (λ _. None) (λ _. None)) key token options (options.state ≡ None) socket input old new)
+    × FailsAs sha256 KeyedAccepts KeyedVerifies (ExchangesFrames {T = TcpStream} (λ _. None) (λ _. None)) key token options (options.state ≡ None) socket input old new))

@@ -12,15 +12,17 @@ use Rattle.client.specs.Starting.{Starts}
 use Rattle.client.specs.Updating.{Updates}
 use Rattle.client.specs.declared.client_refusal.Refusal.{Refusal}
 use Rattle.client.specs.declared.client_refusal.Refusal.TheVariants.{Memory}
+use Rattle.memory.specs.Memories.{Memory as Remembered}
 use Rattle.monitor.specs.Monitors.{Monitor, new_monitor}
 use Rattle.monitor.specs.declared.monitor_refusal.Refusal.{Refusal as MonitorRefusal}
 use Rattle.wire.specs.Frames.{Frame}
 use Rattle.wire.specs.Requests.{RequestContent}
-use Rattle.asking.specs.declared.asker.Mark.{Mark}
+use Rattle.memory.specs.declared.mark.Mark.{Mark}
 use Rattle.asking.specs.Asking.{HandsTo}
 use Rattle.asking.specs.Refused.{client_refuses}
 use Rattle.asking.specs.Scenes.{Scene}
-use Rattle.asking.specs.Reports.{told_after}
+use Rattle.asking.specs.Recalled.{TellsAlarms}
+use Rattle.asking.specs.Reports.{Report, told_after}
 use Rattle.asking.specs.Visiting.{TestsAll, TestsSome}
 use Rattle.asking.specs.Watching.{StepsSome, StepsThrough}
 
@@ -100,8 +102,8 @@ module _ (hash : List ℕ → List ℕ) (accepted verified : List ℕ → List �
 
     -- a name is watched from the first root on that is to be watched, and then each promise is tested that is
     -- due; nothing is asked where there is no such root
-    abbrev pub BeginsWatch : Scene T → Scene T → Type 0
-    BeginsWatch before after =
+    abbrev pub WatchesNew : Scene T → Scene T → Type 0
+    WatchesNew before after =
         (IsUnwatched before.client.chain name marks None × (after ≡ before))
         ⊎ ((first : SignedRoot) × IsUnwatched before.client.chain name marks (Some first)
         × ((middle : Scene T) × BeginsAt first before middle × TestsAll hash accepted exchanged marks middle after))
@@ -113,6 +115,18 @@ module _ (hash : List ℕ → List ℕ) (accepted verified : List ℕ → List �
         × StepsSome hash accepted exchanged (record before { monitors = before.monitors ++ monitor ∷ [] }) (length before.monitors) after)
 
     -- a name is watched from such a root on, up to some point; or it is watched, and then some promises are tested
-    abbrev pub BeginsSome : Scene T → Scene T → Type 0
-    BeginsSome before after = (first : SignedRoot) × IsUnwatched before.client.chain name marks (Some first)
+    abbrev pub WatchesSome : Scene T → Scene T → Type 0
+    WatchesSome before after = (first : SignedRoot) × IsUnwatched before.client.chain name marks (Some first)
         × (BeginsSomeAt first before after ⊎ ((middle : Scene T) × BeginsAt first before middle × TestsSome hash accepted exchanged marks middle after))
+
+  module _ {T : Type 0} (exchanged : T → RequestContent → Frame → T → Type 0) (known : Remembered) (marks : List Mark) (key : List ℕ) (earlier : List SignedPromise) (name : List ℕ) (given : Option (List ℕ)) where
+    -- the alarms that earlier runs told of a name are told again, and then it is watched
+    abbrev pub BeginsWatch : Scene T → Scene T → Type 0
+    BeginsWatch before after = (again : Report) × TellsAlarms name known again
+        × WatchesNew exchanged marks key earlier name given (record before { told = told_after before.told again }) after
+
+    -- they are not told yet; or they are, and the name is watched up to some point
+    abbrev pub BeginsSome : Scene T → Scene T → Type 0
+    BeginsSome before after = (after ≡ before)
+        ⊎ ((again : Report) × TellsAlarms name known again
+        × (let recalled : Scene T = record before { told = told_after before.told again } in (after ≡ recalled) ⊎ WatchesSome exchanged marks key earlier name given recalled after))

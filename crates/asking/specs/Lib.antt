@@ -7,8 +7,10 @@ pub mod Ending
 pub mod Exchanges
 pub mod Following
 pub mod Joining
+pub mod Recalled
 pub mod Refused
 pub mod Scenes
+pub mod Settling
 pub mod Stopping
 pub mod Testing
 pub mod Reports

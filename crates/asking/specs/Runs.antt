@@ -5,6 +5,7 @@ use Rattle.std.specs.Io.KnownBytes.{Appends}
 use Rattle.rootchain.specs.Chains.{IsChain}
 use Rattle.rootchain.specs.declared.signed_promise.SignedPromise.{SignedPromise}
 use Rattle.client.specs.Clients.{Client, IsSoundClient}
+use Rattle.memory.specs.Memories.{nothing, Memory}
 use Rattle.textio.specs.Lines.{lines_of}
 use Rattle.wire.specs.Frames.{Frame}
 use Rattle.wire.specs.Requests.{RequestContent}
@@ -13,21 +14,23 @@ use Rattle.asking.specs.AskOptions.{AskOptions}
 use Rattle.asking.specs.Asking.{AsksDirectory, FindsHead}
 use Rattle.asking.specs.Following.{Follows}
 use Rattle.asking.specs.Joining.{BeginsWatch}
+use Rattle.asking.specs.Recalled.{evidence_again}
 use Rattle.asking.specs.Reports.{Report}
 use Rattle.asking.specs.Scenes.{Scene, StartsAtHead}
 use Rattle.asking.specs.Visiting.{TestsAll}
 use Rattle.asking.specs.declared.asker.Asker.{Asker}
-use Rattle.asking.specs.declared.asker.Mark.{Mark}
+use Rattle.memory.specs.declared.mark.Mark.{Mark}
 
--- the background of a run, which stays throughout it: the provider's key, the token, and the marks and the promised changes of earlier runs
+-- the background of a run, which stays throughout it: the provider's key, the token, and what is remembered of earlier runs, as the marks and the promised changes
 pub record Background : Type 0 where
   pub key : List ℕ
   pub token : List ℕ
   pub marks : List Mark
   pub earlier : List SignedPromise
+  pub known : Memory
 
 abbrev pub background_of : {H V S : Type 0} → Asker H V S → Background
-background_of asker = record { key = asker.key; token = asker.token; marks = asker.marks.items; earlier = asker.earlier.items }
+background_of asker = record { key = asker.key; token = asker.token; marks = asker.marks.items; earlier = asker.earlier.items; known = asker.known }
 
 -- the same keys and token, and the same monitors
 abbrev pub IsSameAsker : {H V S : Type 0} → Asker H V S → Asker H V S → Type 0
@@ -43,7 +46,7 @@ StillKeeps before after = KeepsAll before.client before.earlier.items → KeepsA
 
 -- the background where there is no earlier run
 abbrev pub new_background : List ℕ → List ℕ → Background
-new_background key token = record { key = key; token = token; marks = []; earlier = [] }
+new_background key token = record { key = key; token = token; marks = []; earlier = []; known = nothing }
 
 -- what was written stays, and some text is written behind it
 abbrev pub Grows : Option (List ℕ) → Option (List ℕ) → Type 0
@@ -99,7 +102,7 @@ module _ (hash : List ℕ → List ℕ) (accepted verified : List ℕ → List �
     abbrev pub DoesLine : ScriptLine → Scene T → Scene T → Type 0
     DoesLine Pass before after = after ≡ before
     DoesLine (Ask asked) before after = (noted : List SignedPromise) × (noted' : List SignedPromise) × AsksDirectory hash accepted verified exchanged background.marks background.token asked noted noted' before after
-    DoesLine (Watch name given) before after = BeginsWatch hash accepted verified exchanged background.marks background.key background.earlier name given before after
+    DoesLine (Watch name given) before after = BeginsWatch hash accepted verified exchanged background.known background.marks background.key background.earlier name given before after
     DoesLine (Piece session piece) before after = ⊥
     DoesLine (End session) before after = ⊥
 
@@ -118,9 +121,9 @@ module _ (hash : List ℕ → List ℕ) (accepted verified : List ℕ → List �
       (StartsAtHead verified exchanged key stream client after × (background ≡ new_background key token))
       ⊎ ((¬ HasNoState) × (after ≡ stream) × IsSoundFor hash accepted verified key client × KeepsAll client background.earlier)
 
-  -- a run begins: nothing is told yet, and there is no monitor
+  -- a run begins: only evidence of earlier runs is told yet, and there is no monitor
   pub record StartsRun (key token : List ℕ) (HasNoState : Type 0) (stream : T) (background : Background) (start : Scene T) : Type 0 where
-    pub silent : start.told ≡ emptied 0
+    pub again : start.told ≡ evidence_again background.known
     pub begins : BeginsAsking key token HasNoState stream background start.client start.stream
     pub knows : (background.key ≡ key) × (background.token ≡ token) × (start.monitors ≡ [])
 

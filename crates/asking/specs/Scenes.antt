@@ -55,10 +55,10 @@ GivesBody asked frame before None after = (told : Report) × IsUnanswered asked 
 
 -- what no answer changes, and what changes only by a promise that is kept for a change of the client's own
 abbrev pub Remains : {H V S : Type 0} → Asker H V S → Asker H V S → Type 0
-Remains before after = (after.key ≡ before.key) × (after.token ≡ before.token) × (after.marks ≡ before.marks) × (after.earlier ≡ before.earlier)
+Remains before after = (after.key ≡ before.key) × (after.token ≡ before.token) × (after.marks ≡ before.marks) × (after.earlier ≡ before.earlier) × (after.known ≡ before.known)
 
 abbrev pub StaysWhole : {H V S : Type 0} → Asker H V S → Asker H V S → Type 0
-StaysWhole before after = (after.key ≡ before.key) × (after.token ≡ before.token) × (after.marks ≡ before.marks) × (after.earlier ≡ before.earlier) × (after.changes ≡ before.changes)
+StaysWhole before after = (after.key ≡ before.key) × (after.token ≡ before.token) × (after.marks ≡ before.marks) × (after.earlier ≡ before.earlier) × (after.changes ≡ before.changes) × (after.known ≡ before.known)
 
 -- The latest root is asked for, and a frame comes back whose body spells a root with a good signature. With this the
 -- client starts.

@@ -9,7 +9,7 @@ use Rattle.client.specs.declared.client_refusal.Refusal.{Refusal}
 use Rattle.monitor.specs.Monitors.{Monitor}
 use Rattle.wire.specs.Frames.{Frame}
 use Rattle.wire.specs.Requests.{RequestContent, Query}
-use Rattle.asking.specs.declared.asker.Mark.{Mark}
+use Rattle.memory.specs.declared.mark.Mark.{Mark}
 use Rattle.asking.specs.Scenes.{Scene, FrameAnswers, IsUnanswered}
 use Rattle.asking.specs.Testing.{due_told, was_kept}
 use Rattle.asking.specs.Reports.{Report, told_after}

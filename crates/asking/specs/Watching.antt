@@ -11,7 +11,7 @@ use Rattle.monitor.specs.declared.step.Step.TheVariants.{Kept, Alarm}
 use Rattle.play.specs.Telling.{step_text}
 use Rattle.wire.specs.Frames.{Frame}
 use Rattle.wire.specs.Requests.{RequestContent, Query}
-use Rattle.asking.specs.declared.asker.Mark.{Mark}
+use Rattle.memory.specs.declared.mark.Mark.{Mark}
 use Rattle.asking.specs.declared.said.Said.{Said}
 use Rattle.asking.specs.declared.said.TheConstants.{ALARM}
 use Rattle.asking.specs.Refused.{client_refuses}

@@ -2,7 +2,8 @@ ghost use Rattle.std.specs.Prelude.{◌≡◌, ◌≢◌, [], Err, IfErr, IfOk, 
 ghost use Rattle.rootchain.specs.Chains.{IsHead};
 ghost use Rattle.rootchain.specs.declared.signed_root.SignedRoot.{SignedRoot};
 ghost use Rattle.client.specs.Starting.{Starts};
-ghost use Rattle.asking.specs.Askers.{asker_changes, asker_client, asker_earlier, asker_key, asker_marks, asker_monitors, asker_token};
+ghost use Rattle.memory.specs.Memories.{nothing};
+ghost use Rattle.asking.specs.Askers.{asker_changes, asker_client, asker_earlier, asker_key, asker_known, asker_marks, asker_monitors, asker_token};
 ghost use Rattle.asking.specs.Exchanges.{ExchangesFrames};
 ghost use Rattle.asking.specs.Reports.{report_of};
 ghost use Rattle.asking.specs.Scenes.{StartsAtHead, StopsAtHead};
@@ -13,7 +14,8 @@ use crate::checking::tell_client;
 use crate::exchange::{exchange, frame_in};
 use crate::{AskFault, Said};
 use client::{Client, Refusal};
-use encoding::{Hash32, Name};
+use encoding::Hash32;
+use memory::{Mark, Memory};
 use monitor::Monitor;
 use nodehash::NodeHash;
 use play::{Ask, Checks};
@@ -22,13 +24,6 @@ use sigiface::Verifier;
 use std::alloc::Global;
 use std::io::{Read, Write};
 use vrfiface::VufCheck;
-
-/// How far a name was watched in earlier runs.
-#[derive(Drop)]
-pub(crate) struct Mark {
-    pub(crate) name: Name,
-    pub(crate) epoch: u64,
-}
 
 /// A client that asks a directory, with the monitors of the names that it watches.
 #[derive(Drop)]
@@ -46,6 +41,8 @@ where
     pub(crate) token: Hash32,
     pub(crate) client: Client<H, V, S>,
     pub(crate) monitors: Vec<Monitor<H, V, S>>,
+    /// What is remembered of earlier runs, and in it how far names were watched.
+    pub(crate) known: Memory,
     pub(crate) marks: Vec<Mark>,
     /// What the client was promised for its own changes in earlier runs, which a monitor that begins expects.
     pub(crate) earlier: Vec<SignedPromise>,
@@ -73,7 +70,7 @@ where
     ) -> Result<Self, Refusal>
         ensures ok { IfOk result (λ asker. Starts S.verified key root.now (Ok (asker_client asker))) }
         ensures keys { IfOk result (λ asker. (asker_key asker ≡ key) × (asker_token asker ≡ token)) }
-        ensures none { IfOk result (λ asker. (asker_monitors asker ≡ []) × (asker_marks asker ≡ []) × (asker_earlier asker ≡ []) × (asker_changes asker ≡ [])) }
+        ensures none { IfOk result (λ asker. (asker_monitors asker ≡ []) × (asker_marks asker ≡ []) × (asker_earlier asker ≡ []) × (asker_changes asker ≡ []) × (asker_known asker ≡ nothing)) }
         ensures err { IfErr result (λ why. Starts S.verified key root.now (Err why)) }
     {
         match Client::start(alloc, &checks.verifier, key, root) {
@@ -84,6 +81,7 @@ where
                 token,
                 client,
                 monitors: Vec::new(alloc),
+                known: Memory::new(alloc),
                 marks: Vec::new(alloc),
                 earlier: Vec::new(alloc),
                 changes: Vec::new(alloc),
@@ -107,7 +105,7 @@ where
     ) -> Result<Self, AskFault>
         ensures starts { IfOk result (λ asker. StartsAtHead S.verified (ExchangesFrames T.contents T.remaining) key stream.old (asker_client asker) stream.new) }
         ensures keys { IfOk result (λ asker. (asker_key asker ≡ key) × (asker_token asker ≡ token)) }
-        ensures none { IfOk result (λ asker. (asker_monitors asker ≡ []) × (asker_marks asker ≡ []) × (asker_earlier asker ≡ []) × (asker_changes asker ≡ [])) }
+        ensures none { IfOk result (λ asker. (asker_monitors asker ≡ []) × (asker_marks asker ≡ []) × (asker_earlier asker ≡ []) × (asker_changes asker ≡ []) × (asker_known asker ≡ nothing)) }
         ensures said { IfOk result (λ asker. said.new ≡ said.old) }
         ensures stops { IfErr result (λ fault. fault ≡ Stopped → StopsAtHead S.verified (ExchangesFrames T.contents T.remaining) key stream.old (report_of said.old) stream.new (report_of said.new)) }
         ensures halts { IfErr result (λ fault. fault ≢ Stopped → report_of said.new ≡ report_of said.old) }

@@ -136,7 +136,15 @@ where
     {
         let mut now = Said::new(self.alloc);
         let checks = &mut self.checks;
-        hear(self.alloc, &mut self.client, checks, held, &Ask::Head, frame, &mut now)?;
+        hear(
+            self.alloc,
+            &mut self.client,
+            checks,
+            held,
+            &Ask::Head,
+            frame,
+            &mut now,
+        )?;
         if now.status == 0 {
             return Ok(());
         }

@@ -1,20 +1,24 @@
 // A monitor of a name joins the others, and begins to watch.
-ghost use Rattle.std.specs.Prelude.{◌≡◌, ◌≢◌, ◌↔◌, ℕ, IfErr, IfOk, IsTrue, None, OnOk, Err, Ok, option_map};
+ghost use Rattle.std.specs.Prelude.{◌≡◌, ◌≢◌, ◌↔◌, ℕ, IfErr, IfOk, IsTrue, None, OnErr, OnOk, Err, Ok, option_map};
 ghost use Rattle.client.specs.declared.client_refusal.Refusal.TheVariants.{Memory};
-ghost use Rattle.asking.specs.Askers.{asker_earlier, asker_key, asker_marks};
+ghost use Rattle.asking.specs.Askers.{asker_earlier, asker_key, asker_known, asker_marks};
 ghost use Rattle.asking.specs.Exchanges.{ExchangesFrames};
-ghost use Rattle.asking.specs.Joining.{first_expected, AllHand, BeginsAt, BeginsSome, BeginsSomeAt, BeginsWatch, IsJoined, IsLaterPromise, IsLatest, IsUnwatched, RefusesOne, Retraces, RetracesOne, StartsFrom};
+ghost use Rattle.asking.specs.Joining.{first_expected, AllHand, BeginsAt, BeginsSome, BeginsSomeAt, BeginsWatch, IsJoined, IsLaterPromise, IsLatest, IsUnwatched, RefusesOne, Retraces, RetracesOne, StartsFrom, WatchesNew, WatchesSome};
+ghost use Rattle.asking.specs.Recalled.{TellsAlarms};
+ghost use Rattle.asking.specs.Reports.{report_of, Report, Tells};
 ghost use Rattle.asking.specs.Scenes.{scene, HaltsAfter, StaysWhole};
 ghost use Rattle.asking.specs.declared.ask_fault.AskFault.TheVariants.{Stopped};
 
-use crate::asker::Mark;
 use crate::checking::tell_client;
+use crate::said::ALARM;
 use crate::watching::hand_one;
 use crate::{AskFault, Asker, Checks, Said};
 use client::{Client, Refusal};
 use encoding::{Hash32, KeyData, Name};
+use memory::{Alarm, Mark};
 use monitor::Monitor;
 use nodehash::NodeHash;
+use play::{push_hex, push_number};
 use rootchain::{SignedPromise, SignedRoot, write_list};
 use sigiface::Verifier;
 use std::alloc::{AllocError, Global};
@@ -27,8 +31,9 @@ where
     V: VufCheck + Drop,
     S: Verifier + Drop,
 {
-    /// Adds a monitor of a name that expects this key, or none, and lets it watch each epoch that is new: those
-    /// behind the mark of the name, or the latest one if there is no mark. Where none is new, nothing is added.
+    /// Tells the alarms of a name again that earlier runs told. Then it adds a monitor of the name that expects this key,
+    /// or none, and lets it watch each epoch that is new: those behind the mark of the name, or the latest one if there
+    /// is no mark. Where none is new, nothing is added.
     ///
     /// # Errors
     ///
@@ -40,11 +45,40 @@ where
         key: Option<&KeyData>,
         said: &mut Said,
     ) -> Result<(), AskFault>
-        ensures begins { OnOk result (BeginsWatch H.digest_of V.accepted S.verified (ExchangesFrames T.contents T.remaining) (asker_marks self.old) (asker_key self.old) (asker_earlier self.old) name.now (option_map (λ key. key.now) key.entry)
+        ensures begins { OnOk result (BeginsWatch H.digest_of V.accepted S.verified (ExchangesFrames T.contents T.remaining) (asker_known self.old) (asker_marks self.old) (asker_key self.old) (asker_earlier self.old) name.now (option_map (λ key. key.now) key.entry)
             (scene self.old said.old stream.old) (scene self.new said.new stream.new)) }
         ensures stays { StaysWhole self.old self.new }
         ensures err { IfErr result (λ fault. fault ≢ Stopped) }
-        ensures halts { IfErr result (λ fault. HaltsAfter (BeginsSome H.digest_of V.accepted S.verified (ExchangesFrames T.contents T.remaining) (asker_marks self.old) (asker_key self.old) (asker_earlier self.old) name.now (option_map (λ key. key.now) key.entry)
+        ensures halts { IfErr result (λ fault. HaltsAfter (BeginsSome H.digest_of V.accepted S.verified (ExchangesFrames T.contents T.remaining) (asker_known self.old) (asker_marks self.old) (asker_key self.old) (asker_earlier self.old) name.now (option_map (λ key. key.now) key.entry)
+            (scene self.old said.old stream.old)) fault self.new said.new) }
+    {
+        self.tell_alarms(name, said)?;
+        self.watch_new(stream, name, key, said)
+    }
+
+    /// Tells the alarms of a name again that earlier runs told, whole or not at all.
+    fn tell_alarms(&self, name: &Name, said: &mut Said) -> Result<(), AllocError>
+        ensures tells { OnOk result ((again : Report) × TellsAlarms name.now (self.now).known again × Tells said.old again said.new) }
+        ensures untold { OnErr result (report_of said.new ≡ report_of said.old) }
+    {
+        let mut now = alarms_said(self.alloc, &self.known, name)?;
+        explain_again(self.alloc, name, self.known.alarms(), &mut now)?;
+        said.join(now)
+    }
+
+    /// Adds a monitor of a name, and lets it watch each epoch that is new.
+    fn watch_new<T: Read + Write>(
+        &mut self,
+        stream: &mut T,
+        name: &Name,
+        key: Option<&KeyData>,
+        said: &mut Said,
+    ) -> Result<(), AskFault>
+        ensures begins { OnOk result (WatchesNew H.digest_of V.accepted S.verified (ExchangesFrames T.contents T.remaining) (asker_marks self.old) (asker_key self.old) (asker_earlier self.old) name.now (option_map (λ key. key.now) key.entry)
+            (scene self.old said.old stream.old) (scene self.new said.new stream.new)) }
+        ensures stays { StaysWhole self.old self.new }
+        ensures err { IfErr result (λ fault. fault ≢ Stopped) }
+        ensures halts { IfErr result (λ fault. HaltsAfter (WatchesSome H.digest_of V.accepted S.verified (ExchangesFrames T.contents T.remaining) (asker_marks self.old) (asker_key self.old) (asker_earlier self.old) name.now (option_map (λ key. key.now) key.entry)
             (scene self.old said.old stream.old)) fault self.new said.new) }
     {
         let Some(first) = first_unwatched(&self.client, &self.marks, name) else {
@@ -104,6 +138,41 @@ where
         }
         Ok(monitor)
     }
+}
+
+/// What is said of the alarms of a name that earlier runs told.
+fn alarms_said(alloc: Global, known: &memory::Memory, name: &Name) -> Result<Said, AllocError>
+    ensures { IfOk result (λ said. TellsAlarms name.now known.now (report_of said)) }
+{
+    let mut said = Said::new(alloc);
+    let count = known.tell_again(name, &mut said.text)?;
+    if count == 0 {
+        return Ok(said);
+    }
+    said.raise(ALARM);
+    Ok(said)
+}
+
+/// Says that the alarms of a name are of an earlier run, in lines of the errors.
+fn explain_again(
+    alloc: Global,
+    name: &Name,
+    alarms: &[Alarm],
+    said: &mut Said,
+) -> Result<(), AllocError>
+    ensures { report_of said.new ≡ report_of said.old }
+{
+    let mut words = Vec::new(alloc);
+    for alarm in alarms {
+        if alarm.name == *name {
+            words.extend_from_slice(b"watching ")?;
+            push_hex(&mut words, name.bytes())?;
+            words.extend_from_slice(b" at epoch ")?;
+            push_number(&mut words, alarm.epoch)?;
+            words.extend_from_slice(b": alarm of an earlier run\n")?;
+        }
+    }
+    said.words.extend_from_slice(&words)
 }
 
 /// The first root whose epoch was not watched for a name in an earlier run.

@@ -21,7 +21,6 @@ mod checking;
 mod exchange;
 mod following;
 mod joining;
-mod kept_lines;
 mod laws;
 mod lines;
 mod order;
@@ -30,6 +29,7 @@ mod promises;
 mod run;
 mod running;
 mod said;
+mod settling;
 mod state;
 mod watching;
 

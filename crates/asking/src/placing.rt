@@ -63,12 +63,7 @@ where
 }
 
 /// Tells a latest root that the chain has: one that is older than the head of this epoch is refused.
-fn tell_known(
-    alloc: Global,
-    held: u64,
-    root: SignedRoot,
-    said: &mut Said,
-) -> Result<(), AllocError>
+fn tell_known(alloc: Global, held: u64, root: SignedRoot, said: &mut Said) -> Result<(), AllocError>
     ensures { OnOk result (Tells said.old (known_told held root) said.new) }
 {
     if root.body.epoch < held {

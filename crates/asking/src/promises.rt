@@ -13,7 +13,6 @@ ghost use Rattle.asking.specs.Visiting.{AwaitsMonitor, HasMonitor, IsMarked, Tes
 ghost use Rattle.asking.specs.declared.ask_fault.AskFault.TheVariants.{Stopped};
 
 use crate::answering::body_of;
-use crate::asker::Mark;
 use crate::checking::{tell_client, tell_evidence};
 use crate::exchange::frame_in;
 use crate::said::OTHER_INDEX;
@@ -21,6 +20,7 @@ use crate::{AskFault, Asker, Checks, Said};
 use auditor::Evidence;
 use client::{Client, Due};
 use encoding::Name;
+use memory::Mark;
 use monitor::Monitor;
 use nodehash::NodeHash;
 use play::Ask;

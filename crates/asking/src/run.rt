@@ -1,5 +1,5 @@
 // A run: each line of the input is asked, what is told of it is written, and the state is kept.
-ghost use Rattle.std.specs.Prelude.{◌≡◌, ◌⊎◌, ◌↔◌, ◌<◌, ◌≤◌, List, ℕ, [], Err, IfErr, IfOk, IfSome, MatchOption, None, Ok, OnErr, OnOk, Option, Some, option_map, ⊤};
+ghost use Rattle.std.specs.Prelude.{◌≡◌, ◌⊎◌, ◌↔◌, ◌<◌, ◌≤◌, ◌++◌, List, ℕ, [], Err, IfErr, IfOk, IfSome, MatchOption, None, Ok, OnErr, OnOk, Option, Some, option_map, ⊤};
 ghost use Rattle.std.specs.Io.KnownBytes.{Appends};
 ghost use Rattle.textio.specs.Lines.{lines_of};
 ghost use Rattle.textio.specs.Output.{WritesSome};
@@ -8,18 +8,25 @@ ghost use Rattle.play.specs.Scripts.{line_of, line_seen};
 ghost use Rattle.asking.specs.AskOptions.{ask_values};
 ghost use Rattle.asking.specs.Ending.{AsksPart, AsksSomeLine, BeginsNone, DoesSome, end_status, EndsEarly, HoldsBack, PreparesSome, stopped_status, TakesSomeNew};
 ghost use Rattle.asking.specs.Exchanges.{ExchangesFrames};
-ghost use Rattle.asking.specs.Reports.{report_of, Report};
+ghost use Rattle.asking.specs.Recalled.{evidence_again};
+ghost use Rattle.asking.specs.Reports.{report_of, told_after, Report};
 ghost use Rattle.asking.specs.RunFaults.{AsksInput, CannotBeAsked, IsFaultOfSaving, IsFaultOfState, IsFaultWith, IsFirstUnasked, StopsOr};
 ghost use Rattle.asking.specs.Runs.{AsksLine, AsksLines, BeginsAsking, DoesLine, emptied, Grows, IsSoundFor, KeepsAll, new_background, background_of, lines_asked, Prepares, RunsWhole, TakesNew, with_word, words_line, Writes};
 ghost use Rattle.asking.specs.declared.ask_fault.RunFault.TheVariants.{Program};
 ghost use Rattle.asking.specs.declared.run.RunEnd.TheVariants.{Whole, Stopped};
 ghost use Rattle.asking.specs.declared.said.TheConstants.{ALARM};
 ghost use Rattle.asking.specs.Scenes.{scene, Scene, StartsAtHead};
+ghost use Rattle.asking.specs.Settling.{settled_text};
+ghost use Rattle.memory.specs.Memories.{Memory};
 
 use crate::ask_fault::RunFault;
+use crate::lines::lines_beginning;
 use crate::said::{ALARM, REFUSED};
+use crate::settling::tell_settled;
 use crate::state::State;
 use crate::{AskFault, AskKeys, AskOrder, Asker, Checks, Said};
+use encoding::Name;
+use memory::Memory;
 use nodehash::NodeHash;
 use play::{Line, next_line, push_number, read_line};
 use sigiface::Verifier;
@@ -247,7 +254,7 @@ where
         ensures err { IfErr result (λ fault. (asked ≡ Err fault) ⊎ ((asked ≡ Ok tt) × StopsOr IsFaultOfSaving fault)) }
         ensures said { (self.new).said ≡ (self.old).said }
     {
-        let Some(state) = self.state.as_ref() else {
+        let Some(state) = self.state.as_mut() else {
             return asked;
         };
         let left = state.finish(self.alloc, self.files);
@@ -271,15 +278,39 @@ where
         ensures begins { IfOk result (λ asker. BeginsAsking H.digest_of V.accepted S.verified (ExchangesFrames T.contents T.remaining) keys.now.signing_key keys.now.token ((self.old).state ≡ None)
             stream.old (background_of asker) asker.client stream.new) }
         ensures knows { IfOk result (λ asker. (asker.key ≡ keys.now.signing_key) × (asker.token ≡ keys.now.token) × (asker.monitors.items ≡ [])) }
-        ensures said { IfOk result (λ asker. report_of (self.new).said ≡ report_of (self.old).said) }
+        ensures said { IfOk result (λ asker. report_of (self.new).said ≡ told_after (report_of (self.old).said) (evidence_again asker.known)) }
         ensures none { OnErr result (BeginsNone S.verified (ExchangesFrames T.contents T.remaining) keys.now.signing_key stream.old (report_of (self.old).said) (report_of (self.new).said)) }
         ensures faults { IfErr result (StopsOr (λ fault. ((¬ ((self.old).state ≡ None)) × IsFaultOfState fault) ⊎ (fault ≡ OutOfMemory))) }
         ensures still { ((self.new).state ≡ None) ↔ ((self.old).state ≡ None) }
         ensures rises { (self.old).said.status ≤ (self.new).said.status }
     {
         match self.load(checks, keys)? {
-            Ok(asker) => Ok(asker),
+            Ok(asker) => {
+                self.tell_evidence(&asker.known)?;
+                Ok(asker)
+            }
             Err(unused) => self.begin_at_head(stream, unused, keys),
+        }
+    }
+
+    /// Tells the evidence of earlier runs again, whole or not at all.
+    fn tell_evidence(&mut self, known: &Memory) -> Result<(), AllocError>
+        ensures tells { OnOk result (report_of (self.new).said ≡ told_after (report_of (self.old).said) (evidence_again known.now)) }
+        ensures untold { OnErr result (report_of (self.new).said ≡ report_of (self.old).said) }
+        ensures still { (self.new).state ≡ (self.old).state }
+    {
+        let mut now = evidence_said(self.alloc, known)?;
+        self.explain_evidence(&mut now)?;
+        self.said.join(now)
+    }
+
+    /// Says that evidence is of an earlier run, in lines of the errors.
+    fn explain_evidence(&self, said: &mut Said) -> Result<(), AllocError>
+        ensures { report_of said.new ≡ report_of said.old }
+    {
+        match self.state.as_ref() {
+            Some(state) => state.explain_evidence(said),
+            None => Ok(()),
         }
     }
 
@@ -515,8 +546,9 @@ where
         ensures grows { Grows (W.contents writer.old) (W.contents writer.new) }
         ensures status { (self.new).said.status ≡ (self.old).said.status }
     {
+        let alarms = lines_beginning(self.alloc, &self.said.text, b"alarm ")?;
         if let Some(state) = self.state.as_mut() {
-            state.add(self.files, asker)?;
+            state.add(self.files, asker, &self.said.text)?;
         }
         if asked == Err(AskFault::Stopped) {
             tell_epoch(
@@ -528,15 +560,78 @@ where
         self.write(writer, errors)?;
         if asked != Err(AskFault::OutOfMemory) {
             if let Some(state) = self.state.as_mut() {
-                state.save(self.files, asker)?;
+                state.save(self.files, asker, &alarms)?;
             }
         }
         asked?;
         Ok(())
     }
 
+    /// Drops the alarms of a name from what is remembered, and tells how many there were, behind evidence of earlier runs.
+    pub(crate) fn settle_alarms<H, V, S>(
+        &mut self,
+        checks: Checks<H, V, S>,
+        keys: &AskKeys,
+        name: &Name,
+    ) -> Result<(), ProgramFault>
+    where
+        H: NodeHash + Drop,
+        V: VufCheck + Drop,
+        S: Verifier + Drop,
+        ensures settles { OnOk result (report_of (self.old).said ≡ emptied 0 → (known : Memory) × (count : ℕ)
+            × ((self.new).said.text.items ≡ settled_text known name.now count) × ((self.new).said.status ≡ (evidence_again known).status)) }
+        ensures part { report_of (self.old).said ≡ emptied 0 → (known : Memory) × (count : ℕ) × (rest : List ℕ) × (settled_text known name.now count ≡ (self.new).said.text.items ++ rest) }
+        ensures err { IfErr result IsFaultOfState }
+    {
+        self.recall(checks, keys)?;
+        let count = self.drop_alarms(name)?;
+        tell_settled(self.alloc, name, count, &mut self.said)?;
+        Ok(())
+    }
+
+    /// Loads the state, and tells the evidence of earlier runs again.
+    fn recall<H, V, S>(
+        &mut self,
+        checks: Checks<H, V, S>,
+        keys: &AskKeys,
+    ) -> Result<(), ProgramFault>
+    where
+        H: NodeHash + Drop,
+        V: VufCheck + Drop,
+        S: Verifier + Drop,
+        ensures tells { OnOk result (report_of (self.old).said ≡ emptied 0 → (known : Memory) × (report_of (self.new).said ≡ evidence_again known)) }
+        ensures untold { OnErr result (report_of (self.new).said ≡ report_of (self.old).said) }
+        ensures err { IfErr result IsFaultOfState }
+    {
+        let Ok(asker) = self.load(checks, keys)? else {
+            return Ok(());
+        };
+        self.tell_evidence(&asker.known)?;
+        Ok(())
+    }
+
+    /// Drops the alarms of a name from the files of the state. Returns how many there were.
+    fn drop_alarms(&mut self, name: &Name) -> Result<usize, ProgramFault>
+        ensures said { (self.new).said ≡ (self.old).said }
+        ensures err { IfErr result IsFaultOfSaving }
+    {
+        let Some(state) = self.state.as_mut() else {
+            return Ok(0);
+        };
+        let count = state.settle(name);
+        state.finish(self.alloc, self.files)?;
+        Ok(count)
+    }
+
+    /// The status so far.
+    pub(crate) fn status(&self) -> u8
+        ensures { result ≡ (self.now).said.status }
+    {
+        self.said.status
+    }
+
     /// Writes what is said: the lines to the output, the words to the errors.
-    fn write<W: Write, E: Write>(
+    pub(crate) fn write<W: Write, E: Write>(
         &mut self,
         writer: &mut W,
         errors: &mut E,
@@ -557,6 +652,19 @@ where
         told?;
         Ok(())
     }
+}
+
+/// What is said of the evidence of earlier runs.
+fn evidence_said(alloc: Global, known: &Memory) -> Result<Said, AllocError>
+    ensures { IfOk result (λ said. report_of said ≡ evidence_again known.now) }
+{
+    let mut said = Said::new(alloc);
+    known.tell_evidence(&mut said.text)?;
+    if known.evidence().is_empty() {
+        return Ok(said);
+    }
+    said.raise(REFUSED);
+    Ok(said)
 }
 
 /// Asks what a line says, or nothing if that asks nothing of a directory.

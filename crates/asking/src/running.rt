@@ -10,6 +10,7 @@ ghost use Rattle.asking.specs.Runs.{Grows};
 
 use crate::run::{Run, RunEnd};
 use crate::said::REFUSED;
+use crate::settling::{name_to_settle, settle};
 use crate::{AskKeys, AskOrder, Checks};
 use encoding::Hash32;
 use nodehash::NodeHash;
@@ -74,8 +75,38 @@ fn keys_of(order: &AskOrder<'_>) -> Result<AskKeys, ProgramFault>
     })
 }
 
-/// Connects, and asks under these keys.
+/// Settles a name, or asks, under these keys.
 fn ask_under<'a, N, R, W, E>(
+    alloc: Global,
+    system: &'a N,
+    keys: AskKeys,
+    order: AskOrder<'a>,
+    reader: &mut R,
+    writer: &mut W,
+    errors: &mut E,
+) -> Result<u8, ProgramFault>
+where
+    N: Net<Listener = TcpListener, Stream = TcpStream> + Files<File = File>,
+    R: BufRead,
+    W: Write,
+    E: Write,
+    ensures faults { IfErr result (IsRunFault (ask_values order.entry) (R.remaining reader.old)) }
+    ensures unread { ¬ AsksInput (ask_values order.entry).words → reader.new ≡ reader.old }
+    ensures grows { Grows (W.contents writer.old) (W.contents writer.new) }
+    ensures runs { ask_keys_of (ask_values order.entry) ≡ Some (keys.signing_key, keys.token)
+        → IfOk result (λ status. AsksOverSocket (ask_values order.entry) (R.remaining reader.old) status (W.contents writer.old) (W.contents writer.new)) }
+    ensures fails { ask_keys_of (ask_values order.entry) ≡ Some (keys.signing_key, keys.token)
+        → OnErr result (FailsOverSocket (ask_values order.entry) (R.remaining reader.old) (W.contents writer.old) (W.contents writer.new)) }
+{
+    if let Some(name) = name_to_settle(alloc, &order)? {
+        let checks = Checks::keyed(keys.signing_key);
+        return settle(alloc, system, checks, &keys, order, &name, writer, errors);
+    }
+    ask_connected(alloc, system, keys, order, reader, writer, errors)
+}
+
+/// Connects, and asks under these keys.
+fn ask_connected<'a, N, R, W, E>(
     alloc: Global,
     system: &'a N,
     keys: AskKeys,

@@ -9,13 +9,15 @@ ghost use Rattle.asking.specs.Reports.{report_of};
 ghost use Rattle.asking.specs.RunFaults.{IsFaultOfSaving, IsFaultOfState};
 ghost use Rattle.asking.specs.Runs.{IsSameAsker, IsSoundFor, KeepsAll, StillKeeps};
 
-use crate::kept_lines::KeptLines;
 use crate::lines::{fault_of, line_bytes};
 use crate::{Asker, Checks, Said};
-use encoding::Hash32;
+use encoding::{Hash32, Name};
 use files::{LockFault, append, cut, open_existing, open_kept, open_locked, replace};
+use memory::{Item, Mark, Memory, Promised, read_item, watched_up_to};
+use monitor::Monitor;
 use nodehash::NodeHash;
 use play::push_number;
+use rootchain::SignedPromise;
 use sigiface::Verifier;
 use std::alloc::{AllocError, Global};
 use std::fs::{File, Files};
@@ -33,14 +35,25 @@ struct LineFile {
 /// The files of a state.
 #[derive(Drop)]
 pub(crate) struct State<'a> {
+    alloc: Global,
     path: &'a str,
     beside: String,
     roots: Option<File>,
     kept: Option<File>,
     /// The epoch of the last root in the file, or 0.
     epoch: u64,
-    /// What the second file has.
-    lines: KeptLines,
+    /// What the second file is to have.
+    memory: Memory,
+    /// How many bytes the second file has, if that is known.
+    size: Option<usize>,
+    /// How many changes of this run were looked at.
+    changes: usize,
+    /// The promises that were tested in this run.
+    tested: Vec<SignedPromise>,
+    /// How many promises the client kept, the head, and how many monitors there were, when it was last looked.
+    count: usize,
+    head: u64,
+    monitors: usize,
 }
 
 /// The front of the bytes up to the last LF.
@@ -57,11 +70,16 @@ fn whole_lines(bytes: &[u8]) -> &[u8]
 fn tell_file(said: &mut Said, path: &str, what: &[u8]) -> Result<(), AllocError>
     ensures { report_of said.new ≡ report_of said.old }
 {
-    said.words.extend_from_slice(b"state: ")?;
-    said.words.extend_from_slice(path.as_bytes())?;
-    said.words.extend_from_slice(b": ")?;
-    said.words.extend_from_slice(what)?;
-    said.words.push(b'\n')?;
+    push_words(&mut said.words, path, what)
+}
+
+/// Appends what is said of a file of the state.
+fn push_words(words: &mut Vec<u8>, path: &str, what: &[u8]) -> Result<(), AllocError> {
+    words.extend_from_slice(b"state: ")?;
+    words.extend_from_slice(path.as_bytes())?;
+    words.extend_from_slice(b": ")?;
+    words.extend_from_slice(what)?;
+    words.push(b'\n')?;
     Ok(())
 }
 
@@ -191,18 +209,38 @@ fn saving_fault(fault: ProgramFault) -> ProgramFault
     }
 }
 
+/// Where the watching of a name begins that this monitor watches: the epoch before the first root of its chain.
+fn begins_at<H, V, S>(monitor: &Monitor<H, V, S>) -> u64
+where
+    H: NodeHash + Drop,
+    V: VufCheck + Drop,
+    S: Verifier + Drop,
+{
+    match monitor.client().chain().after(0) {
+        Some(root) => root.body.previous_epoch,
+        None => 0,
+    }
+}
+
 impl<'a> State<'a> {
     /// The state in the file of this path.
     pub(crate) fn new(alloc: Global, path: &'a str) -> Result<Self, ProgramFault>
         ensures { IfErr result (λ fault. fault ≡ OutOfMemory) }
     {
         Ok(State {
+            alloc,
             path,
             beside: format!(in alloc; "{path}.kept")?,
             roots: None,
             kept: None,
             epoch: 0,
-            lines: KeptLines::new(alloc),
+            memory: Memory::new(alloc),
+            size: Some(0),
+            changes: 0,
+            tested: Vec::new(alloc),
+            count: 0,
+            head: 0,
+            monitors: 0,
         })
     }
 
@@ -264,7 +302,7 @@ impl<'a> State<'a> {
         Ok(Ok(asker))
     }
 
-    /// Keeps what the second file has.
+    /// Remembers what the second file has. Evidence of earlier runs is told again.
     fn keep<H, V, S>(
         &mut self,
         asker: &mut Asker<H, V, S>,
@@ -281,14 +319,31 @@ impl<'a> State<'a> {
         ensures err { IfErr result IsFaultOfState }
     {
         let lines = whole_lines(&second.bytes);
-        if let Err(fault) = asker.keep_lines(lines) {
+        if let Err(fault) = asker.remember(lines, &mut self.memory) {
             return Err(fault_in(self.beside.as_str(), fault, said));
         }
-        self.lines.remember(asker, lines.len())?;
+        self.size = Some(lines.len());
+        self.count = asker.client.promises().len();
+        self.head = asker.head();
         Ok(())
     }
 
-    /// Adds the roots and the promises that are new to what the files have.
+    /// Says that evidence is of an earlier run, in a line of the errors for each.
+    pub(crate) fn explain_evidence(&self, said: &mut Said) -> Result<(), AllocError>
+        ensures { report_of said.new ≡ report_of said.old }
+    {
+        let mut words = Vec::new(self.alloc);
+        for _ in self.memory.evidence() {
+            push_words(
+                &mut words,
+                self.beside.as_str(),
+                b"evidence of an earlier run",
+            )?;
+        }
+        said.words.extend_from_slice(&words)
+    }
+
+    /// Adds the roots, the promises and the evidence that are new to what the files have. The text is what was told.
     ///
     /// # Errors
     ///
@@ -297,6 +352,7 @@ impl<'a> State<'a> {
         &mut self,
         files: &F,
         asker: &Asker<H, V, S>,
+        told: &[u8],
     ) -> Result<(), ProgramFault>
     where
         F: Files<File = File>,
@@ -311,11 +367,12 @@ impl<'a> State<'a> {
             None => return Err(ProgramFault::CannotWrite),
         }
         self.epoch = asker.head();
-        let promises = self.lines.new_promises(asker)?;
-        self.append_second(files, &promises)
+        let mut lines = self.new_promises(asker)?;
+        self.take_told(told, b"{", &mut lines)?;
+        self.append_second(files, &lines)
     }
 
-    /// Adds how far names were watched, and looks which promises are left.
+    /// Adds the alarms that were told, and how far names were watched, and notes the promises that were tested.
     ///
     /// # Errors
     ///
@@ -324,6 +381,7 @@ impl<'a> State<'a> {
         &mut self,
         files: &F,
         asker: &Asker<H, V, S>,
+        told: &[u8],
     ) -> Result<(), ProgramFault>
     where
         F: Files<File = File>,
@@ -332,19 +390,162 @@ impl<'a> State<'a> {
         S: Verifier + Drop,
         ensures { IfErr result IsFaultOfSaving }
     {
-        let marks = self.lines.new_marks(asker)?;
-        self.append_second(files, &marks)?;
-        self.lines.settle(asker)?;
+        let mut lines = Vec::new(self.alloc);
+        self.take_told(told, b"alarm ", &mut lines)?;
+        self.add_marks(asker, &mut lines)?;
+        self.append_second(files, &lines)?;
+        self.note_tested(asker.client.promises())?;
         Ok(())
     }
 
-    /// Writes the second file anew, if it has lines that no longer hold.
+    /// Notes the promises that the client no longer keeps: they were tested.
+    fn note_tested(&mut self, promises: &[SignedPromise]) -> Result<(), AllocError> {
+        let expected = self.count;
+        self.count = promises.len();
+        if promises.len() == expected {
+            return Ok(());
+        }
+        for promised in self.memory.promises() {
+            let signed = &promised.signed;
+            if !promises.contains(signed) && !self.tested.contains(signed) {
+                self.tested.push(signed.copied())?;
+            }
+        }
+        Ok(())
+    }
+
+    /// Drops the alarms of a name, and returns how many there were.
+    pub(crate) fn settle(&mut self, name: &Name) -> usize {
+        self.memory.settle(name)
+    }
+
+    /// Takes an item, and appends its line if it is new.
+    fn take(&mut self, item: Item, lines: &mut Vec<u8>) -> Result<(), AllocError> {
+        let mut line = Vec::new(self.alloc);
+        item.write(&mut line)?;
+        if self.memory.take(item)? {
+            lines.extend_from_slice(&line)?;
+        }
+        Ok(())
+    }
+
+    /// Whether a promise is remembered.
+    fn knows(&self, signed: &SignedPromise) -> bool {
+        // One that was just kept is the last.
+        let mut known = self.memory.promises().iter().rev();
+        known.any(|promised| promised.signed == *signed)
+    }
+
+    /// Takes the promises that the client kept since it was last looked. Returns the lines of those that are new.
+    fn new_promises<H, V, S>(&mut self, asker: &Asker<H, V, S>) -> Result<Vec<u8>, AllocError>
+    where
+        H: NodeHash + Drop,
+        V: VufCheck + Drop,
+        S: Verifier + Drop,
+    {
+        let promises = asker.client.promises();
+        let known = self.known_of(promises);
+        let mut lines = Vec::new(self.alloc);
+        for signed in asker.changes.iter().skip(self.changes) {
+            let (signed, is_own) = (signed.copied(), true);
+            self.take(Item::Promised(Promised { signed, is_own }), &mut lines)?;
+        }
+        self.changes = asker.changes.len();
+        for signed in promises.iter().skip(known) {
+            let (signed, is_own) = (signed.copied(), false);
+            self.take(Item::Promised(Promised { signed, is_own }), &mut lines)?;
+        }
+        let added = promises.len().saturating_sub(known);
+        self.count = self.count.saturating_add(added);
+        Ok(lines)
+    }
+
+    /// How many of these promises are remembered. New ones stand at the end.
+    fn known_of(&self, promises: &[SignedPromise]) -> usize {
+        let mut known = promises.len();
+        for signed in promises.iter().rev() {
+            if self.knows(signed) {
+                return known;
+            }
+            known = known.saturating_sub(1);
+        }
+        known
+    }
+
+    /// Takes the told lines that begin with a word, and appends those that are new.
+    fn take_told(
+        &mut self,
+        told: &[u8],
+        word: &[u8],
+        lines: &mut Vec<u8>,
+    ) -> Result<(), AllocError> {
+        for line in told.split(|byte| *byte == b'\n') {
+            if !line.starts_with(word) {
+                continue;
+            }
+            if let Some(item) = read_item(self.alloc, line)? {
+                self.take(item, lines)?;
+            }
+        }
+        Ok(())
+    }
+
+    /// Takes how far names were watched, and appends the lines of what is new.
+    fn add_marks<H, V, S>(
+        &mut self,
+        asker: &Asker<H, V, S>,
+        lines: &mut Vec<u8>,
+    ) -> Result<(), AllocError>
+    where
+        H: NodeHash + Drop,
+        V: VufCheck + Drop,
+        S: Verifier + Drop,
+    {
+        // While no root is new, the marks of new monitors alone are.
+        let known = if asker.head() == self.head {
+            self.monitors
+        } else {
+            0
+        };
+        for monitor in asker.monitors.iter().skip(known) {
+            self.add_mark(asker, monitor, lines)?;
+        }
+        self.head = asker.head();
+        self.monitors = asker.monitors.len();
+        Ok(())
+    }
+
+    /// Takes how far the name of a monitor was watched.
+    fn add_mark<H, V, S>(
+        &mut self,
+        asker: &Asker<H, V, S>,
+        monitor: &Monitor<H, V, S>,
+        lines: &mut Vec<u8>,
+    ) -> Result<(), AllocError>
+    where
+        H: NodeHash + Drop,
+        V: VufCheck + Drop,
+        S: Verifier + Drop,
+    {
+        let name = monitor.name();
+        let Some(epoch) = watched_up_to(&asker.monitors, name) else {
+            return Ok(());
+        };
+        let since = match self.memory.mark_of(name) {
+            Some(mark) => mark.since,
+            None => begins_at(monitor),
+        };
+        let name = name.copied();
+        self.take(Item::Watched(Mark { name, since, epoch }), lines)
+    }
+
+    /// Drops the promises that nobody needs, and writes the second file anew if it has lines that no longer hold.
     ///
     /// # Errors
     ///
     /// `CannotWrite`: it has at least what it is to have; `OutOfMemory`.
     pub(crate) fn finish<F: Files<File = File>>(
-        &self,
+        &mut self,
         alloc: Global,
         files: &F,
     ) -> Result<(), ProgramFault>
@@ -354,10 +555,14 @@ impl<'a> State<'a> {
         if self.roots.is_none() {
             return Ok(());
         }
-        match self.lines.rest()? {
-            Some(text) => replace(alloc, files, self.beside.as_str(), &text),
-            None => Ok(()),
+        self.memory.leave(&self.tested);
+        let mut text = Vec::new(alloc);
+        self.memory.write(&mut text)?;
+        // The file has at least these lines, so that it has no other ones where it is as long.
+        if self.size == Some(text.len()) {
+            return Ok(());
         }
+        replace(alloc, files, self.beside.as_str(), &text)
     }
 
     /// Appends lines to the second file, which is made if it is not there.
@@ -379,9 +584,8 @@ impl<'a> State<'a> {
             },
         };
         let written = append(&mut file, lines);
-        if written.is_err() {
-            self.lines.forget_size();
-        }
+        let size = self.size.map(|size| size.saturating_add(lines.len()));
+        self.size = if written.is_ok() { size } else { None };
         self.kept = Some(file);
         written
     }

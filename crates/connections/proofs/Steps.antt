@@ -15,7 +15,7 @@ use Rattle.connections.specs.declared.ending.SessionFault.{SessionFault}
 use Rattle.connections.specs.Histories.{At, Ordered, GoesOn, Syncs, NoneWaits, On, Deed, Comes, Opens, Refuses, Reads, IsOver, IsSilent, Hears, Misses, Lacks, Takes, TakesNone, Fails, Ends, Closes, History, Course, IfThere, Telling, course, done_at, or_now, rested, stage, went_on, IsOfSession}
 use Rattle.connections.specs.Telling.{losses, lost}
 use Rattle.connections.specs.Rounds.{does_something, closes, gives_turn, offers, reads, was_busy, InRound, IsUnread}
-use Rattle.connections.specs.Soundness.{Here, AreNext, HasRoom, IsDue, IsHearing, IsOnce, IsReason, IsWell, MayBeOffered, MayBeRead, MayHear}
+use Rattle.connections.specs.Soundness.{Here, AreNext, HasRoom, IsDue, IsHearing, IsOnce, IsWell, MayBeClosed, MayBeOffered, MayBeRead, MayHear}
 
 -- ---- where a connection is
 
@@ -172,7 +172,7 @@ not_told of input output since over some keeps same = some (none_left of.answere
 
 -- what is due of a connection, and what is so of it after the deed
 abbrev pub Next : ℕ → History → ℕ → Deed → (Course → Type 0) → Type 0
-Next idle acts place deed P = (IsDue idle acts deed (course acts place) × IsOnce acts place deed) × Here (course (On place deed ∷ acts) place) P
+Next idle acts place deed P = (IsDue idle acts place deed (course acts place) × IsOnce acts place deed) × Here (course (On place deed ∷ acts) place) P
 
 pub next_read : (idle : ℕ) (acts : History) (place : ℕ) (bytes input output : List ℕ) (since : Option ℕ) (over : Bool) → IsUnread place acts → IsHearing acts → 1 ≤ length bytes → length bytes ≤ PIECE_SIZE
     → Here (course acts place) (λ of. KeepsCourse input output since over of × MayBeRead of) → Next idle acts place (Reads bytes) (KeepsCourse bytes output None over)
@@ -305,14 +305,14 @@ next_hear idle acts place part rest reply input output since over hearing some s
     )
 
 -- a part that is not heard is a reason to close the connection
-missed : (idle : ℕ) (acts : History) (part : List ℕ) (why : SessionFault) (of : Course) → of.is_open ≡ true
-    → (after : Course) × (went_on (Misses part why) of ≡ Some after) × (after.is_open ≡ true) × IsReason idle acts (ending_of why) after
-missed idle acts part fault.Memory of opened = (record of { is_wanting = true }, refl, opened, refl)
-missed idle acts part fault.Refused of opened = (record of { is_refused = true }, refl, opened, refl)
+missed : (idle : ℕ) (acts : History) (place : ℕ) (part : List ℕ) (why : SessionFault) (of : Course) → of.is_open ≡ true
+    → (after : Course) × (went_on (Misses part why) of ≡ Some after) × (after.is_open ≡ true) × MayBeClosed idle acts place (ending_of why) after
+missed idle acts place part fault.Memory of opened = (record of { is_wanting = true }, refl, opened, refl)
+missed idle acts place part fault.Refused of opened = (record of { is_refused = true }, refl, opened, refl)
 
 pub next_miss : (idle : ℕ) (acts : History) (place : ℕ) (part rest input output : List ℕ) (since : Option ℕ) (over : Bool) (why : SessionFault) → IsHearing acts → 1 ≤ length part → input ≡ part ++ rest
     → length output ≤ FULL_OUTPUT → Here (course acts place) (KeepsCourse input output since over)
-    → Next idle acts place (Misses part why) (λ of. (of.is_open ≡ true) × IsReason idle (On place (Misses part why) ∷ acts) (ending_of why) of)
+    → Next idle acts place (Misses part why) (λ of. (of.is_open ≡ true) × MayBeClosed idle (On place (Misses part why) ∷ acts) place (ending_of why) of)
 next_miss idle acts place part rest input output since over why hearing some split few here =
     let found = here_of (course acts place) (KeepsCourse input output since over) here in
     let of : Course = found.0 in
@@ -320,9 +320,9 @@ next_miss idle acts place part rest input output since over why hearing some spl
     let read : of.read ≡ of.heard ++ (part ++ rest) = keeps.input_rest ∙ ap (λ (t : List ℕ). of.heard ++ t) split in
     let size : length of.answered ≡ length of.taken + length output = ap length keeps.output_rest ∙ length-append of.taken output in
     let room : HasRoom of = omega arith in
-    let then = missed idle (On place (Misses part why) ∷ acts) part why of keeps.fine.0 in (
+    let then = missed idle (On place (Misses part why) ∷ acts) place part why of keeps.fine.0 in (
       (here_at (course acts place) of (λ (of : Course). MayHear of part × IsHearing acts) found.1 ((keeps.fine, room, some, (rest, read)), hearing), λ so. absurd (false≢true so)),
-      here_at (course (On place (Misses part why) ∷ acts) place) then.0 (λ (of : Course). (of.is_open ≡ true) × IsReason idle (On place (Misses part why) ∷ acts) (ending_of why) of)
+      here_at (course (On place (Misses part why) ∷ acts) place) then.0 (λ (of : Course). (of.is_open ≡ true) × MayBeClosed idle (On place (Misses part why) ∷ acts) place (ending_of why) of)
           (went place (Misses part why) acts of found.1 ∙ then.1) (then.2, then.3),
     )
 

@@ -10,48 +10,48 @@ use Rattle.connections.specs.Laws.{AlwaysWaitWithin, AreAnsweredWithin, IsAnswer
 use Rattle.connections.specs.Soundness.{IsDue, IsSoundHistory}
 use Rattle.connections.proofs.Steps.{rested_so}
 
-stays_within : (idle most : ℕ) (acts : History) (deed : Deed) (there : Option Course) → IsDue idle acts deed there → IsAnsweredWithin most deed → WaitsWithin most there → WaitsWithin most (done_at deed there)
-stays_within idle most acts Comes None due few waits = omega arith
-stays_within idle most acts Comes (Some of) due few waits = omega arith
-stays_within idle most acts Opens None due few waits = tt
-stays_within idle most acts Opens (Some of) due few waits = waits
-stays_within idle most acts (Refuses why) None due few waits = tt
-stays_within idle most acts (Refuses fault.Memory) (Some of) due few waits = waits
-stays_within idle most acts (Refuses fault.Refused) (Some of) due few waits = waits
-stays_within idle most acts (Reads bytes) None due few waits = tt
-stays_within idle most acts (Reads bytes) (Some of) due few waits = waits
-stays_within idle most acts IsOver None due few waits = tt
-stays_within idle most acts IsOver (Some of) due few waits = waits
-stays_within idle most acts IsSilent None due few waits = tt
-stays_within idle most acts IsSilent (Some of) due few waits = waits
-stays_within idle most acts (Hears part reply) None due few waits = tt
-stays_within idle most acts (Hears part reply) (Some of) ((well, room, some, next), hearing) few waits =
+stays_within : (idle most : ℕ) (acts : History) (place : ℕ) (deed : Deed) (there : Option Course) → IsDue idle acts place deed there → IsAnsweredWithin most deed → WaitsWithin most there → WaitsWithin most (done_at deed there)
+stays_within idle most acts place Comes None due few waits = omega arith
+stays_within idle most acts place Comes (Some of) due few waits = omega arith
+stays_within idle most acts place Opens None due few waits = tt
+stays_within idle most acts place Opens (Some of) due few waits = waits
+stays_within idle most acts place (Refuses why) None due few waits = tt
+stays_within idle most acts place (Refuses fault.Memory) (Some of) due few waits = waits
+stays_within idle most acts place (Refuses fault.Refused) (Some of) due few waits = waits
+stays_within idle most acts place (Reads bytes) None due few waits = tt
+stays_within idle most acts place (Reads bytes) (Some of) due few waits = waits
+stays_within idle most acts place IsOver None due few waits = tt
+stays_within idle most acts place IsOver (Some of) due few waits = waits
+stays_within idle most acts place IsSilent None due few waits = tt
+stays_within idle most acts place IsSilent (Some of) due few waits = waits
+stays_within idle most acts place (Hears part reply) None due few waits = tt
+stays_within idle most acts place (Hears part reply) (Some of) ((well, room, some, next), hearing) few waits =
     let grown : length (of.answered ++ reply) ≡ length of.answered + length reply = length-append of.answered reply in
     omega arith
-stays_within idle most acts (Misses part why) None due few waits = tt
-stays_within idle most acts (Misses part fault.Memory) (Some of) due few waits = waits
-stays_within idle most acts (Misses part fault.Refused) (Some of) due few waits = waits
-stays_within idle most acts Lacks None due few waits = tt
-stays_within idle most acts Lacks (Some of) due few waits = waits
-stays_within idle most acts (Takes bytes) None due few waits = tt
-stays_within idle most acts (Takes bytes) (Some of) due few waits =
+stays_within idle most acts place (Misses part why) None due few waits = tt
+stays_within idle most acts place (Misses part fault.Memory) (Some of) due few waits = waits
+stays_within idle most acts place (Misses part fault.Refused) (Some of) due few waits = waits
+stays_within idle most acts place Lacks None due few waits = tt
+stays_within idle most acts place Lacks (Some of) due few waits = waits
+stays_within idle most acts place (Takes bytes) None due few waits = tt
+stays_within idle most acts place (Takes bytes) (Some of) due few waits =
     let grown : length (of.taken ++ bytes) ≡ length of.taken + length bytes = length-append of.taken bytes in
     let before : length of.answered ≤ length of.taken + (FULL_OUTPUT + most) = waits in
     omega arith
-stays_within idle most acts TakesNone None due few waits = tt
-stays_within idle most acts TakesNone (Some of) due few waits = waits
-stays_within idle most acts Fails None due few waits = tt
-stays_within idle most acts Fails (Some of) due few waits = waits
-stays_within idle most acts Ends None due few waits = tt
-stays_within idle most acts Ends (Some of) due few waits = waits
-stays_within idle most acts (Closes why) None due few waits = tt
-stays_within idle most acts (Closes why) (Some of) due few waits = tt
+stays_within idle most acts place TakesNone None due few waits = tt
+stays_within idle most acts place TakesNone (Some of) due few waits = waits
+stays_within idle most acts place Fails None due few waits = tt
+stays_within idle most acts place Fails (Some of) due few waits = waits
+stays_within idle most acts place Ends None due few waits = tt
+stays_within idle most acts place Ends (Some of) due few waits = waits
+stays_within idle most acts place (Closes why) None due few waits = tt
+stays_within idle most acts place (Closes why) (Some of) due few waits = tt
 
 -- by whether the deed is at this place
-at_place : (idle most : ℕ) (acts : History) (deed : Deed) (other place : ℕ) (here : Bool) → (other == place) ≡ here → IsDue idle acts deed (course acts other) → IsAnsweredWithin most deed
+at_place : (idle most : ℕ) (acts : History) (deed : Deed) (other place : ℕ) (here : Bool) → (other == place) ≡ here → IsDue idle acts other deed (course acts other) → IsAnsweredWithin most deed
     → WaitsWithin most (course acts place) → WaitsWithin most (course (On other deed ∷ acts) place)
 at_place idle most acts deed other place true is due few waits =
-    rw is (stays_within idle most acts deed (course acts place) (subst (λ (n : ℕ). IsDue idle acts deed (course acts n)) (eqb-true other place is) due) few waits)
+    rw is (stays_within idle most acts place deed (course acts place) (subst (λ (n : ℕ). IsDue idle acts n deed (course acts n)) (eqb-true other place is) due) few waits)
 at_place idle most acts deed other place false is due few waits = rw is waits
 
 waits_now : (idle most : ℕ) (acts : History) (place : ℕ) → IsSoundHistory idle acts → AreAnsweredWithin most acts → WaitsWithin most (course acts place)

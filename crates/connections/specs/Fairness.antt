@@ -44,7 +44,7 @@ IsAttended acts place of = IsFull of ⊎ (IsHeard of × ((of.is_over ≡ true) �
 abbrev pub IsNotDue : ℕ → History → Course → Type 0
 IsNotDue idle acts of = (why : Ending) → ¬ IsReason idle acts why of
 
--- all that was answered is taken or was offered, and there is no reason to close the connection
+-- all that was answered is taken, or some of it was offered, and there is no reason to close the connection
 abbrev pub IsServed : ℕ → History → ℕ → Course → Type 0
 IsServed idle acts place of = (IsTaken of ⊎ InRound offers acts place) × IsNotDue idle acts of
 

@@ -13,7 +13,7 @@ use Rattle.connections.specs.Histories.{Stage, At, Ordered, GoesOn, Syncs, NoneW
 use Rattle.connections.specs.Pauses.{IsPause, MayStay}
 use Rattle.connections.specs.Rounds.{gives_turn, was_busy, InRound, IsUnread}
 use Rattle.connections.specs.Telling.{losses}
-use Rattle.connections.specs.Soundness.{Here, IsHearing, IsReason, IsSoundHistory, IsWell}
+use Rattle.connections.specs.Soundness.{Here, IsHearing, IsSoundHistory, IsWell, MayBeClosed}
 
 -- what was read and not heard, what was answered and not taken, and since when the connection is idle
 pub record KeepsCourse (input output : List ℕ) (idle_since : Option ℕ) (over : Bool) (of : Course) : Type 0 where
@@ -169,7 +169,7 @@ AddsOfSessions before after = (more : History) × AreOfSessions more × (after �
 -- the connection goes on, and this is so of it, or there is a reason to close it
 abbrev pub GoesOrCloses : {X : Type 0} → ℕ → History → ℕ → Result X Ending → (X → Course → Type 0) → Type 0
 GoesOrCloses idle acts place (Ok done) Kept = Here (course acts place) (Kept done)
-GoesOrCloses idle acts place (Err why) Kept = Here (course acts place) (λ of. (of.is_open ≡ true) × IsReason idle acts why of)
+GoesOrCloses idle acts place (Err why) Kept = Here (course acts place) (λ of. (of.is_open ≡ true) × MayBeClosed idle acts place why of)
 
 -- the connection goes on as it is kept, or there is a reason to close it
 abbrev pub Judged : {X : Type 0} → ℕ → History → ℕ → Result X Ending → Talk → Type 0

@@ -6,7 +6,7 @@ use Rattle.textio.specs.declared.some_bytes.TheConstants.{PIECE_SIZE}
 use Rattle.connections.specs.declared.loop_limits.TheConstants.{FULL_OUTPUT, LAST_MILLISECONDS}
 use Rattle.connections.specs.Histories.{At, Ordered, GoesOn, Syncs, NoneWaits, On, Deed, Comes, Opens, Refuses, Reads, IsOver, IsSilent, Hears, Misses, Lacks, Takes, TakesNone, Fails, Ends, Closes, History, Course, Hearing, Telling, clock, course, just_taken, stage, stopped}
 use Rattle.connections.specs.Pauses.{IsPause}
-use Rattle.connections.specs.Rounds.{reads, IsUnread}
+use Rattle.connections.specs.Rounds.{offers, reads, InRound, IsUnread}
 
 -- there is a connection, and this is so of it
 abbrev pub Here : Option Course → (Course → Type 0) → Type 0
@@ -63,27 +63,42 @@ IsReason idle before Unsynced course = IsFaultless course × (stage before ≡ T
 IsReason idle before Memory course = course.is_wanting ≡ true
 IsReason idle before Refused course = course.is_refused ≡ true
 
+-- the connection at a place had its turn in this round: no more is heard in it, and all that was answered is taken, or
+-- some of it was offered
+abbrev pub HadTurn : History → ℕ → Course → Type 0
+HadTurn before place course = (stage before ≢ Hearing) × (IsTaken course ⊎ InRound offers before place)
+
+-- the connection at a place may be closed for this reason: as idle, or for a stop, once it had its turn
+abbrev pub MayBeClosed : ℕ → History → ℕ → Ending → Course → Type 0
+MayBeClosed idle before place Done course = IsReason idle before Done course
+MayBeClosed idle before place Fault course = IsReason idle before Fault course
+MayBeClosed idle before place Idle course = IsReason idle before Idle course × HadTurn before place course
+MayBeClosed idle before place Stopped course = IsReason idle before Stopped course × HadTurn before place course
+MayBeClosed idle before place Unsynced course = IsReason idle before Unsynced course
+MayBeClosed idle before place Memory course = IsReason idle before Memory course
+MayBeClosed idle before place Refused course = IsReason idle before Refused course
+
 -- Connections are heard: it is their time in the round, and no stop was ordered. After an order to stop none is taken
 -- or read, and what was read and not heard stays unheard.
 abbrev pub IsHearing : History → Type 0
 IsHearing before = (stage before ≡ Hearing) × (stopped before ≡ None)
 
 -- this is the time of a deed, at a place with this connection, after what happened
-abbrev pub IsDue : ℕ → History → Deed → Option Course → Type 0
-IsDue idle before Comes there = (there ≡ None) × IsHearing before
-IsDue idle before Opens there = Here there IsNew
-IsDue idle before (Refuses why) there = Here there IsNew
-IsDue idle before (Reads bytes) there = Here there (λ course. MayBeRead course × IsHearing before × (1 ≤ length bytes) × (length bytes ≤ PIECE_SIZE))
-IsDue idle before IsOver there = Here there (λ course. MayBeRead course × IsHearing before)
-IsDue idle before IsSilent there = Here there (λ course. MayBeRead course × IsHearing before)
-IsDue idle before (Hears part reply) there = Here there (λ course. MayHear course part × IsHearing before)
-IsDue idle before (Misses part why) there = Here there (λ course. MayHear course part × IsHearing before)
-IsDue idle before Lacks there = Here there (λ course. IsWell course × (course.read ≢ course.heard) × (¬ HasRoom course) × IsHearing before)
-IsDue idle before (Takes bytes) there = Here there (λ course. MayBeOffered course × (stage before ≡ Telling true) × (1 ≤ length bytes) × AreNext bytes course.answered course.taken)
-IsDue idle before TakesNone there = Here there (λ course. MayBeOffered course × (stage before ≡ Telling true))
-IsDue idle before Fails there = Here there (λ course. (MayBeRead course × IsHearing before) ⊎ (MayBeOffered course × (stage before ≡ Telling true)))
-IsDue idle before Ends there = Here there (λ course. course.is_open ≡ true)
-IsDue idle before (Closes why) there = Here there (λ course. (course.is_open ≡ false) × IsReason idle before why course)
+abbrev pub IsDue : ℕ → History → ℕ → Deed → Option Course → Type 0
+IsDue idle before place Comes there = (there ≡ None) × IsHearing before
+IsDue idle before place Opens there = Here there IsNew
+IsDue idle before place (Refuses why) there = Here there IsNew
+IsDue idle before place (Reads bytes) there = Here there (λ course. MayBeRead course × IsHearing before × (1 ≤ length bytes) × (length bytes ≤ PIECE_SIZE))
+IsDue idle before place IsOver there = Here there (λ course. MayBeRead course × IsHearing before)
+IsDue idle before place IsSilent there = Here there (λ course. MayBeRead course × IsHearing before)
+IsDue idle before place (Hears part reply) there = Here there (λ course. MayHear course part × IsHearing before)
+IsDue idle before place (Misses part why) there = Here there (λ course. MayHear course part × IsHearing before)
+IsDue idle before place Lacks there = Here there (λ course. IsWell course × (course.read ≢ course.heard) × (¬ HasRoom course) × IsHearing before)
+IsDue idle before place (Takes bytes) there = Here there (λ course. MayBeOffered course × (stage before ≡ Telling true) × (1 ≤ length bytes) × AreNext bytes course.answered course.taken)
+IsDue idle before place TakesNone there = Here there (λ course. MayBeOffered course × (stage before ≡ Telling true))
+IsDue idle before place Fails there = Here there (λ course. (MayBeRead course × IsHearing before) ⊎ (MayBeOffered course × (stage before ≡ Telling true)))
+IsDue idle before place Ends there = Here there (λ course. course.is_open ≡ true)
+IsDue idle before place (Closes why) there = Here there (λ course. (course.is_open ≡ false) × MayBeClosed idle before place why course)
 
 -- no connection is asked a second time in a round for what it sends
 abbrev pub IsOnce : History → ℕ → Deed → Type 0
@@ -98,4 +113,4 @@ IsSoundHistory idle (Ordered ∷ before) = IsSoundHistory idle before
 IsSoundHistory idle (Syncs kept ∷ before) = (stage before ≡ Hearing) × IsSoundHistory idle before
 IsSoundHistory idle (GoesOn ∷ before) = (stopped before ≡ None) × IsSoundHistory idle before
 IsSoundHistory idle (NoneWaits ∷ before) = IsHearing before × IsSoundHistory idle before
-IsSoundHistory idle (On place deed ∷ before) = (IsDue idle before deed (course before place) × IsOnce before place deed) × IsSoundHistory idle before
+IsSoundHistory idle (On place deed ∷ before) = (IsDue idle before place deed (course before place) × IsOnce before place deed) × IsSoundHistory idle before

@@ -6,10 +6,11 @@
 //! answered; both are whole if it was closed as done. Nothing is read or heard while more than 64 KiB of
 //! answers wait, or once a stop was ordered; nothing more is read, heard or taken once a read or write failed,
 //! memory was wanting, or the session refused a part; no answer of a round leaves before the sync of that round;
-//! and the loop waits only after a round in which nothing was done, for a second at most and never past the time
-//! to close a connection (`IsSoundHistory`). Each round gives each connection its turn to send and to take, and
-//! none that waits finds a place left free (`IsFair`). The loop returns once it is over (`HasEnded`), and each
-//! want of memory has its line (`TellsLosses`).
+//! a connection is closed as idle, or for a stop, only once it had its turn in the round; and the loop waits only
+//! after a round in which nothing was done, for a second at most, and never past the time to close a connection, by
+//! the time at which the round began (`IsSoundHistory`). Each round gives each connection its turn to send and to
+//! take, and none that waits finds a place left free (`IsFair`). The loop returns once it is over (`HasEnded`), and
+//! each want of memory has its line (`TellsLosses`).
 #![tactic(auto)]
 
 mod connections;

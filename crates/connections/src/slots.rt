@@ -1,12 +1,12 @@
 //! One place: what happens to the connection there, if there is one, in each part of a round.
 
-ghost use Rattle.std.specs.Prelude.{◌≡◌, ◌+◌, ◌-◌, ◌^◌, ◌<◌, ◌≤◌, ℕ, [], true, false, Option, None, Some, IfOk, IfErr};
-ghost use Rattle.connections.specs.Rounds.{IsUnread, was_busy};
+ghost use Rattle.std.specs.Prelude.{◌≡◌, ◌≢◌, ◌⊎◌, ◌+◌, ◌-◌, ◌^◌, ◌<◌, ◌≤◌, ℕ, [], true, false, Option, None, Some, IfOk, IfErr};
+ghost use Rattle.connections.specs.Rounds.{InRound, IsUnread, offers, was_busy};
 ghost use Rattle.connections.specs.Fairness.{IsAttended, IsNotDue, IsServed};
 ghost use Rattle.connections.specs.Fitting.{Adds, Has, HasTried, Fits, IsKnownBusy, Judged, KeepsTalk, Knows, KnowsPauseAt, ServesPlace, Stays, came_by};
 ghost use Rattle.connections.specs.Histories.{Course, History, Hearing, IfThere, Telling, clock, course, rested, stage, stopped};
 ghost use Rattle.connections.specs.Pauses.{until_due};
-ghost use Rattle.connections.specs.Soundness.{Here, IsReason};
+ghost use Rattle.connections.specs.Soundness.{Here, MayBeClosed};
 ghost use Rattle.connections.specs.Telling.{lost_by};
 
 use crate::connections::Connections;
@@ -73,7 +73,7 @@ fn close<S: Sessions, C: Connections<S>>(
     why: Ending,
 )
     ensures { (idle : ℕ) (start : S) (acts : History) → Has S.opens S.refuses S.hears S.misses S.ends C.has idle start connections.old sessions.old acts
-        → Here (course acts place) (λ of. (of.is_open ≡ true) × IsReason idle acts why of)
+        → Here (course acts place) (λ of. (of.is_open ≡ true) × MayBeClosed idle acts place why of)
         → (after : History) × Stays place 0 0 (lost_by why) acts after × Has S.opens S.refuses S.hears S.misses S.ends C.has idle start connections.new sessions.new after × (course after place ≡ None) × (was_busy after ≡ true) }
 {
     sessions.end(place);
@@ -208,7 +208,7 @@ fn tell<S: Sessions, C: Connections<S>>(
 /// For how many milliseconds a connection may stay as it is, or why it is closed now.
 fn judge(talk: &Talk, round: Round, most: u64) -> Result<u64, Ending>
     ensures due { (acts : History) (place : ℕ) → clock acts ≡ round.now → stopped acts ≡ round.stopped → (stage acts ≡ Telling false → talk.now.output.items ≡ [])
-        → Here (course acts place) (KeepsTalk talk.now)
+        → stage acts ≢ Hearing → (talk.now.output.items ≡ []) ⊎ InRound offers acts place → Here (course acts place) (KeepsTalk talk.now)
         → Judged round.idle acts place result talk.now × IfOk result (λ _. Here (course acts place) (IsNotDue round.idle acts)) }
     ensures left { IfOk result (λ left. left ≡ until_due round.now round.idle round.stopped talk.now.idle_since most) }
     ensures other { IfErr result (λ why. lost_by why ≡ 0) }

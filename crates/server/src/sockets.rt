@@ -9,6 +9,7 @@ ghost use Rattle.std.specs.Io.{ReadsAtMost};
 use crate::disk::Disk;
 use crate::stopping::StopInput;
 use connections::{Connections, Ending, Reading, Sessions, Writing};
+use hub::MAX_SESSIONS;
 use mio::event::Event;
 use mio::net::{TcpListener, TcpStream};
 use mio::{Events, Interest, Poll, Token};
@@ -17,8 +18,8 @@ use std::io::{self, BufRead, Error, ErrorKind, Read, Write};
 use std::net::{Net, Shutdown, SocketAddr, ToSocketAddrs};
 use std::time::{Clock, Duration, Instant};
 
-/// The most reports that one wait gives. More come with the next one.
-const MOST_EVENTS: usize = 1024;
+/// The most reports that one wait gives: one for each connection, the listener and standard input.
+const MOST_EVENTS: usize = MAX_SESSIONS + 2;
 
 /// How often an `accept` is tried in one call that was interrupted, or whose connection had gone.
 const MOST_TRIES: usize = 64;
@@ -243,7 +244,14 @@ impl<'a, N: Net + Clock, R: BufRead> Sockets<'a, N, R> {
         Ok(())
     }
 
-    /// Marks what the last wait reported.
+    /// Waits until something is reported, but for no longer than this, and marks what is.
+    fn poll_for(&mut self, timeout: Duration) {
+        if self.poll.poll(&mut self.events, Some(timeout)).is_ok() {
+            self.mark();
+        }
+    }
+
+    /// Marks what the last poll reported.
     fn mark(&mut self) {
         for event in &self.events {
             match event.token() {
@@ -269,11 +277,14 @@ impl<N: Net + Clock, R: BufRead, S: Sessions> Connections<S> for Sockets<'_, N, 
 
     fn wait(&mut self, _sessions: &S, most: u64) -> u64 {
         let most = if self.stop.waits() { most } else { 0 };
-        let timeout = Duration::from_millis(most);
-        if self.poll.poll(&mut self.events, Some(timeout)).is_ok() {
-            self.mark();
+        if most > 0 {
+            self.poll_for(Duration::from_millis(most));
         }
-        millis_since(self.clock, self.start).unwrap_or(0)
+        let now = millis_since(self.clock, self.start).unwrap_or(0);
+        // All that came by now is marked: a process that was suspended is not told of it by the wait, which a signal
+        // ends with no report.
+        self.poll_for(Duration::ZERO);
+        now
     }
 
     fn is_stopped(&mut self, _sessions: &S) -> bool {

@@ -123,8 +123,9 @@ checks each reply as a client, and prints the line that `play` prints:
 
 `close` and `rotate` are the operator's, who gives --token. What is refused is also told on standard error,
 with status 1. An alarm of `watch` is status 3. FILE has the client's chain, one signed root a line, which
-`audit` reads too, and FILE.kept the promises that are to be tested; without them the client begins at the
-directory's latest root.
+`audit` reads too, and FILE.kept what is remembered beside it; without them the client begins at the
+directory's latest root. Evidence and alarms of earlier runs are told again; the words `settle NAME` drop the
+alarms of a name from FILE.kept, and ask ADDR nothing.
 
 Example: directoryd ask --provider $SIGN --state roots.txt 127.0.0.1:7000 lookup 616c696365 0";
 

@@ -2,7 +2,7 @@ use Rattle.std.proofs.Common.{◌≡◌, ◌≢◌, List, None, Some, ap, inl, i
 use Rattle.rootchain.specs.Chains.{KeyedRoots}
 use Rattle.rootchain.specs.Places.{IsNextAfter}
 use Rattle.rootchain.specs.declared.signed_root.SignedRoot.{SignedRoot}
-use Rattle.asking.specs.declared.asker.Mark.{Mark}
+use Rattle.memory.specs.declared.mark.Mark.{Mark}
 use Rattle.asking.specs.Joining.{IsFirstAfter, IsUnwatched}
 use Rattle.asking.proofs.Joined.{from_item, no_next}
 use Rattle.asking.proofs.joining.first_unwatched.Goals as goal

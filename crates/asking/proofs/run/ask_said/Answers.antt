@@ -13,7 +13,7 @@ use Rattle.asking.proofs.run.ask_said.Goals as goal
 pub returns-in-Watch-clause-does : goal.returns-in-Watch-clause-does
 returns-in-Watch-clause-does g c =
     rw c.in-Watch.is (subst (λ (given : Option (List ℕ)). OnOk c.watch.result (BeginsWatch g.H.NodeHash.digest_of g.V.VufCheck.accepted g.S.Verifier.verified (ExchangesFrames g.T.Write.contents g.T.Read.remaining)
-    c.args.asker.now.marks.items c.args.asker.now.key c.args.asker.now.earlier.items c.in-Watch.name given (scene c.args.asker.now c.args.said.now c.args.stream.now) (scene c.watch.new.self c.watch.new.said c.watch.new.stream)))
+    c.args.asker.now.known c.args.asker.now.marks.items c.args.asker.now.key c.args.asker.now.earlier.items c.in-Watch.name given (scene c.args.asker.now c.args.said.now c.args.stream.now) (scene c.watch.new.self c.watch.new.said c.watch.new.stream)))
     c.as_ref.ensures.value c.watch.ensures.begins)
 
 pub returns-in-Ask-clause-does : goal.returns-in-Ask-clause-does
@@ -28,7 +28,7 @@ returns-in-Ask-clause-rises g c =
 
 pub returns-in-Watch-clause-rises : goal.returns-in-Watch-clause-rises
 returns-in-Watch-clause-rises g c =
-    watch_rises g.H.NodeHash.digest_of g.V.VufCheck.accepted g.S.Verifier.verified (ExchangesFrames g.T.Write.contents g.T.Read.remaining) c.args.asker.now.marks.items c.args.asker.now.key c.args.asker.now.earlier.items
+    watch_rises g.H.NodeHash.digest_of g.V.VufCheck.accepted g.S.Verifier.verified (ExchangesFrames g.T.Write.contents g.T.Read.remaining) c.args.asker.now.known c.args.asker.now.marks.items c.args.asker.now.key c.args.asker.now.earlier.items
     _ _ c.watch.result (scene c.args.asker.now c.args.said.now c.args.stream.now) (scene c.watch.new.self c.watch.new.said c.watch.new.stream)
     c.watch.new.self c.watch.new.said refl c.watch.ensures.begins c.watch.ensures.halts
 

@@ -38,7 +38,7 @@ pub returns-then-not-is_change-clause-hears : goal.returns-then-not-is_change-cl
 returns-then-not-is_change-clause-hears g c =
     let heard = c.in_ok-hear.ensures.hears in
     let none : (¬ IsChange (ask_seen c.args.ask.now)) ⊎ (length c.hear.new.client.promises ≤ length c.args.self.now.client.promises) = elim c.then-not-is_change.branch [
-      then-not-is_change-via-then-not-is_change w ↦ inl (search rules)
+      | then-not-is_change-via-then-not-is_change w ↦ inl (search rules)
       | then-not-is_change-via-else-not-is_change+then-promises-kept w ↦ inr (search (rules, arith))
     ] in
     heard_only g.H.NodeHash.digest_of g.V.VufCheck.accepted g.S.Verifier.verified c.args.held (ask_seen c.args.ask.now) (frame_seen c.args.frame.now) c.args.self.now.client c.hear.new.client
@@ -47,7 +47,7 @@ returns-then-not-is_change-clause-hears g c =
 pub returns-then-not-is_change-clause-notes : goal.returns-then-not-is_change-clause-notes
 returns-then-not-is_change-clause-notes g c =
     let none : (¬ IsChange (ask_seen c.args.ask.now)) ⊎ (length c.hear.new.client.promises ≤ length c.args.self.now.client.promises) = elim c.then-not-is_change.branch [
-      then-not-is_change-via-then-not-is_change w ↦ inl (search rules)
+      | then-not-is_change-via-then-not-is_change w ↦ inl (search rules)
       | then-not-is_change-via-else-not-is_change+then-promises-kept w ↦ inr (search (rules, arith))
     ] in
     notes_none (ask_seen c.args.ask.now) c.args.self.now.client.promises c.hear.new.client.promises c.args.self.now.changes.items c.args.self.now.changes.items none refl

@@ -7,7 +7,7 @@ use Rattle.asking.proofs.Halted.{halts_here}
 use Rattle.asking.proofs.asker.Asker.follow.Goals as goal
 
 pub loop-init : goal.loop-init
-loop-init g c = record { follows = λ count after f. (count, f); stops = λ count after s. (count, s); some = λ count reached f. (count, f); stays = (refl, refl, refl, refl, refl) }
+loop-init g c = record { follows = λ count after f. (count, f); stops = λ count after s. (count, s); some = λ count reached f. (count, f); stays = (refl, refl, refl, refl, refl, refl) }
 
 pub returns-then-not-branch-clause-follows : goal.returns-then-not-branch-clause-follows
 returns-then-not-branch-clause-follows g c =
@@ -27,7 +27,7 @@ loop-preserved g c =
       follows = λ count after f. c.loop.invariant.follows (suc count) after (there, takes, f);
       stops = λ count after s. c.loop.invariant.stops (suc count) after (there, takes, s);
       some = λ count reached f. c.loop.invariant.some (suc count) reached (there, takes, f);
-      stays = (stay.0 ∙ stayed.0, stay.1 ∙ stayed.1, stay.2 ∙ stayed.2, stay.3 ∙ stayed.3, stay.4 ∙ stayed.4);
+      stays = (stay.0 ∙ stayed.0, stay.1 ∙ stayed.1, stay.2 ∙ stayed.2, stay.3 ∙ stayed.3, stay.4 ∙ stayed.4, stay.5 ∙ stayed.5);
     }
 
 pub returns-in_err-take_list-clause-stops : goal.returns-in_err-take_list-clause-stops

@@ -20,7 +20,7 @@ loop-place-preserved g c =
       some = λ reached rest. c.loop-place.invariant.some reached
           (some_step_more g.H.NodeHash.digest_of g.V.VufCheck.accepted (ExchangesFrames g.T.Write.contents g.T.Read.remaining) c.loop-place.place (c.loop-place.place + 1) c.len-place-end.result
           steps.0 here there reached c.loop-place-test.true next steps.1 rest);
-      stays = (stay.0 ∙ stayed.0, stay.1 ∙ stayed.1, stay.2 ∙ stayed.2, stay.3 ∙ stayed.3, stay.4 ∙ stayed.4);
+      stays = (stay.0 ∙ stayed.0, stay.1 ∙ stayed.1, stay.2 ∙ stayed.2, stay.3 ∙ stayed.3, stay.4 ∙ stayed.4, stay.5 ∙ stayed.5);
       end = c.loop-place.invariant.end;
     }
 

@@ -7,7 +7,7 @@ use Rattle.asking.proofs.Halted.{halts_here}
 use Rattle.asking.proofs.asker.Asker.step_through.Goals as goal
 
 pub loop-init : goal.loop-init
-loop-init g c = record { steps = λ count after f. (count, f); some = λ count reached f. (count, f); stays = (refl, refl, refl, refl, refl) }
+loop-init g c = record { steps = λ count after f. (count, f); some = λ count reached f. (count, f); stays = (refl, refl, refl, refl, refl, refl) }
 
 pub returns-then-not-branch-clause-steps : goal.returns-then-not-branch-clause-steps
 returns-then-not-branch-clause-steps g c =
@@ -26,7 +26,7 @@ loop-preserved g c =
     record {
       steps = λ count after f. c.loop.invariant.steps (suc count) after (there, once, f);
       some = λ count reached f. c.loop.invariant.some (suc count) reached (there, once, f);
-      stays = (stay.0 ∙ stayed.0, stay.1 ∙ stayed.1, stay.2 ∙ stayed.2, stay.3 ∙ stayed.3, stay.4 ∙ stayed.4);
+      stays = (stay.0 ∙ stayed.0, stay.1 ∙ stayed.1, stay.2 ∙ stayed.2, stay.3 ∙ stayed.3, stay.4 ∙ stayed.4, stay.5 ∙ stayed.5);
     }
 
 pub returns-in_err-step-clause-halts : goal.returns-in_err-step-clause-halts

@@ -26,7 +26,7 @@ loop-preserved g c =
     record {
       tests = λ count after rest. c.loop.invariant.tests (suc count) after (c.in-Some.next, there, visited, rest);
       some = λ count reached rest. c.loop.invariant.some (suc count) reached (c.in-Some.next, there, visited, rest);
-      stays = (stay.0 ∙ stayed.0, stay.1 ∙ stayed.1, stay.2 ∙ stayed.2, stay.3 ∙ stayed.3, stay.4 ∙ stayed.4);
+      stays = (stay.0 ∙ stayed.0, stay.1 ∙ stayed.1, stay.2 ∙ stayed.2, stay.3 ∙ stayed.3, stay.4 ∙ stayed.4, stay.5 ∙ stayed.5);
     }
 
 pub returns-in_err-next-clause-halts : goal.returns-in_err-next-clause-halts

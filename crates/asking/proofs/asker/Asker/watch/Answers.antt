@@ -1,30 +1,23 @@
-use Rattle.std.proofs.Common.{◌≡◌, Err, Some, inl, option_map, rules}
+use Rattle.std.proofs.Common.{◌≡◌, ◌≢◌, Err, option_map, rules}
 use Rattle.asking.specs.Exchanges.{ExchangesFrames}
-use Rattle.asking.specs.Joining.{IsUnwatched}
+use Rattle.asking.specs.Joining.{BeginsSome}
 use Rattle.asking.specs.Scenes.{scene}
-use Rattle.asking.proofs.Joined.{begins}
-use Rattle.asking.proofs.Halted.{halts_begun}
+use Rattle.asking.specs.declared.ask_fault.AskFault.TheVariants.{OutOfMemory}
+use Rattle.asking.proofs.Recalling.{begins_recalled, halts_recalled, halts_unrecalled}
 use Rattle.asking.proofs.asker.Asker.watch.Goals as goal
 
 pub returns-clause-begins : goal.returns-clause-begins
 returns-clause-begins g c =
-    let unwatched : IsUnwatched c.args.self.now.client.chain c.args.name.now c.args.self.now.marks.items (Some c.in-Some.first) = search rules in
-    begins g.H.NodeHash.digest_of g.V.VufCheck.accepted g.S.Verifier.verified (ExchangesFrames g.T.Write.contents g.T.Read.remaining) c.args.self.now.key c.args.self.now.earlier.items c.args.name.now
-    (option_map (λ key. key.now) c.args.key) c.args.self.now c.args.said.now c.args.stream.now c.in-Some.first c.test_promises.result c.args.self.now.marks c.begin_watch.new.self.marks
-    (scene c.begin_watch.new.self c.begin_watch.new.said c.begin_watch.new.stream) (scene c.test_promises.new.self c.test_promises.new.said c.test_promises.new.stream) unwatched c.in_ok-begin_watch.ensures.stays.2
-    c.in_ok-begin_watch.ensures.begins c.test_promises.ensures.tests
+    begins_recalled g.H.NodeHash.digest_of g.V.VufCheck.accepted g.S.Verifier.verified (ExchangesFrames g.T.Write.contents g.T.Read.remaining) c.args.self.now.known c.args.self.now.marks.items c.args.self.now.key c.args.self.now.earlier.items c.args.name.now (option_map (λ key. key.now) c.args.key)
+    c.watch_new.result c.args.self.now c.watch_new.new.self c.args.said.now c.tell_alarms.new.said c.watch_new.new.said c.args.stream.now c.watch_new.new.stream c.in_ok-tell_alarms.ensures.tells c.watch_new.ensures.begins
 
 pub returns-clause-halts : goal.returns-clause-halts
 returns-clause-halts g c =
-    let unwatched : IsUnwatched c.args.self.now.client.chain c.args.name.now c.args.self.now.marks.items (Some c.in-Some.first) = search rules in
-    halts_begun g.H.NodeHash.digest_of g.V.VufCheck.accepted g.S.Verifier.verified (ExchangesFrames g.T.Write.contents g.T.Read.remaining) c.args.self.now.key c.args.self.now.earlier.items c.args.name.now
-    (option_map (λ key. key.now) c.args.key) c.args.self.now c.args.said.now c.args.stream.now c.in-Some.first c.test_promises.result c.args.self.now.marks c.begin_watch.new.self.marks
-    (scene c.begin_watch.new.self c.begin_watch.new.said c.begin_watch.new.stream) c.test_promises.new.self c.test_promises.new.said unwatched c.in_ok-begin_watch.ensures.stays.2
-    c.in_ok-begin_watch.ensures.begins c.test_promises.ensures.halts
+    halts_recalled g.H.NodeHash.digest_of g.V.VufCheck.accepted g.S.Verifier.verified (ExchangesFrames g.T.Write.contents g.T.Read.remaining) c.args.self.now.known c.args.self.now.marks.items c.args.self.now.key c.args.self.now.earlier.items c.args.name.now (option_map (λ key. key.now) c.args.key)
+    c.watch_new.result c.args.self.now c.watch_new.new.self c.args.said.now c.tell_alarms.new.said c.watch_new.new.said c.args.stream.now c.in_ok-tell_alarms.ensures.tells c.watch_new.ensures.halts
 
-pub returns-in_err-begin_watch-clause-halts : goal.returns-in_err-begin_watch-clause-halts
-returns-in_err-begin_watch-clause-halts g c =
-    let unwatched : IsUnwatched c.args.self.now.client.chain c.args.name.now c.args.self.now.marks.items (Some c.in-Some.first) = search rules in
-    let passed : c.from_residual.result ≡ Err c.in_err-begin_watch.field-0.0 = search rules in
-    let halts = c.in_err-begin_watch.ensures.halts in
-    rw passed (halts.0, (c.in-Some.first, unwatched, inl halts.1), halts.2)
+pub returns-in_err-tell_alarms-clause-halts : goal.returns-in_err-tell_alarms-clause-halts
+returns-in_err-tell_alarms-clause-halts g c =
+    let passed : c.from_residual.result ≡ Err OutOfMemory = search rules in
+    rw passed (halts_unrecalled g.H.NodeHash.digest_of g.V.VufCheck.accepted g.S.Verifier.verified (ExchangesFrames g.T.Write.contents g.T.Read.remaining) c.args.self.now.known c.args.self.now.marks.items c.args.self.now.key c.args.self.now.earlier.items c.args.name.now (option_map (λ key. key.now) c.args.key)
+    c.args.self.now c.args.said.now c.tell_alarms.new.said c.args.stream.now c.in_err-tell_alarms.ensures.untold)

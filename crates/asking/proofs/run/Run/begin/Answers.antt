@@ -10,8 +10,8 @@ use Rattle.asking.proofs.Faulty.{stops_more}
 use Rattle.asking.proofs.Ran.{begins_at_head}
 use Rattle.asking.proofs.run.Run.begin.Goals as goal
 
-pub returns-in-Ok-clause-begins : goal.returns-in-Ok-clause-begins
-returns-in-Ok-clause-begins g c =
+pub returns-in_ok-tell_evidence-in-Ok-clause-begins : goal.returns-in_ok-tell_evidence-in-Ok-clause-begins
+returns-in_ok-tell_evidence-in-Ok-clause-begins g c =
     inr ((λ none. search (rules, (rw c.in-Ok.is at (c.in_ok-asker.ensures.none none)))), refl, rw c.in-Ok.is at c.in_ok-asker.ensures.sound, rw c.in-Ok.is at c.in_ok-asker.ensures.kept)
 
 pub returns-in-Err-clause-begins : goal.returns-in-Err-clause-begins

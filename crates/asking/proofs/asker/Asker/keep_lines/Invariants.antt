@@ -1,5 +1,0 @@
-use Rattle.asking.specs.Runs.{IsSameAsker, StillKeeps}
-use Rattle.asking.proofs.asker.Asker.keep_lines.Given as goal
-
-abbrev pub invariant-loop-number : goal.invariant-loop-number
-invariant-loop-number g l = record { same : IsSameAsker l.fn.self l.self; kept : StillKeeps l.fn.self l.self }

@@ -1,0 +1,10 @@
+pub mod Plain
+pub mod Splits
+pub mod Left
+pub mod Joined
+pub mod OneWord
+pub mod OneItem
+pub mod SaidLines
+pub mod Least
+pub mod Recalled
+pub mod OneMemory

@@ -1,0 +1,10 @@
+pub mod Finding
+pub mod Lists
+pub mod Lines
+pub mod Words
+pub mod Memories
+pub mod Views
+pub mod Taking
+pub mod Watching
+pub mod Leaving
+pub mod Texts

@@ -1,0 +1,64 @@
+-- The lines of what is remembered: words with one space between them (the forms are this directory's own).
+use Rattle.std.specs.Prelude.{◌≡◌, ◌⊎◌, ℕ, ◌^◌, ◌<◌, ◌≤◌, Bool, true, false, List, [], ◌∷◌, Option, None, Some, IfSome, codes, decimal}
+use Rattle.std.specs.List.{join_with_byte}
+use Rattle.auditor.specs.declared.evidence.Evidence.{Evidence as EvidenceMade}
+use Rattle.audits.specs.Files.{evidence_text}
+use Rattle.audits.specs.Parts.{IsFormed}
+use Rattle.encoding.specs.Limits.{IsName, IsKeyData}
+use Rattle.hex.specs.Hex.{encode_lower}
+use Rattle.rootchain.specs.Promises.{signed_promise_bytes, IsSignedPromise}
+use Rattle.memory.specs.declared.alarm.Alarm.{Alarm as AlarmMade}
+use Rattle.memory.specs.declared.item.Item.{Item}
+use Rattle.memory.specs.declared.item.Item.TheVariants.{Promised, Watched, Alarm, Evidence}
+use Rattle.memory.specs.declared.mark.Mark.{Mark}
+
+-- words with one space between them
+abbrev pub line_of : List (List ℕ) → List ℕ
+line_of = join_with_byte 32
+
+-- a promise, for a change of the owner's own or of others
+abbrev pub promise_word : Bool → List ℕ
+promise_word true = codes "change"
+promise_word false = codes "promise"
+
+-- a key, or that there was none
+abbrev pub found_word : Option (List ℕ) → List ℕ
+found_word None = codes "absent"
+found_word (Some key) = encode_lower key
+
+abbrev pub item_words : Item → List (List ℕ)
+item_words (Promised promised) = promise_word promised.is_own ∷ encode_lower (signed_promise_bytes promised.signed) ∷ []
+item_words (Watched mark) = codes "watched" ∷ encode_lower mark.name ∷ decimal mark.since ∷ decimal mark.epoch ∷ []
+item_words (Alarm alarm) = codes "alarm" ∷ encode_lower alarm.name ∷ decimal alarm.epoch ∷ found_word alarm.found ∷ []
+item_words (Evidence line) = line ∷ []
+
+abbrev pub item_line : Item → List ℕ
+item_line item = line_of (item_words item)
+
+-- a line of the older form `watched NAME EPOCH`, in which nothing tells from where the name was watched
+abbrev pub IsOlderLine : List ℕ → Item → Type 0
+IsOlderLine line (Watched mark) = (mark.since ≡ mark.epoch) × (line ≡ line_of (codes "watched" ∷ encode_lower mark.name ∷ decimal mark.epoch ∷ []))
+IsOlderLine line (Promised promised) = ⊥
+IsOlderLine line (Alarm alarm) = ⊥
+IsOlderLine line (Evidence text) = ⊥
+
+-- the text of well-formed evidence
+abbrev pub IsEvidenceLine : List ℕ → Type 0
+IsEvidenceLine line = (evidence : EvidenceMade) × IsFormed evidence × (line ≡ evidence_text evidence)
+
+abbrev pub IsMark : Mark → Type 0
+IsMark mark = IsName mark.name × (mark.since ≤ mark.epoch) × (mark.epoch < 2 ^ 64)
+
+abbrev pub IsAlarm : AlarmMade → Type 0
+IsAlarm alarm = IsName alarm.name × (alarm.epoch < 2 ^ 64) × IfSome alarm.found IsKeyData
+
+-- what an item may hold
+abbrev pub IsSound : Item → Type 0
+IsSound (Promised promised) = IsSignedPromise promised.signed
+IsSound (Watched mark) = IsMark mark
+IsSound (Alarm alarm) = IsAlarm alarm
+IsSound (Evidence line) = IsEvidenceLine line
+
+-- the line is of this item
+abbrev pub IsLineOf : List ℕ → Item → Type 0
+IsLineOf line item = IsSound item × ((line ≡ item_line item) ⊎ IsOlderLine line item)

@@ -1,0 +1,11 @@
+-- What a memory stands for in contracts.
+use Rattle.memory.specs.declared.memory.Memory.TheInside.{Inside}
+use Rattle.memory.specs.Memories.{Memory}
+
+abbrev pub memory_seen : Inside → Memory
+memory_seen inside = record {
+  promises = inside.promises.items;
+  marks = inside.marks.items;
+  alarms = inside.alarms.items;
+  evidence = inside.evidence.items;
+}

@@ -1,0 +1,48 @@
+-- The words of a line, as they are read.
+use Rattle.std.specs.Prelude.{◌≡◌, ◌≢◌, ◌⊎◌, ℕ, ◌^◌, ◌<◌, ◌≤◌, List, [], ◌∷◌, ◌++◌, Option, IfSome, decimal}
+use Rattle.std.specs.List.{AllByRecursion}
+use Rattle.encoding.specs.Bytes.{IsBytes}
+use Rattle.encoding.specs.Limits.{IsName, IsKeyData}
+use Rattle.hex.specs.Hex.{encode_lower}
+use Rattle.rootchain.specs.Promises.{signed_promise_bytes, IsSignedPromise}
+use Rattle.rootchain.specs.declared.signed_promise.SignedPromise.{SignedPromise}
+use Rattle.memory.specs.Lines.{found_word, line_of}
+use Rattle.memory.specs.declared.alarm.Alarm.{Alarm}
+use Rattle.memory.specs.declared.mark.Mark.{Mark}
+
+-- no space among the bytes
+abbrev pub HasNoSpace : List ℕ → Type 0
+HasNoSpace = AllByRecursion (λ byte. byte ≢ 32)
+
+-- the word gives these bytes in hex, in lower case
+abbrev pub IsHexOf : List ℕ → List ℕ → Type 0
+IsHexOf word bytes = IsBytes bytes × (word ≡ encode_lower bytes)
+
+abbrev pub IsNumberWord : List ℕ → ℕ → Type 0
+IsNumberWord word number = (number < 2 ^ 64) × (word ≡ decimal number)
+
+abbrev pub IsNameWord : List ℕ → List ℕ → Type 0
+IsNameWord word name = IsName name × (word ≡ encode_lower name)
+
+abbrev pub IsFoundWord : List ℕ → Option (List ℕ) → Type 0
+IsFoundWord word found = IfSome found IsKeyData × (word ≡ found_word found)
+
+abbrev pub IsPromiseWord : List ℕ → SignedPromise → Type 0
+IsPromiseWord word signed = IsSignedPromise signed × (word ≡ encode_lower (signed_promise_bytes signed))
+
+-- from where to where a name was watched: two epochs, or one that is both
+abbrev pub IsSpan : List ℕ → ℕ × ℕ → Type 0
+IsSpan text span = (span.0 ≤ span.1) × (span.1 < 2 ^ 64)
+    × ((text ≡ line_of (decimal span.0 ∷ decimal span.1 ∷ [])) ⊎ ((span.0 ≡ span.1) × (text ≡ decimal span.1)))
+
+-- an epoch, and what was found
+abbrev pub IsFinding : List ℕ → ℕ × Option (List ℕ) → Type 0
+IsFinding text finding = (finding.0 < 2 ^ 64) × IfSome finding.1 IsKeyData × (text ≡ line_of (decimal finding.0 ∷ found_word finding.1 ∷ []))
+
+-- what stands behind the word `watched`
+abbrev pub IsMarkText : List ℕ → Mark → Type 0
+IsMarkText text mark = IsName mark.name × ((rest : List ℕ) × (text ≡ encode_lower mark.name ++ 32 ∷ rest) × IsSpan rest (mark.since, mark.epoch))
+
+-- what stands behind the word `alarm`
+abbrev pub IsAlarmText : List ℕ → Alarm → Type 0
+IsAlarmText text alarm = IsName alarm.name × ((rest : List ℕ) × (text ≡ encode_lower alarm.name ++ 32 ∷ rest) × IsFinding rest (alarm.epoch, alarm.found))

@@ -1,0 +1,36 @@
+//! What an owner's client remembers between runs beside the chain of roots: promises, how far names were
+//! watched, alarms and evidence. The lines are this directory's own.
+//!
+//! Callers can rely on this: an item has one line, and `read_item` reads exactly these lines. `take` changes the
+//! memory by one item, `leave` drops exactly the promises that nobody needs, `settle` exactly the alarms of a
+//! name. No item is kept twice.
+#![tactic(auto)]
+
+mod alarm;
+mod evidence_line;
+mod item;
+mod laws;
+mod leaving;
+mod mark;
+mod memory;
+mod promised;
+mod putting;
+mod read_fault;
+mod reading;
+mod recalling;
+mod telling;
+mod watching;
+mod words;
+mod writing;
+
+pub use alarm::Alarm;
+pub use evidence_line::EvidenceLine;
+pub use item::Item;
+pub use laws::{line_is_one_item, text_is_one_memory, text_spells_memory};
+pub use mark::Mark;
+pub use memory::Memory;
+pub use promised::Promised;
+pub use read_fault::ReadFault;
+pub use reading::read_item;
+pub use recalling::read_memory;
+pub use watching::{is_awaited, watched_up_to};

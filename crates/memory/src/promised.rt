@@ -1,0 +1,9 @@
+use rootchain::SignedPromise;
+
+/// A promise that the client keeps.
+#[derive(Debug, Drop, PartialEq, Eq)]
+pub struct Promised {
+    pub signed: SignedPromise,
+    /// Whether it is for a change of the owner's own.
+    pub is_own: bool,
+}

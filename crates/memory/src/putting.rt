@@ -1,0 +1,125 @@
+// Lists that take an element: it is joined to the one that has its key, or is put behind the others. Each function
+// returns whether the list is another one now.
+
+ghost use Rattle.std.specs.Prelude.{◌≡◌, ◌≢◌, ◌↔◌, ◌<◌, ◌||◌, length, map, slice_index_or, All, Contains, IfOk, IsTrue, MatchBool, MatchOption, OnErr};
+ghost use Rattle.rootchain.specs.declared.signed_promise.SignedPromise.{SignedPromise};
+ghost use Rattle.memory.specs.Lists.{HasNoRepeat};
+ghost use Rattle.memory.specs.Memories.{name_of, signed_of};
+ghost use Rattle.memory.specs.Taking.{PutsAlarm, PutsEvidence, PutsMark, PutsPromised};
+ghost use Rattle.memory.specs.declared.mark.Mark.{Mark};
+ghost use Rattle.memory.specs.declared.promised.Promised.{Promised};
+
+use crate::{Alarm, EvidenceLine, Mark, Promised};
+use encoding::Name;
+use rootchain::SignedPromise;
+use std::alloc::AllocError;
+
+pub(crate) fn put_promised(promises: &mut Vec<Promised>, new: Promised) -> Result<bool, AllocError>
+    ensures puts { IfOk result (λ is_new. PutsPromised new promises.old.items promises.new.items
+        × MatchBool is_new (promises.new.items ≢ promises.old.items) (promises.new.items ≡ promises.old.items)) }
+    ensures err { OnErr result (promises.new.items ≡ promises.old.items) }
+    ensures once { HasNoRepeat (map signed_of promises.old.items) → HasNoRepeat (map signed_of promises.new.items) }
+{
+    match place_of_promise(promises, &new.signed) {
+        Some(place) => Ok(join(&mut promises[place], new.is_own)),
+        None => {
+            promises.push(new)?;
+            Ok(true)
+        }
+    }
+}
+
+/// Makes a promise the owner's own if this says so. Returns whether it is another one now.
+fn join(kept: &mut Promised, is_own: bool) -> bool
+    ensures joined { kept.new ≡ record { signed = kept.old.signed; is_own = kept.old.is_own || is_own } }
+    ensures told { MatchBool result (kept.old ≢ kept.new) (kept.old ≡ kept.new) }
+{
+    let is_new = is_own && !kept.is_own;
+    kept.is_own = kept.is_own || is_own;
+    is_new
+}
+
+/// Where the promise stands, if it does.
+fn place_of_promise(promises: &[Promised], signed: &SignedPromise) -> Option<usize>
+    ensures { MatchOption result (All (λ kept. kept.signed ≢ signed.now) promises.now)
+        (λ place. (place < length promises.now) × ((d : Promised) → (slice_index_or promises.now place d).signed ≡ signed.now)) }
+{
+    promises.iter().position(|kept| kept.signed == *signed)
+}
+
+pub(crate) fn put_mark(marks: &mut Vec<Mark>, new: Mark) -> Result<bool, AllocError>
+    ensures puts { IfOk result (λ is_new. PutsMark new marks.old.items marks.new.items
+        × MatchBool is_new (marks.new.items ≢ marks.old.items) (marks.new.items ≡ marks.old.items)) }
+    ensures err { OnErr result (marks.new.items ≡ marks.old.items) }
+    ensures once { HasNoRepeat (map name_of marks.old.items) → HasNoRepeat (map name_of marks.new.items) }
+{
+    match place_of_mark(marks, &new.name) {
+        Some(place) => {
+            let is_new = differs(&marks[place], &new);
+            marks[place] = new;
+            Ok(is_new)
+        }
+        None => {
+            marks.push(new)?;
+            Ok(true)
+        }
+    }
+}
+
+/// Whether two marks differ.
+fn differs(kept: &Mark, new: &Mark) -> bool
+    ensures { MatchBool result (kept.now ≢ new.now) (kept.now ≡ new.now) }
+{
+    kept != new
+}
+
+/// Where the mark of a name stands, if there is one.
+pub(crate) fn place_of_mark(marks: &[Mark], name: &Name) -> Option<usize>
+    ensures { MatchOption result (All (λ kept. kept.name ≢ name.now) marks.now)
+        (λ place. (place < length marks.now) × ((d : Mark) → (slice_index_or marks.now place d).name ≡ name.now)) }
+{
+    marks.iter().position(|kept| kept.name == *name)
+}
+
+pub(crate) fn put_alarm(alarms: &mut Vec<Alarm>, new: Alarm) -> Result<bool, AllocError>
+    ensures puts { IfOk result (λ is_new. PutsAlarm new alarms.old.items alarms.new.items
+        × MatchBool is_new (alarms.new.items ≢ alarms.old.items) (alarms.new.items ≡ alarms.old.items)) }
+    ensures err { OnErr result (alarms.new.items ≡ alarms.old.items) }
+    ensures once { HasNoRepeat alarms.old.items → HasNoRepeat alarms.new.items }
+{
+    if has_alarm(alarms, &new) {
+        return Ok(false);
+    }
+    alarms.push(new)?;
+    Ok(true)
+}
+
+/// Whether the alarm is there.
+fn has_alarm(alarms: &[Alarm], alarm: &Alarm) -> bool
+    ensures { IsTrue result ↔ Contains alarms.now alarm.now }
+{
+    alarms.iter().any(|kept| kept == alarm)
+}
+
+pub(crate) fn put_evidence(
+    evidence: &mut Vec<EvidenceLine>,
+    new: EvidenceLine,
+) -> Result<bool, AllocError>
+    ensures puts { IfOk result (λ is_new. PutsEvidence new evidence.old.items evidence.new.items
+        × MatchBool is_new (evidence.new.items ≢ evidence.old.items) (evidence.new.items ≡ evidence.old.items)) }
+    ensures err { OnErr result (evidence.new.items ≡ evidence.old.items) }
+    ensures once { HasNoRepeat evidence.old.items → HasNoRepeat evidence.new.items }
+{
+    if has_line(evidence, &new) {
+        return Ok(false);
+    }
+    evidence.push(new)?;
+    Ok(true)
+}
+
+/// Whether the line is there.
+fn has_line(evidence: &[EvidenceLine], line: &EvidenceLine) -> bool
+    ensures { IsTrue result ↔ Contains evidence.now line.now }
+{
+    evidence.iter().any(|kept| kept.bytes() == line.bytes())
+}

@@ -1,0 +1,219 @@
+// A line is read word by word. The first word says what it is; a line of one word is evidence.
+
+ghost use Rattle.std.specs.Prelude.{◌≡◌, ◌↔◌, ◌∷◌, ◌++◌, codes, IfOk, IsTrue};
+ghost use Rattle.audits.specs.Files.{evidence_text};
+ghost use Rattle.memory.specs.Finding.{Finds};
+ghost use Rattle.memory.specs.Lines.{promise_word, IsEvidenceLine, IsLineOf};
+ghost use Rattle.memory.specs.Words.{HasNoSpace, IsAlarmText, IsFinding, IsMarkText, IsSpan};
+
+use crate::words::{first_word, read_found, read_name, read_number, read_promise};
+use crate::{Alarm, EvidenceLine, Item, Mark, Promised};
+use auditor::Evidence;
+use audits::{ReadFault, evidence_json, read_evidence};
+use encoding::KeyData;
+use std::alloc::{AllocError, Global};
+
+/// The item of a line without its LF, or `None` if no item has it. A mark may have the older form `watched NAME
+/// EPOCH`, which says nothing of the roots below.
+///
+/// # Errors
+///
+/// `AllocError` if memory runs out.
+pub fn read_item(alloc: Global, line: &[u8]) -> Result<Option<Item>, AllocError>
+    ensures { IfOk result (Finds (IsLineOf line.now)) }
+{
+    match first_word(line) {
+        (word, Some(behind)) => read_behind(alloc, word, behind),
+        (word, None) => read_alone(alloc, word),
+    }
+}
+
+/// The item of a line of one word.
+fn read_alone(alloc: Global, line: &[u8]) -> Result<Option<Item>, AllocError>
+    requires { HasNoSpace line.now }
+    ensures { IfOk result (Finds (IsLineOf line.now)) }
+{
+    if !is_evidence_line(alloc, line)? {
+        return Ok(None);
+    }
+    let text = Vec::from_slice(alloc, line)?;
+    Ok(Some(Item::Evidence(EvidenceLine::new(text))))
+}
+
+/// The item of a line of more words.
+fn read_behind(alloc: Global, word: &[u8], behind: &[u8]) -> Result<Option<Item>, AllocError>
+    requires { HasNoSpace word.now }
+    ensures { IfOk result (Finds (IsLineOf (word.now ++ 32 ∷ behind.now))) }
+{
+    if word == b"promise".as_slice() {
+        return promised_item(alloc, false, behind);
+    }
+    if word == b"change".as_slice() {
+        return promised_item(alloc, true, behind);
+    }
+    if word == b"watched".as_slice() {
+        return mark_item(alloc, behind);
+    }
+    if word == b"alarm".as_slice() {
+        return alarm_item(alloc, behind);
+    }
+    Ok(None)
+}
+
+fn promised_item(alloc: Global, is_own: bool, behind: &[u8]) -> Result<Option<Item>, AllocError>
+    ensures { IfOk result (Finds (IsLineOf (promise_word is_own ++ 32 ∷ behind.now))) }
+{
+    match read_promise(alloc, behind)? {
+        Some(signed) => Ok(Some(Item::Promised(Promised { signed, is_own }))),
+        None => Ok(None),
+    }
+}
+
+fn mark_item(alloc: Global, behind: &[u8]) -> Result<Option<Item>, AllocError>
+    ensures { IfOk result (Finds (IsLineOf (codes "watched" ++ 32 ∷ behind.now))) }
+{
+    match read_mark(alloc, behind)? {
+        Some(mark) => Ok(Some(Item::Watched(mark))),
+        None => Ok(None),
+    }
+}
+
+fn alarm_item(alloc: Global, behind: &[u8]) -> Result<Option<Item>, AllocError>
+    ensures { IfOk result (Finds (IsLineOf (codes "alarm" ++ 32 ∷ behind.now))) }
+{
+    match read_alarm(alloc, behind)? {
+        Some(alarm) => Ok(Some(Item::Alarm(alarm))),
+        None => Ok(None),
+    }
+}
+
+/// `NAME SINCE EPOCH`, or `NAME EPOCH`
+fn read_mark(alloc: Global, text: &[u8]) -> Result<Option<Mark>, AllocError>
+    ensures { IfOk result (Finds (IsMarkText text.now)) }
+{
+    match first_word(text) {
+        (word, Some(behind)) => mark_of(alloc, word, behind),
+        (_, None) => Ok(None),
+    }
+}
+
+/// The mark of the name that a word writes, and the epochs behind it.
+fn mark_of(alloc: Global, word: &[u8], behind: &[u8]) -> Result<Option<Mark>, AllocError>
+    requires { HasNoSpace word.now }
+    ensures { IfOk result (Finds (IsMarkText (word.now ++ 32 ∷ behind.now))) }
+{
+    let Some((since, epoch)) = read_span(behind) else {
+        return Ok(None);
+    };
+    match read_name(alloc, word)? {
+        Some(name) => Ok(Some(Mark { name, since, epoch })),
+        None => Ok(None),
+    }
+}
+
+/// `NAME EPOCH KEY`
+fn read_alarm(alloc: Global, text: &[u8]) -> Result<Option<Alarm>, AllocError>
+    ensures { IfOk result (Finds (IsAlarmText text.now)) }
+{
+    match first_word(text) {
+        (word, Some(behind)) => alarm_of(alloc, word, behind),
+        (_, None) => Ok(None),
+    }
+}
+
+/// The alarm of the name that a word writes, and the finding behind it.
+fn alarm_of(alloc: Global, word: &[u8], behind: &[u8]) -> Result<Option<Alarm>, AllocError>
+    requires { HasNoSpace word.now }
+    ensures { IfOk result (Finds (IsAlarmText (word.now ++ 32 ∷ behind.now))) }
+{
+    let Some((epoch, found)) = read_finding(alloc, behind)? else {
+        return Ok(None);
+    };
+    match read_name(alloc, word)? {
+        Some(name) => Ok(Some(Alarm { name, epoch, found })),
+        None => Ok(None),
+    }
+}
+
+/// `SINCE EPOCH`, or `EPOCH`
+fn read_span(text: &[u8]) -> Option<(u64, u64)>
+    ensures { Finds (IsSpan text.now) result }
+{
+    match first_word(text) {
+        (word, Some(behind)) => two_epochs(word, behind),
+        (word, None) => one_epoch(word),
+    }
+}
+
+fn one_epoch(word: &[u8]) -> Option<(u64, u64)>
+    requires { HasNoSpace word.now }
+    ensures { Finds (IsSpan word.now) result }
+{
+    match read_number(word) {
+        Some(epoch) => Some((epoch, epoch)),
+        None => None,
+    }
+}
+
+fn two_epochs(first: &[u8], second: &[u8]) -> Option<(u64, u64)>
+    requires { HasNoSpace first.now }
+    ensures { Finds (IsSpan (first.now ++ 32 ∷ second.now)) result }
+{
+    let Some(since) = read_number(first) else {
+        return None;
+    };
+    let Some(epoch) = read_number(second) else {
+        return None;
+    };
+    if since <= epoch {
+        Some((since, epoch))
+    } else {
+        None
+    }
+}
+
+/// `EPOCH KEY`
+fn read_finding(alloc: Global, text: &[u8]) -> Result<Option<(u64, Option<KeyData>)>, AllocError>
+    ensures { IfOk result (Finds (IsFinding text.now)) }
+{
+    match first_word(text) {
+        (word, Some(behind)) => finding_of(alloc, word, behind),
+        (_, None) => Ok(None),
+    }
+}
+
+/// The epoch that a word writes, and what was found.
+fn finding_of(
+    alloc: Global,
+    word: &[u8],
+    behind: &[u8],
+) -> Result<Option<(u64, Option<KeyData>)>, AllocError>
+    requires { HasNoSpace word.now }
+    ensures { IfOk result (Finds (IsFinding (word.now ++ 32 ∷ behind.now))) }
+{
+    let Some(epoch) = read_number(word) else {
+        return Ok(None);
+    };
+    match read_found(alloc, behind)? {
+        Some(found) => Ok(Some((epoch, found))),
+        None => Ok(None),
+    }
+}
+
+/// Whether a line is the text of evidence.
+fn is_evidence_line(alloc: Global, line: &[u8]) -> Result<bool, AllocError>
+    ensures { IfOk result (λ is. IsTrue is ↔ IsEvidenceLine line.now) }
+{
+    match read_evidence(alloc, line) {
+        Ok(evidence) => is_text_of(alloc, &evidence, line),
+        Err(ReadFault::OutOfMemory) => Err(AllocError),
+        Err(ReadFault::NotEvidence) => Ok(false),
+    }
+}
+
+/// Whether a line is the text of this evidence.
+fn is_text_of(alloc: Global, evidence: &Evidence, line: &[u8]) -> Result<bool, AllocError>
+    ensures { IfOk result (λ is. IsTrue is ↔ (line.now ≡ evidence_text evidence.now)) }
+{
+    Ok(evidence_json(alloc, evidence)?.as_bytes() == line)
+}

@@ -1,0 +1,137 @@
+// A line is split at its spaces into words. Each says bytes or a number, in the one way in which it is written.
+
+ghost use Rattle.std.specs.Prelude.{◌≡◌, ◌↔◌, ◌∷◌, ◌++◌, Ok, Some, option_map, IfOk, IsTrue, MatchOption};
+ghost use Rattle.encoding.specs.Limits.{IsKeyData, IsName};
+ghost use Rattle.hex.specs.Hex.{decode_of, encode_lower};
+ghost use Rattle.rootchain.specs.Promises.{SpellsPromise};
+ghost use Rattle.memory.specs.Finding.{Finds};
+ghost use Rattle.memory.specs.Words.{HasNoSpace, IsFoundWord, IsHexOf, IsNameWord, IsNumberWord, IsPromiseWord};
+
+use encoding::{KeyData, Name};
+use hex::FromHexError;
+use itoa::Buffer;
+use rootchain::SignedPromise;
+use std::alloc::{AllocError, Global};
+
+/// The first word of a text, and what stands behind the space that ends it, if one does.
+pub(crate) fn first_word(text: &[u8]) -> (&[u8], Option<&[u8]>)
+    ensures word { HasNoSpace result.0.now }
+    ensures parts { MatchOption result.1 (text.now ≡ result.0.now) (λ behind. text.now ≡ result.0.now ++ 32 ∷ behind.now) }
+{
+    match text.iter().position(|byte| *byte == b' ') {
+        Some(place) => {
+            let (word, rest) = text.split_at(place);
+            (word, Some(rest.split_at(1).1))
+        }
+        None => (text, None),
+    }
+}
+
+/// The number that a word writes in decimal digits, with no zero in front.
+pub(crate) fn read_number(word: &[u8]) -> Option<u64>
+    ensures { Finds (IsNumberWord word.now) result }
+{
+    let Ok(text) = str::from_utf8(word) else {
+        return None;
+    };
+    let Ok(number) = text.parse::<u64>() else {
+        return None;
+    };
+    // So neither a sign nor a zero stands in front.
+    if Buffer::new().format(number).as_bytes() == word {
+        Some(number)
+    } else {
+        None
+    }
+}
+
+/// The bytes that a word writes in hexadecimal digits, in lower case.
+fn read_hex(alloc: Global, word: &[u8]) -> Result<Option<Vec<u8>>, AllocError>
+    ensures { IfOk result (λ read. Finds (IsHexOf word.now) (option_map (λ bytes. bytes.items) read)) }
+{
+    match hex::decode(alloc, word) {
+        Ok(bytes) => only_lower(alloc, bytes, word),
+        Err(FromHexError::OutOfMemory) => Err(AllocError),
+        Err(_) => Ok(None),
+    }
+}
+
+/// The bytes of a word, if no digit is in upper case.
+fn only_lower(alloc: Global, bytes: Vec<u8>, word: &[u8]) -> Result<Option<Vec<u8>>, AllocError>
+    requires { decode_of word.now ≡ Ok bytes.items }
+    ensures { IfOk result (λ read. Finds (IsHexOf word.now) (option_map (λ bytes. bytes.items) read)) }
+{
+    if is_lower(alloc, &bytes, word)? {
+        Ok(Some(bytes))
+    } else {
+        Ok(None)
+    }
+}
+
+/// Whether a word is the digits of these bytes in lower case.
+fn is_lower(alloc: Global, bytes: &[u8], word: &[u8]) -> Result<bool, AllocError>
+    ensures { IfOk result (λ is. IsTrue is ↔ (word.now ≡ encode_lower bytes.now)) }
+{
+    Ok(hex::encode(alloc, bytes)?.as_bytes() == word)
+}
+
+/// The name that a word writes.
+pub(crate) fn read_name(alloc: Global, word: &[u8]) -> Result<Option<Name>, AllocError>
+    ensures { IfOk result (Finds (IsNameWord word.now)) }
+{
+    match read_hex(alloc, word)? {
+        Some(bytes) => Ok(name_of(&bytes)),
+        None => Ok(None),
+    }
+}
+
+fn name_of(bytes: &[u8]) -> Option<Name>
+    ensures { MatchOption result (¬ IsName bytes.now) (λ name. IsName bytes.now × (name ≡ bytes.now)) }
+{
+    match Name::new(bytes) {
+        Ok(name) => Some(name),
+        Err(_) => None,
+    }
+}
+
+/// The key that a word writes, or that there was none.
+pub(crate) fn read_found(alloc: Global, word: &[u8]) -> Result<Option<Option<KeyData>>, AllocError>
+    ensures { IfOk result (Finds (IsFoundWord word.now)) }
+{
+    if word == b"absent".as_slice() {
+        return Ok(Some(None));
+    }
+    match read_hex(alloc, word)? {
+        Some(bytes) => Ok(key_of(&bytes)),
+        None => Ok(None),
+    }
+}
+
+/// The key of these bytes, as what was found.
+fn key_of(bytes: &[u8]) -> Option<Option<KeyData>>
+    ensures { MatchOption result (¬ IsKeyData bytes.now) (λ found. IsKeyData bytes.now × (found ≡ Some bytes.now)) }
+{
+    match KeyData::new(bytes) {
+        Ok(key) => Some(Some(key)),
+        Err(_) => None,
+    }
+}
+
+/// The promise that a word writes.
+pub(crate) fn read_promise(alloc: Global, word: &[u8]) -> Result<Option<SignedPromise>, AllocError>
+    ensures { IfOk result (Finds (IsPromiseWord word.now)) }
+{
+    match read_hex(alloc, word)? {
+        Some(bytes) => Ok(promise_of(&bytes)),
+        None => Ok(None),
+    }
+}
+
+fn promise_of(bytes: &[u8]) -> Option<SignedPromise>
+    ensures { Finds (SpellsPromise bytes.now) result }
+{
+    match SignedPromise::read(bytes) {
+        Ok(signed) => Some(signed),
+        Err(_) => None,
+    }
+}

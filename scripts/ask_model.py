@@ -1,0 +1,540 @@
+"""A model of `directoryd ask`, by docs/FORMATS.md: an owner's client, which remembers from run to run.
+
+    Memory    what FILE.kept holds, as values
+    Told      what a run prints, says and has to remember of that
+    Followed  a run that asks, and follows the chain of roots
+    Asked     a whole run
+
+A provider has a call `frame`, which returns the next frame, or None, for the bytes of a request.
+"""
+
+import contextlib
+from dataclasses import dataclass, replace
+from typing import NamedTuple
+
+from formats import (
+    BAD_LINK,
+    BEFORE_START,
+    KNOWN,
+    MAX_EPOCH,
+    MAX_KEY,
+    MAX_NAME,
+    MAX_ROOTS,
+    NOT_LATER,
+    PROMISE,
+    PROOF,
+    REFUSED,
+    ROOT,
+    ROOTS,
+    FeedRefusal,
+    KeyedVuf,
+    ReadRefusal,
+    Refusal,
+    Reply,
+    RootEvidence,
+    RootRefusal,
+    SignedPromise,
+    SignedRoot,
+    evidence_json,
+    lines_of,
+    read_response,
+    request_frame,
+    sha256,
+    write_list,
+)
+from sessions import (
+    KEPT,
+    OTHER_INDEX,
+    SIGNING_KEY,
+    Client,
+    ClientRefusal,
+    DirectoryRefusal,
+    Monitor,
+    NotACommand,
+    command_of,
+    hex_word,
+    request_of,
+    response_line,
+    step_line,
+)
+
+PROVIDER = SIGNING_KEY
+
+
+class NoReply(Exception):
+    """No whole frame comes."""
+
+
+class Stopped(Exception):
+    """A root that has to be taken is refused."""
+
+
+class ReplyRefused(Refusal):
+    texts = {25: "the reply is not to what was asked", 26: "the name has another index"}
+
+
+WORDS = {
+    **FeedRefusal.texts,
+    **ReadRefusal.texts,
+    **DirectoryRefusal.texts,
+    12: "the token is not the operator's",
+    14: "out of memory",
+    19: "the record was not kept",
+}
+
+# What is remembered -----------------------------------------------------------------------------------------
+
+
+class Mark(NamedTuple):
+    """Each monitor of a name has watched each root of its chain above the one epoch, up to the other."""
+
+    since: int
+    epoch: int
+
+
+@dataclass(frozen=True)
+class Memory:
+    """Promises, which of them are of the owner's own changes, a mark for each name that was watched, and the lines of
+    alarms and of evidence that were told."""
+
+    promises: list
+    changes: list
+    marks: dict
+    alarms: list
+    evidence: list
+
+    @staticmethod
+    def read(lines):
+        memory = Memory([], [], {}, [], [])
+        for line in lines:
+            memory.add(line, *line.split(" "))
+        return memory
+
+    def add(self, line, word, *words):
+        match word:
+            case "promise" | "change":
+                self.promises.append(SignedPromise.read(bytes.fromhex(*words)))
+                if word == "change":
+                    self.changes.append(self.promises[-1])
+            case "watched":
+                # The older form has one epoch.
+                name, *epochs = words
+                self.marks[bytes.fromhex(name)] = Mark(int(epochs[0]), int(epochs[-1]))
+            case "alarm":
+                self.alarms.append(line)
+            case _:
+                self.evidence.append(line)
+
+    def write(self):
+        word = {True: "change", False: "promise"}
+        promises = [f"{word[signed in self.changes]} {signed.write().hex()}" for signed in self.promises]
+        marks = [f"watched {name.hex()} {since} {epoch}" for name, (since, epoch) in self.marks.items()]
+        return list(dict.fromkeys([*promises, *marks, *self.alarms, *self.evidence]))
+
+    def alarms_of(self, name):
+        return [line for line in self.alarms if line.split(" ")[1] == name.hex()]
+
+    def changes_of(self, name):
+        """Those of a name, ascending, in whatever order the lines are."""
+        return sorted((signed for signed in self.changes if signed.promise.name == name), key=lambda signed: signed.promise.epoch)
+
+    def is_watched(self, signed):
+        """Whether an epoch above that of a promise was watched, by each monitor of its name, or the name has no mark.
+        One whose monitor was held up at its first root has a mark with nothing watched."""
+        mark = self.marks.get(signed.promise.name)
+        return mark is None or mark.epoch > max(mark.since, signed.promise.epoch)
+
+
+def mark_of(monitors, earlier):
+    """The mark of a name after these monitors of it, which had this one or None."""
+    since = monitors[0].client.chain.first().body.previous_epoch if earlier is None else earlier.since
+    return Mark(since, min(map(watched_to, monitors)))
+
+
+def watched_to(monitor):
+    """The last epoch up to which a monitor has watched its whole chain."""
+    chain, following = monitor.client.chain, monitor.next_epoch()
+    return chain.head().epoch if following is None else chain.at(following).body.previous_epoch
+
+
+# What is told -----------------------------------------------------------------------------------------------
+
+
+class Told:
+    """The lines that a run prints, its words on standard error and its status; and which of the lines are alarms and
+    evidence."""
+
+    def __init__(self):
+        self.text, self.words, self.status = [], [], 0
+        self.alarms, self.evidence = [], []
+
+    def explain(self, line, words, status=1):
+        self.words.append(f"{line}: {words}")
+        self.status = max(self.status, status)
+
+    def refuse(self, what, refusal, of=""):
+        """Tells a refusal of the client, behind its evidence. Its words begin with what it is of."""
+        if getattr(refusal, "evidence", None) is not None:
+            self.tell_evidence(refusal.evidence)
+        self.text.append(f"client refuses {what} {refusal.number}")
+        self.explain(of + self.text[-1], refusal.text)
+
+    def tell_evidence(self, evidence):
+        self.text.append(evidence_json(evidence))
+        self.evidence.append(self.text[-1])
+
+    def tell_step(self, name, epoch, step):
+        self.text.append(step_line(name.hex(), epoch, step))
+        if step != KEPT:
+            self.alarms.append(self.text[-1])
+            self.status = 3
+
+    def tell_again(self, path, memory):
+        """Tells the evidence of earlier runs."""
+        for line in memory.evidence:
+            self.text.append(line)
+            self.explain(f"state: {path}.kept", "evidence of an earlier run")
+
+    def raise_again(self, alarms):
+        """Tells alarms of earlier runs."""
+        for line in alarms:
+            _, name, epoch, _ = line.split(" ")
+            self.text.append(line)
+            self.explain(f"watching {name} at epoch {epoch}", "alarm of an earlier run", 3)
+
+
+# What is asked ----------------------------------------------------------------------------------------------
+
+EXPECTED = {PROMISE: ("register", "change", "promise"), PROOF: ("lookup",), ROOTS: ("history",), ROOT: ("head", "close", "rotate")}
+
+
+def answers(request, kind, value, head):
+    """Whether a response is one to the request: of its kind, about what it names, and no older than the head's epoch
+    when it was asked."""
+    command, *words = request
+    if command not in EXPECTED.get(kind, ()):
+        return False
+    match request:
+        case "register" | "change", name, key:
+            return (value.promise.name, value.promise.key) == (name, key) and value.promise.epoch >= head
+        case "promise", name:
+            return value.promise.name == name and value.promise.epoch >= head
+        case "lookup", 0, name:
+            return value.body.epoch >= head and 1 <= len(name) <= MAX_NAME
+        case "lookup", epoch, name:
+            return value.body.epoch == epoch and 1 <= len(name) <= MAX_NAME
+        case "history", start, count:
+            return len(value) <= count and all(root.epoch >= start for root in value)
+        case "close", _, epoch:
+            return value.epoch == epoch
+        case "rotate", _, epoch, nonce:
+            return (value.epoch, value.body.nonce) == (epoch, nonce)
+    return True
+
+
+def epoch_of(value):
+    """The epoch that a response is of, or 0 for a list."""
+    match value:
+        case SignedPromise():
+            return value.promise.epoch
+        case Reply():
+            return value.body.epoch
+        case SignedRoot():
+            return value.epoch
+    return 0
+
+
+class Followed(Told):
+    """A run that asks, whose client and monitors follow the chain. It has no client until its chain has begun."""
+
+    def __init__(self, provider):
+        super().__init__()
+        self.provider, self.client, self.monitors = provider, None, []
+
+    def head_epoch(self):
+        return 0 if self.client is None else self.client.head().epoch
+
+    def ask(self, *request):
+        """What the provider sends back, as a response that answers the request, or None where it is told why not."""
+        got = self.provider.frame(request_frame(*request))
+        if got is None:
+            raise NoReply
+        kind, body = got
+        try:
+            value = read_response(kind, body)
+        except ReadRefusal as refusal:
+            return self.refuse("reply", refusal)
+        if kind == REFUSED:
+            self.text.append(f"refused {value}")
+            self.explain(f"refused {value}", WORDS.get(value, "no reason is known by this number"))
+            return None
+        if not answers(request, kind, value, self.head_epoch()):
+            return self.refuse("reply", ReplyRefused(25))
+        return kind, value, body
+
+    def start(self):
+        """Begins the chain at the head."""
+        got = self.ask("head")
+        if got is None:
+            raise Stopped
+        try:
+            self.client = Client(PROVIDER, got[2], sha256, KeyedVuf(PROVIDER))
+        except RootRefusal as refusal:
+            self.refuse("root", refusal)
+            raise Stopped from None
+        self.words.append(f"state: begins at epoch {self.head_epoch()}")
+
+    def follow(self):
+        try:
+            self.take_new()
+        except Stopped:
+            self.words.append(f"no root is taken after epoch {self.head_epoch()}")
+            raise
+
+    def take_new(self):
+        while (start := self.head_epoch() + 1) <= MAX_EPOCH:
+            got = self.ask("history", start, MAX_ROOTS)
+            if got is None:
+                raise Stopped
+            if not got[1]:
+                return
+            for taker in [self.client, *self.monitors]:
+                try:
+                    taker.update(got[2])
+                except Refusal as refusal:
+                    self.refuse("root", refusal)
+                    raise Stopped from None
+
+    def check(self, request, before, kind, value, body):
+        """The line for a response, to a request that was asked at a head of the epoch `before`."""
+        match value:
+            case Reply():
+                key = self.client.look(request[2], value.body.epoch, body)
+                return f"absent {value.body.epoch}" if key is None else f"present {value.body.epoch} {key.hex()}"
+            case SignedPromise():
+                self.client.keep_promise(body)
+            case SignedRoot():
+                self.place(value, before)
+            case _:
+                for root in value:
+                    self.placed(root)
+        return response_line(kind, value)
+
+    def place(self, root, least):
+        """Refuses a root that the chain has not, or that is of an epoch below the least."""
+        place = self.placed(root)
+        if place == BEFORE_START or root.epoch < least:
+            raise RootRefusal(NOT_LATER)
+        if place != KNOWN:
+            raise RootRefusal(BAD_LINK)
+
+    def placed(self, root):
+        place = self.client.chain.place(root)
+        if isinstance(place, RootEvidence):
+            raise ClientRefusal(21, place)
+        return place
+
+
+REFUSED_THINGS = {PROOF: "proof", PROMISE: "promise", ROOTS: "root", ROOT: "root"}
+
+# A run ------------------------------------------------------------------------------------------------------
+
+
+class Asked(Followed):
+    """A run of `ask`. Where it has a state, these are the roots of FILE and the lines of FILE.kept; the words have FILE's
+    path."""
+
+    def __init__(self, provider, roots=None, kept=(), path="state"):
+        super().__init__(provider)
+        self.saved, self.found, self.path = roots or [], Memory.read(kept), path
+        self.changes, self.settled = [], None
+
+    def run(self, script, words=()):
+        """Asks the lines of a script, or the words of the command line, of which the script is then the only line."""
+        for _ in self.stages(script, words):
+            pass
+
+    def stages(self, script, words=()):
+        """The same, with a stop after the beginning and after each line."""
+        self.tell_again(self.path, self.found)
+        if (name := name_to_settle(words)) is not None:
+            self.settle(name)
+            yield
+            return
+        try:
+            self.begin()
+            yield
+            for place, line in enumerate(lines_of(script), 1):
+                try:
+                    self.line(line)
+                except NotACommand:
+                    self.words.append(f"line {place}: not a command")
+                    self.status = max(self.status, 1)
+                    return
+                yield
+        except NoReply:
+            self.words.append("no reply")
+            self.status = max(self.status, 1)
+        except Stopped:
+            self.status = max(self.status, 1)
+
+    def settle(self, name):
+        """Forgets the alarms of a name. Nothing is asked."""
+        self.settled = name
+        self.text.append(f"settled {name.hex()} {len(self.found.alarms_of(name))}")
+
+    # The beginning
+
+    def begin(self):
+        if self.saved:
+            self.load()
+        else:
+            self.start()
+        self.answer(("head",), is_told=False)
+        self.test_promises()
+
+    def load(self):
+        """The client of the saved chain, with the promises that are to be tested."""
+        self.client = Client(PROVIDER, self.saved[0], sha256, KeyedVuf(PROVIDER))
+        for root in self.saved[1:]:
+            self.client.update(write_list([SignedRoot.read(root)]))
+        for signed in self.found.promises:
+            self.client.keep_promise(signed.write())
+
+    # The lines
+
+    def line(self, line):
+        if line == b"" or line.startswith(b"#"):
+            return
+        command, words = command_of(line)
+        if command in ("bytes", "end"):
+            raise NotACommand
+        if command == "watch":
+            return self.watch(*words)
+        before = self.head_epoch()
+        self.answer(request_of(command, words))
+        if self.head_epoch() != before:
+            for monitor in self.monitors:
+                self.steps(monitor)
+            self.test_promises()
+
+    def answer(self, request, is_told=True):
+        """Asks a request, and tells what comes back: at the beginning only where it is refused."""
+        before, got = self.head_epoch(), self.ask(*request)
+        if got is None:
+            return
+        kind, value, body = got
+        if epoch_of(value) > before:
+            self.follow()
+        try:
+            line = self.check(request, before, kind, value, body)
+        except Refusal as refusal:
+            return self.refuse(REFUSED_THINGS[kind], refusal)
+        if is_told:
+            self.text.append(line)
+        if request[0] in ("register", "change"):
+            self.hand_out(value, body)
+
+    def hand_out(self, signed, body):
+        """Gives the promise of a change to each monitor of the name."""
+        self.changes.append(signed)
+        for monitor in self.monitors_of(signed.promise.name):
+            try:
+                monitor.expect_change(signed.promise.key, body)
+            except Refusal as refusal:
+                self.refuse("promise", refusal, f"watching {monitor.name.hex()}: ")
+
+    def test_promises(self):
+        """Tests the promises that are due. One of a name that was watched waits for its monitor."""
+        for signed in list(self.client.promises):
+            name = signed.promise.name
+            if name in self.found.marks and not self.monitors_of(name):
+                continue
+            if (epoch := self.client.due_epoch(name)) is None:
+                continue
+            if (got := self.ask("lookup", epoch, name)) is None:
+                continue
+            try:
+                due = self.client.due(name, got[2])
+            except Refusal as refusal:
+                self.refuse("proof", refusal, f"promise for {name.hex()}: ")
+                continue
+            if due == OTHER_INDEX:
+                self.refuse("promise", ReplyRefused(26))
+            elif due != KEPT:
+                self.tell_evidence(due)
+                self.explain(f"promise for {name.hex()}", "it was not kept")
+
+    # The monitors
+
+    def monitors_of(self, name):
+        return [monitor for monitor in self.monitors if monitor.name == name]
+
+    def watch(self, name, key):
+        if not 1 <= len(name) <= MAX_NAME or len(key) > MAX_KEY:
+            raise NotACommand
+        self.raise_again(self.found.alarms_of(name))
+        mark = self.found.marks.get(name)
+        first = self.client.head() if mark is None else self.client.chain.after(mark.epoch)
+        if first is None:
+            return
+        self.monitors.append(self.monitor(first, name, key or None))
+        self.steps(self.monitors[-1])
+        self.test_promises()
+
+    def monitor(self, first, name, key):
+        """A monitor from this root of the chain on. It expects the changes of earlier runs, and before them this key."""
+        client = Client(PROVIDER, first.write(), sha256, KeyedVuf(PROVIDER))
+        while (root := self.client.chain.after(client.head().epoch)) is not None:
+            client.update(write_list([root]))
+        promised = self.found.changes_of(name)
+        before = [signed for signed in promised if signed.promise.epoch < first.epoch]
+        monitor = Monitor(client, name, max(before, key=lambda signed: signed.promise.epoch).promise.key if before else key)
+        for signed in promised:
+            with contextlib.suppress(Refusal):
+                monitor.expect_change(signed.promise.key, signed.write())
+        return monitor
+
+    def steps(self, monitor):
+        """Watches the epochs that are new, up to the first whose reply is refused."""
+        while (epoch := monitor.next_epoch()) is not None:
+            if (got := self.ask("lookup", epoch, monitor.name)) is None:
+                return
+            try:
+                step = monitor.step(got[2])
+            except Refusal as refusal:
+                return self.refuse("proof", refusal, f"watching {monitor.name.hex()} at epoch {epoch}: ")
+            self.tell_step(monitor.name, epoch, step)
+
+    # The end
+
+    def state(self):
+        """The lines of the two files after the run."""
+        roots = self.saved if self.client is None else [root.write() for root in self.client.chain.roots]
+        return [root.hex() for root in roots], self.memory().write()
+
+    def memory(self):
+        """What is remembered after the run."""
+        found = self.found
+        marks = {name: mark_of(self.monitors_of(name), found.marks.get(name)) for name in (monitor.name for monitor in self.monitors)}
+        settled = [] if self.settled is None else found.alarms_of(self.settled)
+        alarms = [line for line in [*found.alarms, *self.alarms] if line not in settled]
+        memory = Memory(
+            found.promises, [*found.changes, *self.changes], {**found.marks, **marks}, alarms, [*found.evidence, *self.evidence])
+        if self.client is None:
+            return memory
+        # Those that are still to be tested, and the changes that are still to be watched.
+        untested = self.client.promises
+        unwatched = [signed for signed in memory.changes if signed not in untested and not memory.is_watched(signed)]
+        return replace(memory, promises=[*untested, *unwatched])
+
+
+def name_to_settle(words):
+    """The name in the words `settle NAME`, or None for others."""
+    if len(words) != 2 or words[0] != "settle":
+        return None
+    try:
+        name = hex_word(words[1].encode())
+    except NotACommand:
+        return None
+    return name if 1 <= len(name) <= MAX_NAME else None
