@@ -1,5 +1,5 @@
 -- What earlier runs told that is told again.
-use Rattle.std.specs.Prelude.{◌≡◌, ℕ, List, [], ◌∷◌, nat_lt, if◌then◌else◌, length, map}
+use Rattle.std.specs.Prelude.{◌≡◌, ℕ, List, nat_lt, if◌then◌else◌, length, map}
 use Rattle.memory.specs.Memories.{Memory}
 use Rattle.memory.specs.Texts.{items_text, TellsAgain}
 use Rattle.memory.specs.declared.item.Item.TheVariants.{Evidence}

@@ -21,7 +21,8 @@ use Rattle.asking.specs.Visiting.{TestsAll}
 use Rattle.asking.specs.declared.asker.Asker.{Asker}
 use Rattle.memory.specs.declared.mark.Mark.{Mark}
 
--- the background of a run, which stays throughout it: the provider's key, the token, and what is remembered of earlier runs, as the marks and the promised changes
+-- the background of a run, which stays throughout it: the provider's key, the token, what is remembered of earlier
+-- runs, and of that the marks and the promised changes
 pub record Background : Type 0 where
   pub key : List ℕ
   pub token : List ℕ

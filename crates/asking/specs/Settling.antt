@@ -1,5 +1,5 @@
 -- The command that settles the alarms of a name.
-use Rattle.std.specs.Prelude.{◌≡◌, ◌⊎◌, ℕ, List, [], ◌∷◌, ◌++◌, Option, Some, None, Ok, codes, decimal}
+use Rattle.std.specs.Prelude.{◌≡◌, ℕ, List, [], ◌∷◌, ◌++◌, Option, Some, None, Ok, codes, decimal}
 use Rattle.std.specs.Io.KnownBytes.{Appends}
 use Rattle.hex.specs.Hex.{decode_of, encode_lower}
 use Rattle.encoding.specs.Limits.{IsName}
@@ -13,7 +13,7 @@ abbrev pub IsSettling : AskOptions → List ℕ → Type 0
 IsSettling options name = (¬ (options.state ≡ None)) × (digits : List ℕ)
     × (options.words ≡ Some (codes "settle") ∷ Some digits ∷ None ∷ []) × (decode_of digits ≡ Ok name) × IsName name
 
--- how many alarms of the name were dropped
+-- the line that says that so many alarms of the name were dropped
 abbrev pub settled_line : List ℕ → ℕ → List ℕ
 settled_line name count = codes "settled " ++ encode_lower name ++ codes " " ++ decimal count ++ 10 ∷ []
 

@@ -1,5 +1,6 @@
 // The lines of the files in which a client's chain and what it keeps are stored between runs.
-ghost use Rattle.std.specs.Prelude.{◌≡◌, IfErr, IfOk, OnOk};
+ghost use Rattle.std.specs.Prelude.{◌≡◌, IfErr, IfOk, Ok, OnOk};
+ghost use Rattle.memory.specs.Texts.{Spells};
 ghost use Rattle.asking.specs.RunFaults.{IsFaultOfState};
 ghost use Rattle.client.specs.Clients.{with_promise};
 ghost use Rattle.asking.specs.Runs.{IsSameAsker, StillKeeps};
@@ -76,6 +77,7 @@ where
     pub(crate) fn remember(&mut self, text: &[u8], memory: &mut Memory) -> Result<(), ProgramFault>
         ensures same { IsSameAsker self.old self.new }
         ensures kept { OnOk result (StillKeeps self.old self.new) }
+        ensures spells { OnOk result (Spells text.now (Ok (self.new).known)) }
         ensures err { IfErr result IsFaultOfState }
     {
         self.remember_lines(text, memory)?;
@@ -229,7 +231,8 @@ fn copied_marks(alloc: Global, marks: &[Mark]) -> Result<Vec<Mark>, AllocError> 
 
 /// The memory that a text spells.
 fn read_lines(alloc: Global, text: &[u8]) -> Result<Memory, ProgramFault>
-    ensures { IfErr result IsFaultOfState }
+    ensures spells { IfOk result (λ memory. Spells text.now (Ok memory)) }
+    ensures err { IfErr result IsFaultOfState }
 {
     match read_memory(alloc, text) {
         Ok(memory) => Ok(memory),

@@ -36,7 +36,8 @@ use std::io::{BufRead, Read, Write};
 use textio::{ProgramFault, write_text};
 use vrfiface::VufCheck;
 
-/// How a run ended, with its status: 1 if the directory or the client refused, 3 if a monitor gave an alarm, else 0.
+/// How a run ended, with its status: 1 if the directory or the client refused, or evidence of an earlier run is told;
+/// 3 if an alarm is told; else 0.
 #[derive(Clone, Copy, Debug, PartialEq, Eq)]
 pub enum RunEnd {
     /// All was asked.
@@ -523,9 +524,9 @@ where
         self.settle(asker, asked, writer, errors)
     }
 
-    /// Keeps the roots and promises that are new, writes what is said, and then keeps what is left to test and how
-    /// far names were watched: so a promise that is told is kept, unless keeping it is what fails. Where memory ran
-    /// out an alarm may be untold: then a later run watches from the same epochs. Returns what came of the questions.
+    /// Keeps the roots, promises and evidence that are new, writes what is said, and then keeps the alarms and how far
+    /// names were watched: so a promise that is told is kept, unless keeping it is what fails. Where memory ran out an
+    /// alarm may be untold: then a later run watches from the same epochs. Returns what came of the questions.
     fn settle<W, E, H, V, S>(
         &mut self,
         asker: &Asker<H, V, S>,

@@ -27,14 +27,15 @@ use vrfiface::VufCheck;
 const SECONDS: u64 = 60;
 
 /// Asks what the words of an order ask, or the lines of the input, over a connection to its address, and
-/// writes the line of each answer. The words of refusals go to the errors. Returns the status: 1 if the
-/// directory or the client refused, or if no reply came; 3 if a monitor gave an alarm; else 0.
+/// writes the line of each answer. The words of refusals go to the errors. Words that settle a name ask nothing. Returns
+/// the status: 1 if the directory or the client refused, if no reply came, or if evidence of an earlier run is told; 3
+/// if an alarm is told; else 0.
 ///
 /// # Errors
 ///
 /// `BadHex`, before all else, if a text of the order is not 64 hexadecimal digits; `NotACommand` at the first
-/// line that is no command, or that says something to a session; `BadItem` at a line of the state that is not as a run wrote it;
-/// `CannotRead`; `CannotWrite`; `OutOfMemory`.
+/// line that is no command, or that says something to a session; `BadItem` at a line of the state that is not as a run
+/// wrote it; `CannotRead`; `CannotWrite`; `OutOfMemory`.
 pub fn ask<'a, N, R, W, E>(
     alloc: Global,
     system: &'a N,

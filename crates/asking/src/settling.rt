@@ -1,12 +1,10 @@
 // The command that settles the alarms of a name: they are dropped from what is remembered, and nothing is asked.
-ghost use Rattle.std.specs.Prelude.{◌≡◌, ◌++◌, ◌∷◌, List, ℕ, [], IfErr, IfOk, MatchOption, OnErr, OnOk};
-ghost use Rattle.memory.specs.Memories.{Memory};
+ghost use Rattle.std.specs.Prelude.{◌≡◌, ◌++◌, List, ℕ, IfErr, IfOk, MatchOption, OnErr, OnOk};
 ghost use Rattle.asking.specs.AskOptions.{ask_values};
-ghost use Rattle.asking.specs.Recalled.{evidence_again};
-ghost use Rattle.asking.specs.Reports.{report_of, silent, Tells};
+ghost use Rattle.asking.specs.Reports.{report_of};
 ghost use Rattle.asking.specs.RunFaults.{IsFaultOfState};
-ghost use Rattle.asking.specs.Runs.{emptied, Grows};
-ghost use Rattle.asking.specs.Settling.{settled_line, settled_text, IsSettling, Settles, SettlesPart};
+ghost use Rattle.asking.specs.Runs.{Grows};
+ghost use Rattle.asking.specs.Settling.{settled_line, IsSettling, Settles, SettlesPart};
 
 use crate::run::Run;
 use crate::{AskKeys, AskOrder, Checks, Said};

@@ -1,8 +1,8 @@
 // What a client keeps between runs. In the file of the state stand the signed roots of its chain, one a line in
-// hexadecimal digits; in a second one beside it the promises that it keeps, and how far names were watched. Both only
-// grow while a run goes on, the first one ahead of the second, and each line is on the disk before more is told. At the
-// end of a run a new second file, without the lines that no longer hold, takes the place of the old one. A line
-// without its LF was cut short, and is dropped. Contracts do not know what a file holds: `scripts/states.py` shows it.
+// hexadecimal digits; in a second one beside it promises, how far names were watched, alarms and evidence. Both only grow
+// while a run goes on, the first one ahead of the second, and each line is on the disk before more is told. At the end
+// of a run a new second file, without the lines that no longer hold, takes the place of the old one. A line without its
+// LF was cut short, and is dropped. Contracts do not know what a file holds: `scripts/states.py` shows it.
 ghost use Rattle.std.specs.Prelude.{◌≡◌, ◌≤◌, [], length, IfErr, IfOk, OnOk};
 ghost use Rattle.textio.specs.declared.program_fault.ProgramFault.TheVariants.{OutOfMemory};
 ghost use Rattle.asking.specs.Reports.{report_of};
@@ -343,7 +343,7 @@ impl<'a> State<'a> {
         said.words.extend_from_slice(&words)
     }
 
-    /// Adds the roots, the promises and the evidence that are new to what the files have. The text is what was told.
+    /// Adds the roots, the promises and the evidence that are new to what the files have. The text is what will be told.
     ///
     /// # Errors
     ///
@@ -416,7 +416,12 @@ impl<'a> State<'a> {
 
     /// Drops the alarms of a name, and returns how many there were.
     pub(crate) fn settle(&mut self, name: &Name) -> usize {
-        self.memory.settle(name)
+        let count = self.memory.settle(name);
+        if 0 < count {
+            // What the file has is no longer what it is to have, whatever its size.
+            self.size = None;
+        }
+        count
     }
 
     /// Takes an item, and appends its line if it is new.
@@ -535,6 +540,7 @@ impl<'a> State<'a> {
             Some(mark) => mark.since,
             None => begins_at(monitor),
         };
+        let since = since.min(epoch);
         let name = name.copied();
         self.take(Item::Watched(Mark { name, since, epoch }), lines)
     }
@@ -558,7 +564,7 @@ impl<'a> State<'a> {
         self.memory.leave(&self.tested);
         let mut text = Vec::new(alloc);
         self.memory.write(&mut text)?;
-        // The file has at least these lines, so that it has no other ones where it is as long.
+        // The file has at least these lines, some perhaps in the older form. Where it is as long, it needs no new one.
         if self.size == Some(text.len()) {
             return Ok(());
         }

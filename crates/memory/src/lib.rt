@@ -1,7 +1,7 @@
 //! What an owner's client remembers between runs beside the chain of roots: promises, how far names were
 //! watched, alarms and evidence. The lines are this directory's own.
 //!
-//! Callers can rely on this: an item has one line, and `read_item` reads exactly these lines. `take` changes the
+//! Callers can rely on this: a line is of one item, and `read_item` reads exactly the lines of items. `take` changes the
 //! memory by one item, `leave` drops exactly the promises that nobody needs, `settle` exactly the alarms of a
 //! name. No item is kept twice.
 #![tactic(auto)]
