@@ -48,8 +48,6 @@ pub(crate) struct State<'a> {
     size: Option<usize>,
     /// How many changes of this run were looked at.
     changes: usize,
-    /// The last promise that the client kept when it was last looked.
-    last: Option<SignedPromise>,
     /// The promises that were tested in this run.
     tested: Vec<SignedPromise>,
     /// How many promises the client kept, the head, and how many monitors there were, when it was last looked.
@@ -239,7 +237,6 @@ impl<'a> State<'a> {
             memory: Memory::new(alloc),
             size: Some(0),
             changes: 0,
-            last: None,
             tested: Vec::new(alloc),
             count: 0,
             head: 0,
@@ -326,12 +323,7 @@ impl<'a> State<'a> {
             return Err(fault_in(self.beside.as_str(), fault, said));
         }
         self.size = Some(lines.len());
-        let promises = asker.client.promises();
-        self.count = promises.len();
-        self.last = match promises.last() {
-            Some(signed) => Some(signed.copied()),
-            None => None,
-        };
+        self.count = asker.client.promises().len();
         self.head = asker.head();
         Ok(())
     }
@@ -442,6 +434,13 @@ impl<'a> State<'a> {
         Ok(())
     }
 
+    /// Whether a promise is remembered.
+    fn knows(&self, signed: &SignedPromise) -> bool {
+        // One that was just kept is the last.
+        let mut known = self.memory.promises().iter().rev();
+        known.any(|promised| promised.signed == *signed)
+    }
+
     /// Takes the promises that the client kept since it was last looked. Returns the lines of those that are new.
     fn new_promises<H, V, S>(&mut self, asker: &Asker<H, V, S>) -> Result<Vec<u8>, AllocError>
     where
@@ -450,42 +449,32 @@ impl<'a> State<'a> {
         S: Verifier + Drop,
     {
         let promises = asker.client.promises();
-        let fresh = promises.split_at(self.known_of(promises)).1;
-        let own = asker
-            .changes
-            .split_at(self.changes.min(asker.changes.len()))
-            .1;
+        let known = self.known_of(promises);
         let mut lines = Vec::new(self.alloc);
-        for signed in own {
+        for signed in asker.changes.iter().skip(self.changes) {
             let (signed, is_own) = (signed.copied(), true);
             self.take(Item::Promised(Promised { signed, is_own }), &mut lines)?;
         }
         self.changes = asker.changes.len();
-        for signed in fresh {
-            if !own.contains(signed) {
-                let (signed, is_own) = (signed.copied(), false);
-                self.take(Item::Promised(Promised { signed, is_own }), &mut lines)?;
-            }
+        for signed in promises.iter().skip(known) {
+            let (signed, is_own) = (signed.copied(), false);
+            self.take(Item::Promised(Promised { signed, is_own }), &mut lines)?;
         }
-        self.count = self.count.saturating_add(fresh.len());
-        self.last = match promises.last() {
-            Some(signed) => Some(signed.copied()),
-            None => None,
-        };
+        let added = promises.len().saturating_sub(known);
+        self.count = self.count.saturating_add(added);
         Ok(lines)
     }
 
-    /// How many of these promises were there when it was last looked. New ones stand at the end.
-    fn known_of(&self, promises: &[SignedPromise]) -> usize
-        ensures { result ≤ length promises.now }
-    {
-        let Some(last) = self.last.as_ref() else {
-            return 0;
-        };
-        match promises.iter().rposition(|signed| signed == last) {
-            Some(place) => place + 1,
-            None => 0,
+    /// How many of these promises are remembered. New ones stand at the end.
+    fn known_of(&self, promises: &[SignedPromise]) -> usize {
+        let mut known = promises.len();
+        for signed in promises.iter().rev() {
+            if self.knows(signed) {
+                return known;
+            }
+            known = known.saturating_sub(1);
         }
+        known
     }
 
     /// Takes the told lines that begin with a word, and appends those that are new.
