@@ -103,22 +103,32 @@ def lost(state, before, printed, text, stages, is_told):
     known = set.union(*(stage.promises for stage in stages[: reached + 2]))
     if not now.promises <= known:
         return f"promises that nobody gave: {now.promises - known}"
-    return lost_of_watches(now, stages[max(first - 1, 0) : reached + 2], printed)
+    return lost_of_watches(now, stages[max(first - 1, 0) : reached + 2], stages[first], printed)
 
 
-def lost_of_watches(now, could_be, printed):
+def lost_of_watches(now, could_be, told, printed):
     """What is wrong in the alarms and marks, or None. Those of a line are kept once the line is printed, and a mark
-    behind its alarms."""
+    behind its alarms. Where the watching of a name begins is kept before anything is told of it."""
     if not could_be[0].alarms <= now.alarms <= set.union(*(stage.alarms for stage in could_be)):
         return f"alarms are {now.alarms}, after {printed}"
+    if not told.marks.keys() <= now.marks.keys():
+        return f"it is lost where the watching of {told.marks.keys() - now.marks.keys()} begins, after {printed}"
     for name in set.union(*(set(stage.marks) for stage in could_be), now.marks):
-        moved = [stage for stage in could_be if stage.marks.get(name) == now.marks.get(name)]
+        moved = [stage for stage in could_be if now.marks.get(name) in (stage.marks.get(name), beginning_of(name, stage, could_be))]
         if not moved:
             return f"{name} is watched to {now.marks.get(name)}, after {printed}"
         told = {line for line in moved[0].alarms if name_of(line) == name}
         if not told <= now.alarms:
             return f"alarms are lost: {told - now.alarms}, after {printed}"
     return None
+
+
+def beginning_of(name, stage, could_be):
+    """The line of a mark with nothing watched yet, if the name has no mark in the stage and one in a later one."""
+    if name in stage.marks:
+        return None
+    sinces = [each.marks[name].split(" ")[2] for each in could_be if name in each.marks]
+    return f"watched {name} {sinces[0]} {sinces[0]}" if sinces else None
 
 
 # Runs -------------------------------------------------------------------------------------------------------------
@@ -649,11 +659,11 @@ def ordered(program, library):
         ("nothing new", b"head\nlookup 61 0\nhistory 0 1\n", ["print"] * 3),
         ("a registration", b"register 61 6b31\n", ["sync FOLDER", *keeps, "print"]),
         ("two lines", b"register 62 6b31\nlookup 61 0\nregister 63 6b31\n", [*keeps, "print", "print", *keeps, "print"]),
-        ("a watch", b"watch 61 -\n", marks),
+        ("a watch", b"watch 61 -\n", [*keeps, *marks, *anew]),
         ("no more to watch", b"watch 61 -\nhead\n", ["print"]),
         ("a closing", b"close 2\n", [*adds, "print", *anew]),
         ("a change and a closing", b"change 61 6b32\nclose 3\nchange 62 6b32\n", [*keeps, "print", *adds, "print", *keeps, "print"]),
-        ("two names", b"watch 61 6b31\nwatch 62 6b31\n", [*marks, *marks, *anew]),
+        ("two names", b"watch 61 6b31\nwatch 62 6b31\n", [*marks, *keeps, *marks, *anew]),
     ]
     with tempfile.TemporaryDirectory() as folder:
         provider = Provider()

@@ -1,5 +1,6 @@
 pub mod Asked
 pub mod Earlier
+pub mod Remembered
 pub mod Ended
 pub mod Faulty
 pub mod Going

@@ -15,6 +15,8 @@ pub mod Stopping
 pub mod Testing
 pub mod Reports
 pub mod RunFaults
+pub mod Remembering
+pub mod Keeping
 pub mod Runs
 pub mod Visiting
 pub mod Watching

@@ -1,13 +1,19 @@
 // The lines of the files in which a client's chain and what it keeps are stored between runs.
-ghost use Rattle.std.specs.Prelude.{◌≡◌, IfErr, IfOk, Ok, OnOk};
-ghost use Rattle.memory.specs.Texts.{Spells};
+ghost use Rattle.std.specs.Prelude.{◌≡◌, ◌++◌, List, IfErr, IfOk, Ok, OnOk};
+ghost use Rattle.textio.specs.Lines.{lines_of};
+ghost use Rattle.rootchain.specs.Promises.{IsSignedPromise};
+ghost use Rattle.rootchain.specs.declared.signed_promise.SignedPromise.{SignedPromise as Signed};
+ghost use Rattle.memory.specs.Lines.{IsSound};
+ghost use Rattle.memory.specs.Texts.{Spells, TakesLine};
+ghost use Rattle.memory.specs.declared.item.Item.TheVariants as items;
+ghost use Rattle.asking.specs.Remembering.{own_of, AreOwnOf, IsOwnOf, IsWithin};
 ghost use Rattle.asking.specs.RunFaults.{IsFaultOfState};
 ghost use Rattle.client.specs.Clients.{with_promise};
 ghost use Rattle.asking.specs.Runs.{IsSameAsker, StillKeeps};
 
 use crate::Asker;
 use hex::FromHexError;
-use memory::{Item, Mark, Memory, Promised, ReadFault, read_item, read_memory};
+use memory::{Item, Mark, Memory, Promised, ReadFault, first_line, read_item, read_memory};
 use nodehash::NodeHash;
 use play::{next_line, push_hex};
 use rootchain::SignedPromise;
@@ -73,37 +79,39 @@ where
         Ok(())
     }
 
-    /// Remembers what the lines of the second file have.
-    pub(crate) fn remember(&mut self, text: &[u8], memory: &mut Memory) -> Result<(), ProgramFault>
+    /// Remembers what the lines of the second file have. Returns a memory of it that grows in the run.
+    pub(crate) fn remember(&mut self, text: &[u8]) -> Result<Memory, ProgramFault>
         ensures same { IsSameAsker self.old self.new }
         ensures kept { OnOk result (StillKeeps self.old self.new) }
-        ensures spells { OnOk result (Spells text.now (Ok (self.new).known)) }
+        ensures spells { IfOk result (λ memory. Spells text.now (Ok memory) × (memory ≡ (self.new).known)) }
+        ensures marks { OnOk result ((self.new).marks.items ≡ (self.new).known.marks) }
+        ensures earlier { OnOk result ((own : List Signed) × AreOwnOf (lines_of text.now) own × ((self.new).earlier.items ≡ (self.old).earlier.items ++ own)) }
         ensures err { IfErr result IsFaultOfState }
     {
-        self.remember_lines(text, memory)?;
+        let memory = self.remember_lines(text)?;
         self.marks = copied_marks(self.alloc, memory.marks())?;
         self.known = read_lines(self.alloc, text)?;
-        Ok(())
+        Ok(memory)
     }
 
     /// Remembers the lines one after another.
-    fn remember_lines(&mut self, text: &[u8], memory: &mut Memory) -> Result<(), ProgramFault>
+    fn remember_lines(&mut self, text: &[u8]) -> Result<Memory, ProgramFault>
         ensures same { IsSameAsker self.old self.new }
         ensures kept { OnOk result (StillKeeps self.old self.new) }
+        ensures spells { IfOk result (λ memory. Spells text.now (Ok memory)) }
+        ensures earlier { OnOk result ((own : List Signed) × AreOwnOf (lines_of text.now) own × ((self.new).earlier.items ≡ (self.old).earlier.items ++ own)) }
         ensures err { IfErr result IsFaultOfState }
     {
-        let mut left = text;
-        let mut line = Vec::new(self.alloc);
-        // Every loop of Rattle has an end: this one's is past any text.
-        for number in 1..u64::MAX {
-            if !next_line(&mut left, &mut line)? {
-                return Ok(());
-            }
-            if !line.is_empty() {
-                self.remember_line(&line, number, memory)?;
-            }
+        let mut memory = Memory::new(self.alloc);
+        let mut rest = text;
+        let mut number: u64 = 0;
+        while !rest.is_empty() {
+            let (line, behind) = first_line(rest);
+            number += 1;
+            self.remember_line(line, number, &mut memory)?;
+            rest = behind;
         }
-        Ok(())
+        Ok(memory)
     }
 
     /// Takes the root of a line.
@@ -126,7 +134,7 @@ where
     }
 
     /// Remembers what a line of the second file has. A promise is one that the client accepts, and no mark is above the
-    /// chain's head.
+    /// chain's head. An empty line is passed over.
     fn remember_line(
         &mut self,
         line: &[u8],
@@ -135,8 +143,13 @@ where
     ) -> Result<(), ProgramFault>
         ensures same { IsSameAsker self.old self.new }
         ensures kept { OnOk result (StillKeeps self.old self.new) }
+        ensures takes { OnOk result (TakesLine line.now number memory.old memory.new (Ok tt)) }
+        ensures earlier { OnOk result ((own : List Signed) × IsOwnOf line.now own × ((self.new).earlier.items ≡ (self.old).earlier.items ++ own)) }
         ensures err { IfErr result IsFaultOfState }
     {
+        if line.is_empty() {
+            return Ok(());
+        }
         let Some(item) = read_item(self.alloc, line)? else {
             return Err(ProgramFault::BadItem(number));
         };
@@ -149,6 +162,8 @@ where
     fn accept(&mut self, item: &Item, number: u64) -> Result<(), ProgramFault>
         ensures same { IsSameAsker self.old self.new }
         ensures kept { OnOk result (StillKeeps self.old self.new) }
+        ensures earlier { OnOk result (IsSound item.now → (self.new).earlier.items ≡ (self.old).earlier.items ++ own_of item.now) }
+        ensures marks { OnOk result (IsWithin (self.old).client.chain item.now) }
         ensures err { IfErr result IsFaultOfState }
     {
         match item {
@@ -164,6 +179,7 @@ where
     fn keep_earlier(&mut self, promised: &Promised, number: u64) -> Result<(), ProgramFault>
         ensures same { IsSameAsker self.old self.new }
         ensures kept { OnOk result (StillKeeps self.old self.new) }
+        ensures earlier { OnOk result (IsSignedPromise promised.now.signed → (self.new).earlier.items ≡ (self.old).earlier.items ++ own_of (items.Promised promised.now)) }
         ensures err { IfErr result IsFaultOfState }
     {
         let signed = self.keep_again(&promised.signed, number)?;
@@ -182,6 +198,7 @@ where
     ) -> Result<SignedPromise, ProgramFault>
         ensures same { IsSameAsker self.old self.new }
         ensures kept { IfOk result (λ signed. (self.new).client ≡ with_promise (self.old).client signed) }
+        ensures one { IfOk result (λ signed. IsSignedPromise promise.now → signed ≡ promise.now) }
         ensures earlier { (self.new).earlier ≡ (self.old).earlier }
         ensures err { IfErr result IsFaultOfState }
     {
@@ -220,7 +237,9 @@ where
 }
 
 /// Copies of marks.
-fn copied_marks(alloc: Global, marks: &[Mark]) -> Result<Vec<Mark>, AllocError> {
+fn copied_marks(alloc: Global, marks: &[Mark]) -> Result<Vec<Mark>, AllocError>
+    ensures { IfOk result (λ copies. copies.items ≡ marks.now) }
+{
     let mut copies = Vec::new(alloc);
     for mark in marks {
         let (name, since, epoch) = (mark.name.copied(), mark.since, mark.epoch);
@@ -239,20 +258,4 @@ fn read_lines(alloc: Global, text: &[u8]) -> Result<Memory, ProgramFault>
         Err(ReadFault::BadItem(number)) => Err(ProgramFault::BadItem(number)),
         Err(ReadFault::OutOfMemory) => Err(ProgramFault::OutOfMemory),
     }
-}
-
-/// The lines of what was told that begin with a word.
-pub(crate) fn lines_beginning(
-    alloc: Global,
-    told: &[u8],
-    word: &[u8],
-) -> Result<Vec<u8>, AllocError> {
-    let mut found = Vec::new(alloc);
-    for line in told.split(|byte| *byte == b'\n') {
-        if line.starts_with(word) {
-            found.extend_from_slice(line)?;
-            found.push(b'\n')?;
-        }
-    }
-    Ok(found)
 }

@@ -8,6 +8,7 @@ ghost use Rattle.play.specs.Scripts.{line_of, line_seen};
 ghost use Rattle.asking.specs.AskOptions.{ask_values};
 ghost use Rattle.asking.specs.Ending.{AsksPart, AsksSomeLine, BeginsNone, DoesSome, end_status, EndsEarly, HoldsBack, PreparesSome, stopped_status, TakesSomeNew};
 ghost use Rattle.asking.specs.Exchanges.{ExchangesFrames};
+ghost use Rattle.asking.specs.Keeping.{IsSettled, KeepsUp};
 ghost use Rattle.asking.specs.Recalled.{evidence_again};
 ghost use Rattle.asking.specs.Reports.{report_of, told_after, Report};
 ghost use Rattle.asking.specs.RunFaults.{AsksInput, CannotBeAsked, IsFaultOfSaving, IsFaultOfState, IsFaultWith, IsFirstUnasked, StopsOr};
@@ -20,7 +21,6 @@ ghost use Rattle.asking.specs.Settling.{settled_text};
 ghost use Rattle.memory.specs.Memories.{Memory};
 
 use crate::ask_fault::RunFault;
-use crate::lines::lines_beginning;
 use crate::said::{ALARM, REFUSED};
 use crate::settling::tell_settled;
 use crate::state::State;
@@ -543,13 +543,14 @@ where
         ensures asked { OnOk result (asked ≡ Ok tt) }
         ensures writes { OnOk result (Appends (W.contents writer.old) (W.contents writer.new) (self.old).said.text.items × (report_of (self.new).said ≡ emptied (self.old).said.status)) }
         ensures leaves { HoldsBack (W.contents writer.new) (self.new).said (report_of (self.old).said) (W.contents writer.old) }
+        ensures keeps { IsSettled result → KeepsUp asker.now (self.old).said.text.items (self.old).state (self.new).state }
         ensures faults { IfErr result (StopsOr IsFaultOfSaving) }
         ensures grows { Grows (W.contents writer.old) (W.contents writer.new) }
         ensures status { (self.new).said.status ≡ (self.old).said.status }
     {
-        let alarms = lines_beginning(self.alloc, &self.said.text, b"alarm ")?;
+        let told = Vec::from_slice(self.alloc, &self.said.text)?;
         if let Some(state) = self.state.as_mut() {
-            state.add(self.files, asker, &self.said.text)?;
+            state.add(self.files, asker, &told)?;
         }
         if asked == Err(AskFault::Stopped) {
             tell_epoch(
@@ -561,7 +562,7 @@ where
         self.write(writer, errors)?;
         if asked != Err(AskFault::OutOfMemory) {
             if let Some(state) = self.state.as_mut() {
-                state.save(self.files, asker, &alarms)?;
+                state.save(self.files, asker, &told)?;
             }
         }
         asked?;

@@ -3,8 +3,14 @@
 // while a run goes on, the first one ahead of the second, and each line is on the disk before more is told. At the end
 // of a run a new second file, without the lines that no longer hold, takes the place of the old one. A line without its
 // LF was cut short, and is dropped. Contracts do not know what a file holds: `scripts/states.py` shows it.
-ghost use Rattle.std.specs.Prelude.{◌≡◌, ◌≤◌, [], length, IfErr, IfOk, OnOk};
+ghost use Rattle.std.specs.Prelude.{◌≡◌, ◌⊎◌, ◌+◌, ◌≤◌, ◌++◌, [], List, None, drop, length, IfErr, IfOk, OnOk};
 ghost use Rattle.textio.specs.declared.program_fault.ProgramFault.TheVariants.{OutOfMemory};
+ghost use Rattle.memory.specs.Leaving.{Leaves, Settles};
+ghost use Rattle.memory.specs.Learning.{AreGone, Each, MarksOne};
+ghost use Rattle.memory.specs.Texts.{items_text};
+ghost use Rattle.memory.specs.declared.item.Item.{Item as Remembered};
+ghost use Rattle.monitor.specs.Monitors.{Monitor as Watcher};
+ghost use Rattle.asking.specs.Keeping.{LearnsAfter, LearnsBefore, LearnsPromises, MayMove};
 ghost use Rattle.asking.specs.Reports.{report_of};
 ghost use Rattle.asking.specs.RunFaults.{IsFaultOfSaving, IsFaultOfState};
 ghost use Rattle.asking.specs.Runs.{IsSameAsker, IsSoundFor, KeepsAll, StillKeeps};
@@ -13,8 +19,7 @@ use crate::lines::{fault_of, line_bytes};
 use crate::{Asker, Checks, Said};
 use encoding::{Hash32, Name};
 use files::{LockFault, append, cut, open_existing, open_kept, open_locked, replace};
-use memory::{Item, Mark, Memory, Promised, read_item, watched_up_to};
-use monitor::Monitor;
+use memory::{Kind, Memory};
 use nodehash::NodeHash;
 use play::push_number;
 use rootchain::SignedPromise;
@@ -209,17 +214,11 @@ fn saving_fault(fault: ProgramFault) -> ProgramFault
     }
 }
 
-/// Where the watching of a name begins that this monitor watches: the epoch before the first root of its chain.
-fn begins_at<H, V, S>(monitor: &Monitor<H, V, S>) -> u64
-where
-    H: NodeHash + Drop,
-    V: VufCheck + Drop,
-    S: Verifier + Drop,
+/// What stands behind so many elements.
+fn behind<A>(elements: &[A], count: usize) -> &[A]
+    ensures { result.now ≡ drop count elements.now }
 {
-    match monitor.client().chain().after(0) {
-        Some(root) => root.body.previous_epoch,
-        None => 0,
-    }
+    elements.split_at(count.min(elements.len())).1
 }
 
 impl<'a> State<'a> {
@@ -315,13 +314,15 @@ impl<'a> State<'a> {
         S: Verifier + Drop,
         ensures same { IsSameAsker asker.old asker.new }
         ensures kept { OnOk result (StillKeeps asker.old asker.new) }
+        ensures knows { OnOk result ((self.new).memory ≡ asker.new.known) }
         ensures said { report_of said.new ≡ report_of said.old }
         ensures err { IfErr result IsFaultOfState }
     {
         let lines = whole_lines(&second.bytes);
-        if let Err(fault) = asker.remember(lines, &mut self.memory) {
-            return Err(fault_in(self.beside.as_str(), fault, said));
-        }
+        self.memory = match asker.remember(lines) {
+            Ok(memory) => memory,
+            Err(fault) => return Err(fault_in(self.beside.as_str(), fault, said)),
+        };
         self.size = Some(lines.len());
         self.count = asker.client.promises().len();
         self.head = asker.head();
@@ -343,7 +344,8 @@ impl<'a> State<'a> {
         said.words.extend_from_slice(&words)
     }
 
-    /// Adds the roots, the promises and the evidence that are new to what the files have. The text is what will be told.
+    /// Adds the roots, the promises and the evidence that are new to what the files have, and from where names are
+    /// watched. The text is what will be told.
     ///
     /// # Errors
     ///
@@ -359,7 +361,30 @@ impl<'a> State<'a> {
         H: NodeHash + Drop,
         V: VufCheck + Drop,
         S: Verifier + Drop,
-        ensures { IfErr result IsFaultOfSaving }
+        ensures err { IfErr result IsFaultOfSaving }
+        ensures learns { OnOk result (LearnsBefore (drop (self.old).changes asker.now.changes.items) asker.now.client.promises told.now (drop (self.old).monitors asker.now.monitors.items) (self.old).memory (self.new).memory) }
+        ensures looked { ((self.new).head ≡ (self.old).head) × ((self.new).monitors ≡ (self.old).monitors) }
+    {
+        // Evidence is remembered even if no root can be added.
+        let mut lines = Vec::new(self.alloc);
+        self.memory
+            .learn_told(self.alloc, told, Kind::EvidenceLines, &mut lines)?;
+        self.add_roots(asker)?;
+        self.learn_promises(asker, &mut lines)?;
+        let begun = behind(&asker.monitors, self.monitors);
+        self.memory.mark_begun(begun, &mut lines)?;
+        self.append_second(files, &lines)
+    }
+
+    /// Adds the roots that are new.
+    fn add_roots<H, V, S>(&mut self, asker: &Asker<H, V, S>) -> Result<(), ProgramFault>
+    where
+        H: NodeHash + Drop,
+        V: VufCheck + Drop,
+        S: Verifier + Drop,
+        ensures err { IfErr result IsFaultOfSaving }
+        ensures memory { (self.new).memory ≡ (self.old).memory }
+        ensures looked { ((self.new).changes ≡ (self.old).changes) × ((self.new).head ≡ (self.old).head) × ((self.new).monitors ≡ (self.old).monitors) }
     {
         let roots = asker.lines_after(self.epoch)?;
         match self.roots.as_mut() {
@@ -367,9 +392,7 @@ impl<'a> State<'a> {
             None => return Err(ProgramFault::CannotWrite),
         }
         self.epoch = asker.head();
-        let mut lines = self.new_promises(asker)?;
-        self.take_told(told, b"{", &mut lines)?;
-        self.append_second(files, &lines)
+        Ok(())
     }
 
     /// Adds the alarms that were told, and how far names were watched, and notes the promises that were tested.
@@ -388,34 +411,36 @@ impl<'a> State<'a> {
         H: NodeHash + Drop,
         V: VufCheck + Drop,
         S: Verifier + Drop,
-        ensures { IfErr result IsFaultOfSaving }
+        ensures err { IfErr result IsFaultOfSaving }
+        ensures learns { OnOk result ((some : List Watcher) × MayMove asker.now.client.chain (self.old).head (self.old).monitors asker.now.monitors.items some
+            × LearnsAfter told.now asker.now.monitors.items some (self.old).memory (self.new).memory) }
     {
         let mut lines = Vec::new(self.alloc);
-        self.take_told(told, b"alarm ", &mut lines)?;
-        self.add_marks(asker, &mut lines)?;
+        self.memory
+            .learn_told(self.alloc, told, Kind::Alarms, &mut lines)?;
+        self.learn_marks(asker, &mut lines)?;
         self.append_second(files, &lines)?;
         self.note_tested(asker.client.promises())?;
         Ok(())
     }
 
     /// Notes the promises that the client no longer keeps: they were tested.
-    fn note_tested(&mut self, promises: &[SignedPromise]) -> Result<(), AllocError> {
-        let expected = self.count;
-        self.count = promises.len();
-        if promises.len() == expected {
-            return Ok(());
-        }
-        for promised in self.memory.promises() {
-            let signed = &promised.signed;
-            if !promises.contains(signed) && !self.tested.contains(signed) {
-                self.tested.push(signed.copied())?;
-            }
+    fn note_tested(&mut self, promises: &[SignedPromise]) -> Result<(), AllocError>
+        ensures tested { OnOk result (((length promises.now ≡ (self.old).count) × ((self.new).tested ≡ (self.old).tested)) ⊎ AreGone (self.old).memory promises.now (self.new).tested.items) }
+        ensures memory { (self.new).memory ≡ (self.old).memory }
+    {
+        if promises.len() != self.count {
+            self.tested = self.memory.gone(self.alloc, promises)?;
+            self.count = promises.len();
         }
         Ok(())
     }
 
     /// Drops the alarms of a name, and returns how many there were.
-    pub(crate) fn settle(&mut self, name: &Name) -> usize {
+    pub(crate) fn settle(&mut self, name: &Name) -> usize
+        ensures settles { Settles name.now (self.old).memory (self.new).memory }
+        ensures counted { result + length (self.new).memory.alarms ≡ length (self.old).memory.alarms }
+    {
         let count = self.memory.settle(name);
         if 0 < count {
             // What the file has is no longer what it is to have, whatever its size.
@@ -424,79 +449,8 @@ impl<'a> State<'a> {
         count
     }
 
-    /// Takes an item, and appends its line if it is new.
-    fn take(&mut self, item: Item, lines: &mut Vec<u8>) -> Result<(), AllocError> {
-        let mut line = Vec::new(self.alloc);
-        item.write(&mut line)?;
-        if self.memory.take(item)? {
-            lines.extend_from_slice(&line)?;
-        }
-        Ok(())
-    }
-
-    /// Whether a promise is remembered.
-    fn knows(&self, signed: &SignedPromise) -> bool {
-        // One that was just kept is the last.
-        let mut known = self.memory.promises().iter().rev();
-        known.any(|promised| promised.signed == *signed)
-    }
-
-    /// Takes the promises that the client kept since it was last looked. Returns the lines of those that are new.
-    fn new_promises<H, V, S>(&mut self, asker: &Asker<H, V, S>) -> Result<Vec<u8>, AllocError>
-    where
-        H: NodeHash + Drop,
-        V: VufCheck + Drop,
-        S: Verifier + Drop,
-    {
-        let promises = asker.client.promises();
-        let known = self.known_of(promises);
-        let mut lines = Vec::new(self.alloc);
-        for signed in asker.changes.iter().skip(self.changes) {
-            let (signed, is_own) = (signed.copied(), true);
-            self.take(Item::Promised(Promised { signed, is_own }), &mut lines)?;
-        }
-        self.changes = asker.changes.len();
-        for signed in promises.iter().skip(known) {
-            let (signed, is_own) = (signed.copied(), false);
-            self.take(Item::Promised(Promised { signed, is_own }), &mut lines)?;
-        }
-        let added = promises.len().saturating_sub(known);
-        self.count = self.count.saturating_add(added);
-        Ok(lines)
-    }
-
-    /// How many of these promises are remembered. New ones stand at the end.
-    fn known_of(&self, promises: &[SignedPromise]) -> usize {
-        let mut known = promises.len();
-        for signed in promises.iter().rev() {
-            if self.knows(signed) {
-                return known;
-            }
-            known = known.saturating_sub(1);
-        }
-        known
-    }
-
-    /// Takes the told lines that begin with a word, and appends those that are new.
-    fn take_told(
-        &mut self,
-        told: &[u8],
-        word: &[u8],
-        lines: &mut Vec<u8>,
-    ) -> Result<(), AllocError> {
-        for line in told.split(|byte| *byte == b'\n') {
-            if !line.starts_with(word) {
-                continue;
-            }
-            if let Some(item) = read_item(self.alloc, line)? {
-                self.take(item, lines)?;
-            }
-        }
-        Ok(())
-    }
-
-    /// Takes how far names were watched, and appends the lines of what is new.
-    fn add_marks<H, V, S>(
+    /// Learns the promises of the client that are new, with those for its own changes, and appends their lines.
+    fn learn_promises<H, V, S>(
         &mut self,
         asker: &Asker<H, V, S>,
         lines: &mut Vec<u8>,
@@ -505,44 +459,44 @@ impl<'a> State<'a> {
         H: NodeHash + Drop,
         V: VufCheck + Drop,
         S: Verifier + Drop,
+        ensures learns { OnOk result ((news : List Remembered) × LearnsPromises (drop (self.old).changes asker.now.changes.items) asker.now.client.promises (self.old).memory news (self.new).memory
+            × (lines.new.items ≡ lines.old.items ++ items_text news)) }
+        ensures looked { ((self.new).head ≡ (self.old).head) × ((self.new).monitors ≡ (self.old).monitors) }
     {
-        // While no root is new, the marks of new monitors alone are.
+        let fresh = self.memory.fresh(asker.client.promises());
+        let own = behind(&asker.changes, self.changes);
+        self.memory.learn_promises(own, true, lines)?;
+        self.memory.learn_promises(fresh, false, lines)?;
+        self.changes = asker.changes.len();
+        self.count = self.count.saturating_add(fresh.len());
+        Ok(())
+    }
+
+    /// Learns how far names were watched, and appends the lines of what is new. While no root is new, the marks of new
+    /// monitors alone are.
+    fn learn_marks<H, V, S>(
+        &mut self,
+        asker: &Asker<H, V, S>,
+        lines: &mut Vec<u8>,
+    ) -> Result<(), AllocError>
+    where
+        H: NodeHash + Drop,
+        V: VufCheck + Drop,
+        S: Verifier + Drop,
+        ensures { OnOk result ((some : List Watcher) × (news : List Remembered) × MayMove asker.now.client.chain (self.old).head (self.old).monitors asker.now.monitors.items some
+            × Each (MarksOne asker.now.monitors.items) some (self.old).memory news (self.new).memory × (lines.new.items ≡ lines.old.items ++ items_text news)) }
+    {
+        let monitors = &asker.monitors;
         let known = if asker.head() == self.head {
             self.monitors
         } else {
             0
         };
-        for monitor in asker.monitors.iter().skip(known) {
-            self.add_mark(asker, monitor, lines)?;
-        }
+        self.memory
+            .mark_watched(monitors, behind(monitors, known), lines)?;
         self.head = asker.head();
-        self.monitors = asker.monitors.len();
+        self.monitors = monitors.len();
         Ok(())
-    }
-
-    /// Takes how far the name of a monitor was watched.
-    fn add_mark<H, V, S>(
-        &mut self,
-        asker: &Asker<H, V, S>,
-        monitor: &Monitor<H, V, S>,
-        lines: &mut Vec<u8>,
-    ) -> Result<(), AllocError>
-    where
-        H: NodeHash + Drop,
-        V: VufCheck + Drop,
-        S: Verifier + Drop,
-    {
-        let name = monitor.name();
-        let Some(epoch) = watched_up_to(&asker.monitors, name) else {
-            return Ok(());
-        };
-        let since = match self.memory.mark_of(name) {
-            Some(mark) => mark.since,
-            None => begins_at(monitor),
-        };
-        let since = since.min(epoch);
-        let name = name.copied();
-        self.take(Item::Watched(Mark { name, since, epoch }), lines)
     }
 
     /// Drops the promises that nobody needs, and writes the second file anew if it has lines that no longer hold.
@@ -555,7 +509,8 @@ impl<'a> State<'a> {
         alloc: Global,
         files: &F,
     ) -> Result<(), ProgramFault>
-        ensures { IfErr result IsFaultOfSaving }
+        ensures err { IfErr result IsFaultOfSaving }
+        ensures leaves { OnOk result (((self.old).roots ≡ None) ⊎ Leaves (self.old).tested.items (self.old).memory (self.new).memory) }
     {
         // If the state was not loaded, the file has what this run does not know.
         if self.roots.is_none() {

@@ -7,4 +7,5 @@ pub mod OneItem
 pub mod SaidLines
 pub mod Least
 pub mod Recalled
+pub mod Learned
 pub mod OneMemory

@@ -8,3 +8,4 @@ pub mod Taking
 pub mod Watching
 pub mod Leaving
 pub mod Texts
+pub mod Learning

@@ -28,7 +28,7 @@ pub fn read_memory(alloc: Global, text: &[u8]) -> Result<Memory, ReadFault>
 }
 
 /// The first line, without the LF that ends it, and what stands behind that.
-fn first_line(text: &[u8]) -> (&[u8], &[u8])
+pub fn first_line(text: &[u8]) -> (&[u8], &[u8])
     requires { 0 < length text.now }
     ensures lines { lines_of text.now ≡ result.0.now ∷ lines_of result.1.now }
     ensures less { length result.1.now < length text.now }

@@ -1,0 +1,26 @@
+-- What lines of earlier runs have of the owner's own changes.
+use Rattle.std.proofs.Common.{◌≡◌, ◌∙◌, ℕ, List, [], ◌∷◌, ◌++◌, refl, sym, ap, append_assoc, append-nil}
+use Rattle.rootchain.specs.declared.signed_promise.SignedPromise.{SignedPromise}
+use Rattle.asking.specs.Remembering.{AreOwnOf, IsOwnOf}
+
+-- one line more
+pub own-more : (done : List (List ℕ)) (line : List ℕ) (own one : List SignedPromise) → AreOwnOf done own → IsOwnOf line one → AreOwnOf (done ++ line ∷ []) (own ++ one)
+own-more [] line own one none is = (one, [], is, refl, ap (λ (all : List SignedPromise). all ++ one) none ∙ sym (append-nil one))
+own-more (first ∷ done) line own one (here, rest, has, more, whole) is =
+    (here, rest ++ one, has, own-more done line rest one more is, ap (λ (all : List SignedPromise). all ++ one) whole ∙ append_assoc here rest one)
+
+-- as far as the lines were read
+abbrev pub OwnSoFar : List (List ℕ) → List (List ℕ) → List SignedPromise → List SignedPromise → Type 0
+OwnSoFar lines left first now = (done : List (List ℕ)) × (own : List SignedPromise) × (lines ≡ done ++ left) × AreOwnOf done own × (now ≡ first ++ own)
+
+pub own_none : (lines : List (List ℕ)) (first : List SignedPromise) → OwnSoFar lines lines first first
+own_none lines first = ([], [], refl, refl, sym (append-nil first))
+
+pub own_on : (lines left : List (List ℕ)) (line : List ℕ) (rest : List (List ℕ)) (first middle last one : List SignedPromise) → left ≡ line ∷ rest → IsOwnOf line one → last ≡ middle ++ one
+    → OwnSoFar lines left first middle → OwnSoFar lines rest first last
+own_on lines left line rest first middle last one at is then (done, own, parts, all, here) =
+    (done ++ line ∷ [], own ++ one, parts ∙ ap (λ (more : List (List ℕ)). done ++ more) at ∙ sym (append_assoc done (line ∷ []) rest), own-more done line own one all is,
+    then ∙ ap (λ (xs : List SignedPromise). xs ++ one) here ∙ append_assoc first own one)
+
+pub own_whole : (lines : List (List ℕ)) (first now : List SignedPromise) → OwnSoFar lines [] first now → (own : List SignedPromise) × AreOwnOf lines own × (now ≡ first ++ own)
+own_whole lines first now (done, own, parts, all, here) = let whole : lines ≡ done = parts ∙ append-nil done in (own, rw whole all, here)

@@ -1,0 +1,53 @@
+-- What a run adds to what is remembered.
+use Rattle.std.specs.Prelude.{◌≡◌, ◌≢◌, ◌⊎◌, ℕ, true, false, List, ◌++◌, drop, map, Option, None, Some, Result, Ok, Err, ⊤}
+use Rattle.textio.specs.Lines.{lines_of}
+use Rattle.rootchain.specs.Chains.{IsHead, KeyedRoots}
+use Rattle.rootchain.specs.declared.signed_promise.SignedPromise.{SignedPromise}
+use Rattle.rootchain.specs.declared.signed_root.SignedRoot.{SignedRoot}
+use Rattle.monitor.specs.Monitors.{Monitor}
+use Rattle.memory.specs.Learning.{promised_item, BeginsOne, Each, IsFresh, LearnsLine, LearnsOne, MarksOne}
+use Rattle.memory.specs.Memories.{Memory}
+use Rattle.memory.specs.declared.item.Item.{Item}
+use Rattle.memory.specs.declared.kind.Kind.TheVariants.{Alarms, EvidenceLines}
+use Rattle.asking.specs.declared.ask_fault.AskFault.TheVariants.{NoReply, Stopped, OutOfMemory}
+use Rattle.asking.specs.declared.ask_fault.RunFault.{RunFault}
+use Rattle.asking.specs.declared.ask_fault.RunFault.TheVariants as run
+use Rattle.asking.specs.declared.asker.Asker.{Asker}
+use Rattle.asking.specs.declared.state.State.{State}
+
+-- the promises for changes of the owner's own are learned, and those of the client's that are behind the last one that is
+-- remembered
+abbrev pub LearnsPromises : List SignedPromise → List SignedPromise → Memory → List Item → Memory → Type 0
+LearnsPromises own kept before news after = (fresh : List SignedPromise) × IsFresh before kept fresh
+    × ((first : List Item) × (middle : Memory) × (rest : List Item) × Each LearnsOne (map (promised_item true) own) before first middle
+    × Each LearnsOne (map (promised_item false) fresh) middle rest after × (news ≡ first ++ rest))
+
+-- before it is told: the evidence in what will be told, promises, and from where new monitors watch
+abbrev pub LearnsBefore : List SignedPromise → List SignedPromise → List ℕ → List Monitor → Memory → Memory → Type 0
+LearnsBefore own kept told begun before after = (shown : List Item) × (promised : List Item) × (marked : List Item) × (one : Memory) × (two : Memory)
+    × Each (LearnsLine EvidenceLines) (lines_of told) before shown one × LearnsPromises own kept one promised two × Each BeginsOne begun two marked after
+
+-- the monitors whose marks may move: all of them if the head is another one, or else those that are new
+abbrev pub MayMove : KeyedRoots → ℕ → ℕ → List Monitor → List Monitor → Type 0
+MayMove chain head known monitors some = (root : SignedRoot) × IsHead chain root
+    × (((root.body.epoch ≡ head) × (some ≡ drop known monitors)) ⊎ ((root.body.epoch ≢ head) × (some ≡ monitors)))
+
+-- once it is told: the alarms in it, and how far names were watched
+abbrev pub LearnsAfter : List ℕ → List Monitor → List Monitor → Memory → Memory → Type 0
+LearnsAfter told monitors some before after = (alarms : List Item) × (marked : List Item) × (middle : Memory)
+    × Each (LearnsLine Alarms) (lines_of told) before alarms middle × Each (MarksOne monitors) some middle marked after
+
+-- all was asked, or the directory stopped it: neither a fault of the program nor want of memory did
+abbrev pub IsSettled : {A : Type 0} → Result A RunFault → Type 0
+IsSettled (Ok done) = ⊤
+IsSettled (Err (run.Ask NoReply)) = ⊤
+IsSettled (Err (run.Ask Stopped)) = ⊤
+IsSettled (Err (run.Ask OutOfMemory)) = ⊥
+IsSettled (Err (run.Program fault)) = ⊥
+
+-- what a state remembers behind that is what it learns before this is told and once it is
+abbrev pub KeepsUp : {H V S : Type 0} → Asker H V S → List ℕ → Option State → Option State → Type 0
+KeepsUp asker told None after = after ≡ None
+KeepsUp asker told (Some before) after = (kept : State) × (after ≡ Some kept) × ((middle : Memory) × (some : List Monitor)
+    × LearnsBefore (drop before.changes asker.changes.items) asker.client.promises told (drop before.monitors asker.monitors.items) before.memory middle
+    × MayMove asker.client.chain before.head before.monitors asker.monitors.items some × LearnsAfter told asker.monitors.items some middle kept.memory)
