@@ -26,14 +26,17 @@ module _ {A K : Type 0} (key : A → K) where
   puts-at joined new xs place kept within at same =
       inl (take place xs, kept, drop (suc place) xs, split_at xs place kept within at, same, set_split xs place (joined kept new) within)
 
+  pub set-keys : (xs : List A) (place : ℕ) (kept new : A) → place < length xs → get_or xs place kept ≡ kept → key new ≡ key kept → map key (set xs place new) ≡ map key xs
+  set-keys xs place kept new within at same =
+      let read : get_or (map key xs) place (key kept) ≡ key kept = get_or-map key xs place kept (key kept) within ∙ ap key at in
+      map-set key xs place new ∙ set_same (map key xs) place (key kept) (key new) read same
+
   pub set-no_repeat : (xs : List A) (place : ℕ) (kept new : A) → place < length xs → get_or xs place kept ≡ kept → key new ≡ key kept
       → HasNoRepeat (map key xs) → HasNoRepeat (map key (set xs place new))
   set-no_repeat xs place kept new within at same once =
-      let read : get_or (map key xs) place (key kept) ≡ key kept = get_or-map key xs place kept (key kept) within ∙ ap key at in
-      let keys : map key (set xs place new) ≡ map key xs = map-set key xs place new ∙ set_same (map key xs) place (key kept) (key new) read same in
-      subst HasNoRepeat (sym keys) once
+      subst HasNoRepeat (sym (set-keys xs place kept new within at same)) once
 
-  all-push : (P : K → Type 0) (xs : List A) (new : A) → AllByRecursion P (map key xs) → P (key new) → AllByRecursion P (map key (xs ++ new ∷ []))
+  pub all-push : (P : K → Type 0) (xs : List A) (new : A) → AllByRecursion P (map key xs) → P (key new) → AllByRecursion P (map key (xs ++ new ∷ []))
   all-push P [] new all here = (here, tt)
   all-push P (x ∷ xs) new all here = (all.0, all-push P xs new all.1 here)
 

@@ -30,7 +30,7 @@ left_from_retain {X} {F} R Stays f tells xs ys (bools, last, len, turns, is) = b
         inr (told.0, by bs zs after (omega (arith, len)) rest is)
 
 module _ {A K : Type 0} (Stays : A → Type 0) (key : A → K) where
-  left-all : (P : K → Type 0) (xs ys : List A) → IsLeft Stays xs ys → AllByRecursion P (map key xs) → AllByRecursion P (map key ys)
+  pub left-all : (P : K → Type 0) (xs ys : List A) → IsLeft Stays xs ys → AllByRecursion P (map key xs) → AllByRecursion P (map key ys)
   left-all P [] ys left all = subst (λ (zs : List A). AllByRecursion P (map key zs)) (sym left) tt
   left-all P (x ∷ xs) ys (inl (stays, (rest, is, left))) all =
       subst (λ (zs : List A). AllByRecursion P (map key zs)) (sym is) (all.0, left-all P xs rest left all.1)

@@ -2,6 +2,7 @@ pub mod Plain
 pub mod Splits
 pub mod Left
 pub mod Joined
+pub mod Indexed
 pub mod OneWord
 pub mod OneItem
 pub mod SaidLines

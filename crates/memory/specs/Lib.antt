@@ -3,6 +3,7 @@ pub mod Lists
 pub mod Lines
 pub mod Words
 pub mod Memories
+pub mod PromiseIndex
 pub mod Views
 pub mod Taking
 pub mod Watching

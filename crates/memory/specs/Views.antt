@@ -4,7 +4,7 @@ use Rattle.memory.specs.Memories.{Memory}
 
 abbrev pub memory_seen : Inside → Memory
 memory_seen inside = record {
-  promises = inside.promises.items;
+  promises = inside.promises;
   marks = inside.marks.items;
   alarms = inside.alarms.items;
   evidence = inside.evidence.items;

@@ -16,6 +16,7 @@ mod leaving;
 mod mark;
 mod memory;
 mod promised;
+mod promises;
 mod putting;
 mod read_fault;
 mod reading;

@@ -1,4 +1,4 @@
-ghost use Rattle.std.specs.Prelude.{◌≡◌, ◌≢◌, ◌+◌, ◌++◌, ℕ, List, length, map, All, Contains, IfOk, MatchBool, MatchOption, OnErr, OnOk};
+ghost use Rattle.std.specs.Prelude.{◌≡◌, ◌≢◌, ◌↔◌, ◌+◌, ◌++◌, ℕ, List, length, map, All, Any, Contains, IfOk, IsTrue, MatchBool, MatchOption, OnErr, OnOk};
 ghost use Rattle.std.specs.Io.{StartsWith};
 ghost use Rattle.memory.specs.Leaving.{Leaves, Settles};
 ghost use Rattle.memory.specs.Memories.{nothing, HoldsEachOnce};
@@ -6,8 +6,9 @@ ghost use Rattle.memory.specs.Taking.{Takes};
 ghost use Rattle.memory.specs.Texts.{items_text, memory_text, TellsAgain};
 ghost use Rattle.memory.specs.declared.item.Item.TheVariants.{Evidence};
 
-use crate::leaving::{drop_alarms, leave_promises};
-use crate::putting::{place_of_mark, put_alarm, put_evidence, put_mark, put_promised};
+use crate::leaving::drop_alarms;
+use crate::promises::Promises;
+use crate::putting::{place_of_mark, put_alarm, put_evidence, put_mark};
 use crate::telling::{push_alarms, push_alarms_of, push_lines, push_marks, push_promises};
 use crate::{Alarm, EvidenceLine, Item, Mark, Promised};
 use encoding::Name;
@@ -19,7 +20,7 @@ use std::marker::Model;
 /// list in the order in which they came. No promise, no name of a mark, no alarm and no evidence is there twice.
 #[derive(Debug, Drop)]
 pub struct Memory {
-    promises: Vec<Promised>,
+    promises: Promises,
     marks: Vec<Mark>,
     alarms: Vec<Alarm>,
     evidence: Vec<EvidenceLine>,
@@ -43,7 +44,7 @@ impl Memory {
         ensures { result ≡ nothing }
     {
         Memory {
-            promises: Vec::new(alloc),
+            promises: Promises::new(alloc),
             marks: Vec::new(alloc),
             alarms: Vec::new(alloc),
             evidence: Vec::new(alloc),
@@ -55,7 +56,14 @@ impl Memory {
         ensures value { result.now ≡ self.now.promises }
         ensures once { HoldsEachOnce self.now }
     {
-        &self.promises
+        self.promises.items()
+    }
+
+    /// Whether the promise is kept.
+    pub fn has_promise(&self, signed: &SignedPromise) -> bool
+        ensures { IsTrue result ↔ Any (λ promised. promised.signed ≡ signed.now) self.now.promises }
+    {
+        self.promises.has(signed)
     }
 
     /// How far names were watched.
@@ -100,7 +108,7 @@ impl Memory {
         ensures err { OnErr result (self.new ≡ self.old) }
     {
         match item {
-            Item::Promised(promised) => put_promised(&mut self.promises, promised),
+            Item::Promised(promised) => self.promises.put(promised),
             Item::Watched(mark) => put_mark(&mut self.marks, mark),
             Item::Alarm(alarm) => put_alarm(&mut self.alarms, alarm),
             Item::Evidence(line) => put_evidence(&mut self.evidence, line),
@@ -119,7 +127,7 @@ impl Memory {
     pub fn leave(&mut self, tested: &[SignedPromise])
         ensures { Leaves tested.now self.old self.new }
     {
-        leave_promises(&mut self.promises, &self.marks, tested);
+        self.promises.leave(&self.marks, tested);
     }
 
     /// Appends the lines: promises, marks, alarms and evidence, each in order.
@@ -131,7 +139,7 @@ impl Memory {
         ensures ok { OnOk result (text.new.items ≡ text.old.items ++ memory_text self.now) }
         ensures grows { StartsWith text.new.items text.old.items }
     {
-        push_promises(text, &self.promises)?;
+        push_promises(text, self.promises.items())?;
         push_marks(text, &self.marks)?;
         push_alarms(text, &self.alarms)?;
         push_lines(text, &self.evidence)

@@ -1,51 +1,15 @@
 // Lists that take an element: it is joined to the one that has its key, or is put behind the others. Each function
 // returns whether the list is another one now.
 
-ghost use Rattle.std.specs.Prelude.{◌≡◌, ◌≢◌, ◌↔◌, ◌<◌, ◌||◌, length, map, slice_index_or, All, Contains, IfOk, IsTrue, MatchBool, MatchOption, OnErr};
-ghost use Rattle.rootchain.specs.declared.signed_promise.SignedPromise.{SignedPromise};
+ghost use Rattle.std.specs.Prelude.{◌≡◌, ◌≢◌, ◌↔◌, ◌<◌, length, map, slice_index_or, All, Contains, IfOk, IsTrue, MatchBool, MatchOption, OnErr};
 ghost use Rattle.memory.specs.Lists.{HasNoRepeat};
-ghost use Rattle.memory.specs.Memories.{name_of, signed_of};
-ghost use Rattle.memory.specs.Taking.{PutsAlarm, PutsEvidence, PutsMark, PutsPromised};
+ghost use Rattle.memory.specs.Memories.{name_of};
+ghost use Rattle.memory.specs.Taking.{PutsAlarm, PutsEvidence, PutsMark};
 ghost use Rattle.memory.specs.declared.mark.Mark.{Mark};
-ghost use Rattle.memory.specs.declared.promised.Promised.{Promised};
 
-use crate::{Alarm, EvidenceLine, Mark, Promised};
+use crate::{Alarm, EvidenceLine, Mark};
 use encoding::Name;
-use rootchain::SignedPromise;
 use std::alloc::AllocError;
-
-pub(crate) fn put_promised(promises: &mut Vec<Promised>, new: Promised) -> Result<bool, AllocError>
-    ensures puts { IfOk result (λ is_new. PutsPromised new promises.old.items promises.new.items
-        × MatchBool is_new (promises.new.items ≢ promises.old.items) (promises.new.items ≡ promises.old.items)) }
-    ensures err { OnErr result (promises.new.items ≡ promises.old.items) }
-    ensures once { HasNoRepeat (map signed_of promises.old.items) → HasNoRepeat (map signed_of promises.new.items) }
-{
-    match place_of_promise(promises, &new.signed) {
-        Some(place) => Ok(join(&mut promises[place], new.is_own)),
-        None => {
-            promises.push(new)?;
-            Ok(true)
-        }
-    }
-}
-
-/// Makes a promise the owner's own if this says so. Returns whether it is another one now.
-fn join(kept: &mut Promised, is_own: bool) -> bool
-    ensures joined { kept.new ≡ record { signed = kept.old.signed; is_own = kept.old.is_own || is_own } }
-    ensures told { MatchBool result (kept.old ≢ kept.new) (kept.old ≡ kept.new) }
-{
-    let is_new = is_own && !kept.is_own;
-    kept.is_own = kept.is_own || is_own;
-    is_new
-}
-
-/// Where the promise stands, if it does.
-fn place_of_promise(promises: &[Promised], signed: &SignedPromise) -> Option<usize>
-    ensures { MatchOption result (All (λ kept. kept.signed ≢ signed.now) promises.now)
-        (λ place. (place < length promises.now) × ((d : Promised) → (slice_index_or promises.now place d).signed ≡ signed.now)) }
-{
-    promises.iter().position(|kept| kept.signed == *signed)
-}
 
 pub(crate) fn put_mark(marks: &mut Vec<Mark>, new: Mark) -> Result<bool, AllocError>
     ensures puts { IfOk result (λ is_new. PutsMark new marks.old.items marks.new.items
