@@ -63,3 +63,14 @@ tells-append name xs ys one other m n (a, left, is, many) (b, also, be, few) =
     let texts : one ++ other ≡ items_text (map Alarm (a ++ b)) =
     ap (λ (t : List ℕ). t ++ other) is ∙ ap (λ (t : List ℕ). items_text (map Alarm a) ++ t) be ∙ sym (items_text-append (map Alarm a) (map Alarm b)) ∙ ap items_text (sym (map-append Alarm a b)) in
     (a ++ b, left-append (λ (alarm : AlarmMade). alarm.name ≡ name) xs ys a b left also, texts, omega (arith, many, few, length-append a b))
+
+-- one more, that stays or does not
+pub left-more : {A : Type 0} (Stays : A → Type 0) (xs : List A) (x : A) (after : List A) → Stays x → IsLeft Stays xs after → IsLeft Stays (xs ++ x ∷ []) (after ++ x ∷ [])
+left-more Stays [] x after stays same = inl (stays, ([], ap (λ (ys : List _). ys ++ x ∷ []) same, refl))
+left-more Stays (y ∷ xs) x after stays (inl (here, (rest, is, left))) = inl (here, (rest ++ x ∷ [], ap (λ (ys : List _). ys ++ x ∷ []) is, left-more Stays xs x rest stays left))
+left-more Stays (y ∷ xs) x after stays (inr (goes, left)) = inr (goes, left-more Stays xs x after stays left)
+
+pub left-skip : {A : Type 0} (Stays : A → Type 0) (xs : List A) (x : A) (after : List A) → ¬ Stays x → IsLeft Stays xs after → IsLeft Stays (xs ++ x ∷ []) after
+left-skip Stays [] x after goes same = inr (goes, same)
+left-skip Stays (y ∷ xs) x after goes (inl (here, (rest, is, left))) = inl (here, (rest, is, left-skip Stays xs x rest goes left))
+left-skip Stays (y ∷ xs) x after goes (inr (out, left)) = inr (out, left-skip Stays xs x after goes left)

@@ -86,4 +86,4 @@ abbrev pub BeginsOne : Monitor → Memory → List Item → Memory → Type 0
 BeginsOne monitor before news after =
     (All (λ (mark : Mark). mark.name ≢ monitor.name) before.marks
     × ((epoch : ℕ) × BeginsBehind monitor epoch × LearnsOne (Watched (record { name = monitor.name; since = epoch; epoch = epoch })) before news after))
-    ⊎ (Any (λ (mark : Mark). mark.name ≡ monitor.name) before.marks × (news ≡ []) × (after ≡ before))
+    ⊎ (((mark : Mark) × Contains before.marks mark × (mark.name ≡ monitor.name)) × (news ≡ []) × (after ≡ before))

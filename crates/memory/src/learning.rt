@@ -1,15 +1,17 @@
 // What a memory learns in a run. Each function appends the lines of what is new: behind lines that spell the memory as it
 // was, they spell it as it is.
 
-ghost use Rattle.std.specs.Prelude.{◌≡◌, ◌↔◌, ◌++◌, List, map, IfOk, IsTrue, OnErr, OnOk};
+ghost use Rattle.std.specs.Prelude.{◌≡◌, ◌≢◌, ◌↔◌, ◌++◌, ℕ, nat_lt, if◌then◌else◌, List, map, All, Contains, IfOk, IsTrue, MatchBool, OnErr, OnOk};
 ghost use Rattle.std.specs.Io.{StartsWith};
 ghost use Rattle.textio.specs.Lines.{lines_of};
 ghost use Rattle.memory.specs.Learning.{promised_item, AreGone, BeginsBehind, BeginsOne, Each, EachOfSome, IsFresh, IsOfKind, IsSince, LearnsLine, LearnsOne, MarksOne};
 ghost use Rattle.memory.specs.Texts.{items_text};
 ghost use Rattle.memory.specs.declared.item.Item.{Item as Remembered};
+ghost use Rattle.memory.specs.declared.mark.Mark.{Mark as Marked};
 
 use crate::recalling::first_line;
 use crate::{Item, Kind, Mark, Memory, Promised, read_item, watched_up_to};
+use encoding::Name;
 use monitor::Monitor;
 use nodehash::NodeHash;
 use rootchain::SignedPromise;
@@ -130,10 +132,13 @@ impl Memory {
         ensures err { OnErr result (self.new ≡ self.old) }
         ensures grows { StartsWith lines.new.items lines.old.items }
     {
-        match read_item(alloc, line)? {
-            Some(item) if is_of_kind(&item, kind) => self.learn(item, lines),
-            _ => Ok(()),
+        let Some(item) = read_item(alloc, line)? else {
+            return Ok(());
+        };
+        if !is_of_kind(&item, kind) {
+            return Ok(());
         }
+        self.learn(item, lines)
     }
 
     /// Marks where the watching begins of names that have no mark yet, and appends the lines.
@@ -174,7 +179,7 @@ impl Memory {
         ensures err { OnErr result (self.new ≡ self.old) }
         ensures grows { StartsWith lines.new.items lines.old.items }
     {
-        if self.mark_of(monitor.name()).is_some() {
+        if self.has_mark(monitor.name()) {
             return Ok(());
         }
         let epoch = begins_behind(monitor);
@@ -227,10 +232,32 @@ impl Memory {
         let Some(epoch) = watched_up_to(monitors, monitor.name()) else {
             return Ok(());
         };
-        let since = self.since(monitor);
-        let since = if epoch < since { epoch } else { since };
-        let name = monitor.name().copied();
-        self.learn(Item::Watched(Mark { name, since, epoch }), lines)
+        let mark = self.moved(monitor, epoch);
+        self.learn(Item::Watched(mark), lines)
+    }
+
+    /// The mark of the name of a monitor, moved to this epoch.
+    fn moved<H, V, S>(&self, monitor: &Monitor<H, V, S>, epoch: u64) -> Mark
+    where
+        H: NodeHash,
+        V: VufCheck,
+        S: Verifier,
+        ensures name { result.name ≡ monitor.now.name }
+        ensures epoch { result.epoch ≡ epoch }
+        ensures since { (since : ℕ) × IsSince self.now.marks monitor.now since × (result.since ≡ (if nat_lt epoch since then epoch else since)) }
+    {
+        Mark {
+            name: monitor.name().copied(),
+            since: lesser(epoch, self.since(monitor)),
+            epoch,
+        }
+    }
+
+    /// Whether a name has a mark.
+    fn has_mark(&self, name: &Name) -> bool
+        ensures { MatchBool result ((mark : Marked) × Contains self.now.marks mark × (mark.name ≡ name.now)) (All (λ mark. mark.name ≢ name.now) self.now.marks) }
+    {
+        self.mark_of(name).is_some()
     }
 
     /// Behind which epoch the name of a monitor was watched.
@@ -260,6 +287,13 @@ where
         Some(root) => root.body.previous_epoch,
         None => 0,
     }
+}
+
+/// The lesser of two numbers.
+fn lesser(one: u64, other: u64) -> u64
+    ensures { result ≡ (if nat_lt one other then one else other) }
+{
+    if one < other { one } else { other }
 }
 
 /// Whether an item is of this kind.

@@ -4,8 +4,8 @@ use Rattle.memory.specs.Learning.{Remembers}
 use Rattle.memory.proofs.memory.Memory.fresh.Given as goal
 
 -- none behind the place is remembered
-abbrev pub invariant-loop : goal.invariant-loop
-invariant-loop l = (l.start ≤ length l.kept.now) × All (λ (signed : SignedPromise). ¬ Remembers l.self.now signed) (drop l.start l.kept.now)
+abbrev pub invariant-loop-start : goal.invariant-loop-start
+invariant-loop-start l = (l.start ≤ length l.kept) × All (λ (signed : SignedPromise). ¬ Remembers l.self signed) (drop l.start l.kept)
 
-abbrev pub decreases-loop : goal.decreases-loop
-decreases-loop l = l.start
+abbrev pub decreases-loop-start : goal.decreases-loop-start
+decreases-loop-start l = l.start

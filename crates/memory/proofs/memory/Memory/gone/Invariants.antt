@@ -6,4 +6,4 @@ use Rattle.memory.proofs.memory.Memory.gone.Given as goal
 
 -- those so far that are no longer kept
 abbrev pub invariant-loop-promised : goal.invariant-loop-promised
-invariant-loop-promised l = IsLeft (λ (signed : SignedPromise). ¬ Contains l.kept signed) (map signed_of (take l.promised-index l.self.promises)) l.gone.items
+invariant-loop-promised l = IsLeft (λ (signed : SignedPromise). ¬ Contains l.kept signed) (map signed_of (take l.promised-index l.promised-items)) l.gone.items

@@ -1,0 +1,23 @@
+use Rattle.std.proofs.Common.{◌≡◌, ◌+◌, ◌∙◌, ◌++◌, ◌∷◌, [], List, ap, get_or, sym, take}
+use Rattle.std.proofs.Transfers.{starts_with_trans}
+use Rattle.std.proofs.lemmas.List.{take_more}
+use Rattle.monitor.specs.Monitors.{Monitor}
+use Rattle.memory.specs.Learning.{MarksOne}
+use Rattle.memory.proofs.Learned.{err_so, one_more, some_did}
+use Rattle.memory.proofs.memory.Memory.mark_watched.Goals as goal
+
+pub returns-in_err-mark_one-clause-err : goal.returns-in_err-mark_one-clause-err
+returns-in_err-mark_one-clause-err g c = err_so c.from_residual.result
+    (some_did (MarksOne c.args.monitors.now) c.args.some.now c.loop-monitor.monitor-index c.args.self.now c.loop-monitor.self c.mark_one.new.self c.args.lines.now.items c.loop-monitor.lines.items
+    c.loop-monitor.invariant.0 c.in_err-mark_one.ensures.err)
+
+pub loop-monitor-preserved : goal.loop-monitor-preserved
+loop-monitor-preserved g c =
+    let some = c.args.some.now in
+    let place = c.loop-monitor.monitor-index in
+    let monitor = c.monitor-item.result in
+    let front = take place some in
+    let next : take (place + 1) some ≡ front ++ get_or some place monitor ∷ [] = take_more some place monitor c.loop-monitor-test.true in
+    let whole : take (place + 1) some ≡ front ++ monitor ∷ [] = next ∙ ap (λ (m : Monitor). front ++ m ∷ []) (sym c.monitor-item.is) in
+    (rw whole (one_more (MarksOne c.args.monitors.now) front monitor c.args.self.now c.loop-monitor.self c.mark_one.new.self c.args.lines.now.items c.loop-monitor.lines.items c.mark_one.new.lines.items c.loop-monitor.invariant.0 c.in_ok-mark_one.ensures.ok),
+    starts_with_trans _ _ _ c.in_ok-mark_one.ensures.grows c.loop-monitor.invariant.1)
