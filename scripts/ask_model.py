@@ -483,12 +483,13 @@ class Asked(Followed):
         self.test_promises()
 
     def monitor(self, first, name, key):
-        """A monitor from this root of the chain on. It expects the changes of earlier runs, and before them this key."""
+        """A monitor from this root of the chain on. It expects the changes of earlier runs, and before them this key. Of those
+        from before the root the last takes the place of the key, if the mark awaits it."""
         client = Client(PROVIDER, first.write(), sha256, KeyedVuf(PROVIDER))
         while (root := self.client.chain.after(client.head().epoch)) is not None:
             client.update(write_list([root]))
         promised = self.found.changes_of(name)
-        before = [signed for signed in promised if signed.promise.epoch < first.epoch]
+        before = [signed for signed in promised if signed.promise.epoch < first.epoch and not self.found.is_watched(signed)]
         monitor = Monitor(client, name, max(before, key=lambda signed: signed.promise.epoch).promise.key if before else key)
         for signed in promised:
             with contextlib.suppress(Refusal):

@@ -250,6 +250,15 @@ def key_is_robbed(provider, _request, reply):
     return reply
 
 
+def key_is_changed_and_put_back(provider, request, _reply):
+    """Another device of the owner's changes the key, and somebody puts the old one back."""
+    close(provider)
+    for key in (b"k2", b"k1"):
+        provider.hub.directory.change(b"a", key)
+        close(provider)
+    return provider.hub.bytes(0, request)
+
+
 def root_1_is_in_front(provider, request, reply):
     return with_older(provider, request, reply, 0)
 
@@ -368,7 +377,8 @@ STORED_LIES = {
         [BEGUN, run_of_words("history 2 64")],
         Ending(["client refuses reply 25"], 1, [REPLY_25]),
     ),
-    # 2. The change stays expected until it was watched, though its promise was tested.
+    # 2. The change stays expected until it was watched, though its promise was tested. One that no mark awaits gives way
+    # to the key that is given.
     "a change whose first monitor was held up": (
         lies((2, "lookup", memory_runs_out_for(4))),
         [run_of_lines("register 61 6b31", "close 2", "change 61 6b32"), run_of_lines("close 3", "close 4", "watch 61 6b31"), WATCH],
@@ -392,6 +402,11 @@ STORED_LIES = {
         lies((1, "lookup", proof_is_altered_at(3))),
         [run_of_lines("register 61 6b31", "close 2", "watch 61 6b31", "change 61 6b32", "close 3"), WATCH],
         Ending(["kept 61 3"], 0, []),
+    ),
+    "a key that was promised before the name was watched": (
+        lies((2, None, key_is_changed_and_put_back)),
+        [run_of_words("register 61 6b31"), run_of_words("watch 61 6b32")],
+        Ending(["alarm 61 4 6b31"], 3, []),
     ),
     # 3. What answers is not older than the head, and a monitor's refusal is told.
     "an old promise for a change": (

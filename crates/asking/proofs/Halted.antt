@@ -129,7 +129,7 @@ module _ {H V S T : Type 0} (hash : List ℕ → List ℕ) (accepted verified : 
   module _ (key : List ℕ) (earlier : List SignedPromise) (name : List ℕ) (given : Option (List ℕ)) (asker : Asker H V S) (said : Said) (stream : T) (first : SignedRoot) where
     -- a monitor was added, and took some steps
     pub halts_stepping : {A : Type 0} (marks : List Mark) (result : Result A AskFault) (added last : Asker H V S) (said' : Said) (monitor : Monitor) (place : ℕ) → added.client ≡ asker.client
-        → added.monitors.items ≡ asker.monitors.items ++ monitor ∷ [] → place ≡ length asker.monitors.items → IsJoined hash accepted verified key earlier asker.client.chain first name given monitor
+        → added.monitors.items ≡ asker.monitors.items ++ monitor ∷ [] → place ≡ length asker.monitors.items → IsJoined hash accepted verified marks key earlier asker.client.chain first name given monitor
         → IfErr result (λ fault. HaltsAfter (StepsSome hash accepted exchanged (scene added said stream) place) fault last said')
         → IfErr result (λ fault. HaltsAfter (BeginsSomeAt hash accepted verified exchanged marks key earlier name given first (scene asker said stream)) fault last said')
     halts_stepping marks (Ok done) added last said' monitor place client monitors at begun halts = tt

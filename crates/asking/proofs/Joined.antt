@@ -49,7 +49,7 @@ module _ {H V S T : Type 0} (hash : List ℕ → List ℕ) (accepted verified : 
   module _ (key : List ℕ) (earlier : List SignedPromise) (name : List ℕ) (given : Option (List ℕ)) (asker : Asker H V S) (said : Said) (stream : T) (first : SignedRoot) where
     -- a monitor was added, and stepped
     pub joins : {A E : Type 0} (marks : List Mark) (result : Result A E) (added last : Asker H V S) (said' : Said) (stream' : T) (monitor : Monitor) (place : ℕ) → added.client ≡ asker.client
-        → added.monitors.items ≡ asker.monitors.items ++ monitor ∷ [] → place ≡ length asker.monitors.items → IsJoined hash accepted verified key earlier asker.client.chain first name given monitor
+        → added.monitors.items ≡ asker.monitors.items ++ monitor ∷ [] → place ≡ length asker.monitors.items → IsJoined hash accepted verified marks key earlier asker.client.chain first name given monitor
         → OnOk result ((count : ℕ) × StepsThrough hash accepted exchanged count (scene added said stream) place (scene last said' stream'))
         → OnOk result (BeginsAt hash accepted verified exchanged marks key earlier name given first (scene asker said stream) (scene last said' stream'))
     joins marks (Ok done) added last said' stream' monitor place client monitors at begun (count, steps) =

@@ -1,5 +1,5 @@
 -- How a monitor of a name is added, and begins to watch.
-use Rattle.std.specs.Prelude.{◌≡◌, ◌≢◌, ◌⊎◌, ℕ, zero, suc, ◌<◌, List, [], ◌∷◌, ◌++◌, length, Option, Some, None, Result, Ok, Err, codes}
+use Rattle.std.specs.Prelude.{◌≡◌, ◌≢◌, ◌⊎◌, ℕ, zero, suc, ◌<◌, List, [], ◌∷◌, ◌++◌, length, Any, Option, Some, None, Result, Ok, Err, codes}
 use Rattle.rootchain.specs.Chains.{IsHead, KeyedRoots}
 use Rattle.rootchain.specs.Places.{IsNextAfter}
 use Rattle.rootchain.specs.Promises.{signed_promise_bytes}
@@ -13,6 +13,7 @@ use Rattle.client.specs.Updating.{Updates}
 use Rattle.client.specs.declared.client_refusal.Refusal.{Refusal}
 use Rattle.client.specs.declared.client_refusal.Refusal.TheVariants.{Memory}
 use Rattle.memory.specs.Memories.{Memory as Remembered}
+use Rattle.memory.specs.Watching.{IsAwaited}
 use Rattle.monitor.specs.Monitors.{Monitor, new_monitor}
 use Rattle.monitor.specs.declared.monitor_refusal.Refusal.{Refusal as MonitorRefusal}
 use Rattle.wire.specs.Frames.{Frame}
@@ -37,16 +38,18 @@ IsUnwatched chain name [] first = (root : SignedRoot) × IsHead chain root × (f
 IsUnwatched chain name (mark ∷ more) first =
     ((mark.name ≡ name) × IsFirstAfter chain mark.epoch first) ⊎ ((mark.name ≢ name) × IsUnwatched chain name more first)
 
--- the promise is one for the name, from before an epoch, and later than the last one that was
-abbrev pub IsLaterPromise : List ℕ → ℕ → Option SignedPromise → SignedPromise → Type 0
-IsLaterPromise name epoch None signed = (signed.promise.name ≡ name) × (signed.promise.epoch < epoch)
-IsLaterPromise name epoch (Some last) signed = (signed.promise.name ≡ name) × (signed.promise.epoch < epoch) × (last.promise.epoch < signed.promise.epoch)
+-- the promise is one for the name, from before an epoch, which a mark awaits, and later than the last one that was
+abbrev pub IsLaterPromise : List Mark → List ℕ → ℕ → Option SignedPromise → SignedPromise → Type 0
+IsLaterPromise marks name epoch None signed = (signed.promise.name ≡ name) × (signed.promise.epoch < epoch) × Any (IsAwaited signed) marks
+IsLaterPromise marks name epoch (Some last) signed =
+    (signed.promise.name ≡ name) × (signed.promise.epoch < epoch) × Any (IsAwaited signed) marks × (last.promise.epoch < signed.promise.epoch)
 
 -- the last of these, or else the one before them
-abbrev pub IsLatest : List ℕ → ℕ → Option SignedPromise → List SignedPromise → Option SignedPromise → Type 0
-IsLatest name epoch last [] found = found ≡ last
-IsLatest name epoch last (signed ∷ more) found =
-    (IsLaterPromise name epoch last signed × IsLatest name epoch (Some signed) more found) ⊎ ((¬ IsLaterPromise name epoch last signed) × IsLatest name epoch last more found)
+abbrev pub IsLatest : List Mark → List ℕ → ℕ → Option SignedPromise → List SignedPromise → Option SignedPromise → Type 0
+IsLatest marks name epoch last [] found = found ≡ last
+IsLatest marks name epoch last (signed ∷ more) found =
+    (IsLaterPromise marks name epoch last signed × IsLatest marks name epoch (Some signed) more found)
+    ⊎ ((¬ IsLaterPromise marks name epoch last signed) × IsLatest marks name epoch last more found)
 
 -- what is expected at first: the key of that promise, or else the one that was given
 abbrev pub first_expected : Option SignedPromise → Option (List ℕ) → Option (List ℕ)
@@ -82,20 +85,20 @@ module _ (hash : List ℕ → List ℕ) (accepted verified : List ℕ → List �
   AllHand [] before after = after ≡ before
   AllHand (signed ∷ more) before after = (why : Option MonitorRefusal) × (middle : Monitor) × HandsTo hash accepted verified signed (signed_promise_bytes signed) before why middle × AllHand more middle after
 
-  -- A monitor that watches a name from a root of the chain on. It expects what earlier runs were promised:
-  -- the last before that root at first, and those there as changes.
-  pub record IsJoined (key : List ℕ) (earlier : List SignedPromise) (chain : KeyedRoots) (first : SignedRoot) (name : List ℕ) (given : Option (List ℕ)) (monitor : Monitor) : Type 0 where
+  -- A monitor that watches a name from a root of the chain on. It expects what earlier runs were promised: at first
+  -- the last before that root that a mark awaits, or else the given key, and those there as changes.
+  pub record IsJoined (marks : List Mark) (key : List ℕ) (earlier : List SignedPromise) (chain : KeyedRoots) (first : SignedRoot) (name : List ℕ) (given : Option (List ℕ)) (monitor : Monitor) : Type 0 where
     pub own : Client
     pub starts : StartsFrom hash verified chain key first (Ok own)
     pub last : Option SignedPromise
-    pub latest : IsLatest name first.body.epoch None earlier last
+    pub latest : IsLatest marks name first.body.epoch None earlier last
     pub hands : AllHand earlier (new_monitor own name (first_expected last given)) monitor
 
   module _ {T : Type 0} (exchanged : T → RequestContent → Frame → T → Type 0) (marks : List Mark) (key : List ℕ) (earlier : List SignedPromise) (name : List ℕ) (given : Option (List ℕ)) where
     -- such a monitor is added, behind the others, and watches each epoch of its chain; or a root is told as refused
     abbrev pub BeginsAt : SignedRoot → Scene T → Scene T → Type 0
     BeginsAt first before after =
-        ((monitor : Monitor) × IsJoined key earlier before.client.chain first name given monitor
+        ((monitor : Monitor) × IsJoined marks key earlier before.client.chain first name given monitor
         × ((count : ℕ) × StepsThrough hash accepted exchanged count (record before { monitors = before.monitors ++ monitor ∷ [] }) (length before.monitors) after))
         ⊎ ((why : Refusal) × (why ≢ Memory) × StartsFrom hash verified before.client.chain key first (Err why)
         × (after ≡ record before { told = told_after before.told (client_refuses (codes "client refuses root") why) }))
@@ -111,7 +114,7 @@ module _ (hash : List ℕ → List ℕ) (accepted verified : List ℕ → List �
     -- nothing is told of such a monitor yet; or it is added, and watches some epochs
     abbrev pub BeginsSomeAt : SignedRoot → Scene T → Scene T → Type 0
     BeginsSomeAt first before after = (after ≡ before)
-        ⊎ ((monitor : Monitor) × IsJoined key earlier before.client.chain first name given monitor
+        ⊎ ((monitor : Monitor) × IsJoined marks key earlier before.client.chain first name given monitor
         × StepsSome hash accepted exchanged (record before { monitors = before.monitors ++ monitor ∷ [] }) (length before.monitors) after)
 
     -- a name is watched from such a root on, up to some point; or it is watched, and then some promises are tested

@@ -1,6 +1,7 @@
 // A monitor of a name joins the others, and begins to watch.
-ghost use Rattle.std.specs.Prelude.{◌≡◌, ◌≢◌, ◌↔◌, ℕ, IfErr, IfOk, IsTrue, None, OnErr, OnOk, Err, Ok, option_map};
+ghost use Rattle.std.specs.Prelude.{◌≡◌, ◌≢◌, ◌↔◌, ℕ, IfErr, IfOk, Any, IsTrue, None, OnErr, OnOk, Err, Ok, option_map};
 ghost use Rattle.client.specs.declared.client_refusal.Refusal.TheVariants.{Memory};
+ghost use Rattle.memory.specs.Watching.{IsAwaited};
 ghost use Rattle.asking.specs.Askers.{asker_earlier, asker_key, asker_known, asker_marks};
 ghost use Rattle.asking.specs.Exchanges.{ExchangesFrames};
 ghost use Rattle.asking.specs.Joining.{first_expected, AllHand, BeginsAt, BeginsSome, BeginsSomeAt, BeginsWatch, IsJoined, IsLaterPromise, IsLatest, IsUnwatched, RefusesOne, Retraces, RetracesOne, StartsFrom, WatchesNew, WatchesSome};
@@ -15,7 +16,7 @@ use crate::watching::hand_one;
 use crate::{AskFault, Asker, Checks, Said};
 use client::{Client, Refusal};
 use encoding::{Hash32, KeyData, Name};
-use memory::{Alarm, Mark};
+use memory::{Alarm, Mark, is_awaited};
 use monitor::Monitor;
 use nodehash::NodeHash;
 use play::{push_hex, push_number};
@@ -118,19 +119,19 @@ where
     }
 
     /// A monitor whose chain is that of the client from this root on. What earlier runs were promised for the
-    /// name before that root is expected at first, and what they were promised there changes it.
+    /// name before that root is expected at first, if a mark awaits it, and what they were promised there changes it.
     fn monitor_from(
         &mut self,
         first: &SignedRoot,
         name: &Name,
         key: Option<&KeyData>,
     ) -> Result<Monitor<H, V, S>, Refusal>
-        ensures begun { IfOk result (λ monitor. IsJoined H.digest_of V.accepted S.verified (self.old).key (self.old).earlier.items (self.old).client.chain first.now name.now (option_map (λ key. key.now) key.entry) monitor) }
+        ensures begun { IfOk result (λ monitor. IsJoined H.digest_of V.accepted S.verified (self.old).marks.items (self.old).key (self.old).earlier.items (self.old).client.chain first.now name.now (option_map (λ key. key.now) key.entry) monitor) }
         ensures refused { IfErr result (λ why. why ≢ Memory → StartsFrom H.digest_of S.verified (self.old).client.chain (self.old).key first.now (Err why)) }
         ensures same { ((self.new).client ≡ (self.old).client) × ((self.new).monitors ≡ (self.old).monitors) × StaysWhole self.old self.new }
     {
         let own = client_from(self.alloc, &mut self.checks, &self.client, self.key, first)?;
-        let last = last_before(&self.earlier, name, first.body.epoch);
+        let last = last_before(&self.marks, &self.earlier, name, first.body.epoch);
         let start = expected_at_first(last, key);
         let mut monitor = Monitor::new(self.alloc, own, name.copied(), start);
         if hand_all(&mut self.checks, &mut monitor, &self.earlier).is_err() {
@@ -275,34 +276,49 @@ where
     }
 }
 
-/// The last promise for a name from before this epoch.
+/// The last promise for a name from before this epoch that a mark awaits.
 fn last_before<'a>(
+    marks: &[Mark],
     promises: &'a [SignedPromise],
     name: &Name,
     epoch: u64,
 ) -> Option<&'a SignedPromise>
-    ensures { IsLatest name.now epoch None promises.entry.now (option_map (λ signed. signed.now) result) }
+    ensures { IsLatest marks.now name.now epoch None promises.entry.now (option_map (λ signed. signed.now) result) }
 {
     let mut last: Option<&SignedPromise> = None;
     for signed in promises {
-        if is_later(last, signed, name, epoch) {
+        if is_later(marks, last, signed, name, epoch) {
             last = Some(signed);
         }
     }
     last
 }
 
-/// Whether a promise is one for a name from before this epoch, and later than the last one that was.
-fn is_later(last: Option<&SignedPromise>, signed: &SignedPromise, name: &Name, epoch: u64) -> bool
-    ensures { IsTrue result ↔ IsLaterPromise name.now epoch (option_map (λ signed. signed.now) last.entry) signed.now }
+/// Whether a promise is one for a name from before this epoch that a mark awaits, and later than the last one that
+/// was.
+fn is_later(
+    marks: &[Mark],
+    last: Option<&SignedPromise>,
+    signed: &SignedPromise,
+    name: &Name,
+    epoch: u64,
+) -> bool
+    ensures { IsTrue result ↔ IsLaterPromise marks.now name.now epoch (option_map (λ signed. signed.now) last.entry) signed.now }
 {
-    if signed.promise.name != *name || epoch <= signed.promise.epoch {
+    if signed.promise.name != *name || epoch <= signed.promise.epoch || !awaits(marks, signed) {
         return false;
     }
     match last {
         Some(other) => other.promise.epoch < signed.promise.epoch,
         None => true,
     }
+}
+
+/// Whether a mark awaits the promise.
+fn awaits(marks: &[Mark], signed: &SignedPromise) -> bool
+    ensures { IsTrue result ↔ Any (IsAwaited signed.now) marks.now }
+{
+    marks.iter().any(|mark| is_awaited(signed, mark))
 }
 
 /// What a monitor expects at first: the key of the last promise, or else the one that is given.

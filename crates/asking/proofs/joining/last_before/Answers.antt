@@ -8,4 +8,4 @@ pub returns : goal.returns
 returns c =
     let last = option_map (λ signed. signed.now) c.loop-signed.last in
     c.loop-signed.invariant last
-    (at_end (λ (all : List SignedPromise). IsLatest c.args.name.now c.args.epoch last all last) c.args.promises.now c.loop-signed.signed-index c.loop-signed-test.false refl)
+    (at_end (λ (all : List SignedPromise). IsLatest c.args.marks.now c.args.name.now c.args.epoch last all last) c.args.promises.now c.loop-signed.signed-index c.loop-signed-test.false refl)

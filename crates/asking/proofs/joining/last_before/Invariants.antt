@@ -5,4 +5,4 @@ use Rattle.asking.proofs.joining.last_before.Given as goal
 
 -- the last of those from this one on is the last of all
 abbrev pub invariant-loop-signed : goal.invariant-loop-signed
-invariant-loop-signed l = (found : Option SignedPromise) → IsLatest l.name l.epoch (option_map (λ signed. signed.now) l.last) (drop l.signed-index l.promises) found → IsLatest l.name l.epoch None l.promises found
+invariant-loop-signed l = (found : Option SignedPromise) → IsLatest l.marks l.name l.epoch (option_map (λ signed. signed.now) l.last) (drop l.signed-index l.promises) found → IsLatest l.marks l.name l.epoch None l.promises found
