@@ -483,18 +483,24 @@ class Asked(Followed):
         self.test_promises()
 
     def monitor(self, first, name, key):
-        """A monitor from this root of the chain on. It expects the changes of earlier runs, and before them this key. Of those
-        from before the root the last takes the place of the key, if the mark awaits it."""
+        """A monitor from this root of the chain on. It expects the own changes that count for it, and before them this key.
+        Of those from before the root the last takes the place of the key, if the mark awaits it."""
         client = Client(PROVIDER, first.write(), sha256, KeyedVuf(PROVIDER))
         while (root := self.client.chain.after(client.head().epoch)) is not None:
             client.update(write_list([root]))
-        promised = self.found.changes_of(name)
+        promised = self.promised(name)
         before = [signed for signed in promised if signed.promise.epoch < first.epoch and not self.found.is_watched(signed)]
         monitor = Monitor(client, name, max(before, key=lambda signed: signed.promise.epoch).promise.key if before else key)
         for signed in promised:
             with contextlib.suppress(Refusal):
                 monitor.expect_change(signed.promise.key, signed.write())
         return monitor
+
+    def promised(self, name):
+        """The own changes that count for a monitor of a name: those of earlier runs, and of this one if the name was watched
+        before."""
+        own = [signed for signed in self.changes if signed.promise.name == name and name in self.found.marks]
+        return [*self.found.changes_of(name), *own]
 
     def steps(self, monitor):
         """Watches the epochs that are new, up to the first whose reply is refused."""

@@ -408,6 +408,21 @@ STORED_LIES = {
         [run_of_words("register 61 6b31"), run_of_words("watch 61 6b32")],
         Ending(["alarm 61 4 6b31"], 3, []),
     ),
+    "a change of this run": (
+        lies(),
+        [BEGUN, run_of_lines("change 61 6b32", "watch 61 6b31", "close 3", "watch 61 6b31")],
+        Ending(["promise 2", "root 3 after 2", "kept 61 3"], 0, []),
+    ),
+    "a change of this run from behind the first root": (
+        lies(),
+        [BEGUN, run_of_lines("close 3", "change 61 6b32", "close 4", "watch 61 6b31", "watch 61 6b31")],
+        Ending(["root 3 after 2", "promise 3", "root 4 after 3", *["kept 61 3", "kept 61 4"] * 2], 0, []),
+    ),
+    "a change of this run of a name that was not watched before": (
+        lies(),
+        [run_of_lines("register 61 6b31", "close 2"), run_of_lines("change 61 6b32", "close 3", "watch 61 6b31")],
+        Ending(["promise 2", "root 3 after 2", "alarm 61 3 6b32"], 3, []),
+    ),
     # 3. What answers is not older than the head, and a monitor's refusal is told.
     "an old promise for a change": (
         lies((2, "change", promise_is_of_epoch_3)),

@@ -31,7 +31,7 @@ use Rattle.asking.specs.Asking.{AsksDirectory, AsksSome, FindsSome, StopsAsking}
 use Rattle.asking.specs.Ending.{AsksNext, AsksOverSocket, AsksPart, AsksSomeLine, BeginsNone, DoesSome, end_status, EndsEarly, FailsAs, FailsOverSocket, HoldsBack, PreparesSome, RunEndsAt, RunsAs, stopped_status, TakesSomeNew}
 use Rattle.asking.specs.Exchanges.{ExchangesFrames}
 use Rattle.asking.specs.Following.{StopsAfter, TakesSome}
-use Rattle.asking.specs.Joining.{BeginsSome, BeginsWatch}
+use Rattle.asking.specs.Joining.{own_for, BeginsSome, BeginsWatch}
 use Rattle.asking.specs.Reports.{Report, report_of}
 use Rattle.asking.specs.Runs.{AsksLines, BeginsAsking, StartsRun, emptied, Background, lines_asked, Prepares, RunsWhole, TakesNew, Writes}
 use Rattle.asking.specs.Scenes.{HaltsAfter, Scene, StopsAtHead}
@@ -164,14 +164,14 @@ module _ (hash : List ℕ → List ℕ) (accepted verified : List ℕ → List �
     asked_reaches asked noted noted' (Err fault.OutOfMemory) before after asker said same asks stops halts = let (reached, some, halted) = halts no-memory in (reached, inr (inr (inr (noted, noted', some))), halted.0)
 
     -- a name is watched, or some of its epochs
-    pub watched_reaches : {H V S A : Type 0} (name : List ℕ) (given given' : Option (List ℕ)) (result : Result A AskFault) (before after : Scene T) (asker : Asker H V S) (said : Said) → given ≡ given' → report_of said ≡ after.told
-        → OnOk result (BeginsWatch hash accepted verified exchanged background.known background.marks background.key background.earlier name given before after)
-        → IfErr result (λ why. HaltsAfter (BeginsSome hash accepted verified exchanged background.known background.marks background.key background.earlier name given before) why asker said)
+    pub watched_reaches : {H V S A : Type 0} (name : List ℕ) (given given' : Option (List ℕ)) (noted : List SignedPromise) (result : Result A AskFault) (before after : Scene T) (asker : Asker H V S) (said : Said) → given ≡ given' → report_of said ≡ after.told
+        → OnOk result (BeginsWatch hash accepted verified exchanged background.known background.marks background.key (own_for background.marks name background.earlier noted) name given before after)
+        → IfErr result (λ why. HaltsAfter (BeginsSome hash accepted verified exchanged background.known background.marks background.key (own_for background.marks name background.earlier noted) name given before) why asker said)
         → (reached : Scene T) × DoesSome hash accepted verified exchanged background (Watch name given') before reached × (report_of said ≡ reached.told)
-    watched_reaches name given given' (Ok done) before after asker said is same begins halts =
-        (after, inr (inl (subst (λ (g : Option (List ℕ)). BeginsWatch hash accepted verified exchanged background.known background.marks background.key background.earlier name g before after) is begins)), same)
-    watched_reaches name given given' (Err why) before after asker said is same begins (reached, some, halted) =
-        (reached, inr (inr (subst (λ (g : Option (List ℕ)). BeginsSome hash accepted verified exchanged background.known background.marks background.key background.earlier name g before reached) is some)), halted.0)
+    watched_reaches name given given' noted (Ok done) before after asker said is same begins halts =
+        (after, inr (inl (noted, subst (λ (g : Option (List ℕ)). BeginsWatch hash accepted verified exchanged background.known background.marks background.key (own_for background.marks name background.earlier noted) name g before after) is begins)), same)
+    watched_reaches name given given' noted (Err why) before after asker said is same begins (reached, some, halted) =
+        (reached, inr (inr (noted, subst (λ (g : Option (List ℕ)). BeginsSome hash accepted verified exchanged background.known background.marks background.key (own_for background.marks name background.earlier noted) name g before reached) is some)), halted.0)
 
     -- it is what a line says
     pub line_reaches : (line : List ℕ) (said : ScriptLine) (told : Report) (before : Scene T) → line_of line ≡ Some said

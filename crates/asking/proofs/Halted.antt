@@ -126,12 +126,12 @@ module _ {H V S T : Type 0} (hash : List ℕ → List ℕ) (accepted verified : 
             halts,
           )
 
-  module _ (key : List ℕ) (earlier : List SignedPromise) (name : List ℕ) (given : Option (List ℕ)) (asker : Asker H V S) (said : Said) (stream : T) (first : SignedRoot) where
+  module _ (key : List ℕ) (promised : List SignedPromise) (name : List ℕ) (given : Option (List ℕ)) (asker : Asker H V S) (said : Said) (stream : T) (first : SignedRoot) where
     -- a monitor was added, and took some steps
     pub halts_stepping : {A : Type 0} (marks : List Mark) (result : Result A AskFault) (added last : Asker H V S) (said' : Said) (monitor : Monitor) (place : ℕ) → added.client ≡ asker.client
-        → added.monitors.items ≡ asker.monitors.items ++ monitor ∷ [] → place ≡ length asker.monitors.items → IsJoined hash accepted verified marks key earlier asker.client.chain first name given monitor
+        → added.monitors.items ≡ asker.monitors.items ++ monitor ∷ [] → place ≡ length asker.monitors.items → IsJoined hash accepted verified marks key promised asker.client.chain first name given monitor
         → IfErr result (λ fault. HaltsAfter (StepsSome hash accepted exchanged (scene added said stream) place) fault last said')
-        → IfErr result (λ fault. HaltsAfter (BeginsSomeAt hash accepted verified exchanged marks key earlier name given first (scene asker said stream)) fault last said')
+        → IfErr result (λ fault. HaltsAfter (BeginsSomeAt hash accepted verified exchanged marks key promised name given first (scene asker said stream)) fault last said')
     halts_stepping marks (Ok done) added last said' monitor place client monitors at begun halts = tt
     halts_stepping marks (Err fault) added last said' monitor place client monitors at begun (reached, steps, halts) =
         let same = scene_of added.client asker.client added.monitors.items (asker.monitors.items ++ monitor ∷ []) (report_of said) (report_of said) stream client monitors refl in
@@ -141,9 +141,9 @@ module _ {H V S T : Type 0} (hash : List ℕ → List ℕ) (accepted verified : 
     -- the watch began, and some promises were tested
     pub halts_begun : {A : Type 0} (result : Result A AskFault) (marks marks' : Vec Mark Global) (middle : Scene T) (last : Asker H V S) (said' : Said)
         → IsUnwatched asker.client.chain name marks.items (Some first) → marks' ≡ marks
-        → BeginsAt hash accepted verified exchanged marks.items key earlier name given first (scene asker said stream) middle
+        → BeginsAt hash accepted verified exchanged marks.items key promised name given first (scene asker said stream) middle
         → IfErr result (λ fault. HaltsAfter (TestsSome hash accepted exchanged marks'.items middle) fault last said')
-        → IfErr result (λ fault. HaltsAfter (WatchesSome hash accepted verified exchanged marks.items key earlier name given (scene asker said stream)) fault last said')
+        → IfErr result (λ fault. HaltsAfter (WatchesSome hash accepted verified exchanged marks.items key promised name given (scene asker said stream)) fault last said')
     halts_begun (Ok done) marks marks' middle last said' unwatched same begun halts = tt
     halts_begun (Err fault) marks marks' middle last said' unwatched same begun (reached, tests, halts) =
         (reached, (first, unwatched, inr (middle, begun, subst (λ (all : Vec Mark Global). TestsSome hash accepted exchanged all.items middle reached) same tests)), halts)

@@ -1,7 +1,11 @@
 -- A monitor that joins the others.
-use Rattle.std.proofs.Common.{◌≡◌, ◌≢◌, ◌∙◌, ℕ, ◌+◌, ◌<◌, ◌≤◌, List, [], ◌∷◌, ◌++◌, Option, None, Some, ◌↔◌, Result, Ok, Err, Global, Vec, ap, codes, drop, get_or, inl, inr, length, refl, rules, subst, sym}
+use Rattle.std.proofs.Common.{◌≡◌, ◌≢◌, ◌∙◌, ℕ, ◌+◌, ◌<◌, ◌≤◌, Bool, true, false, if◌then◌else◌, List, [], ◌∷◌, ◌++◌, Option, None, Some, ◌↔◌, Result, Ok, Err, Global, Vec, ap, codes, drop, get_or, inl, inr, length, refl, rules, subst, sym}
 use Rattle.std.specs.Prelude.{OnOk}
+use Rattle.std.specs.List.{list_any}
+use Rattle.std.specs.Str.{bytes_eq}
 use Rattle.std.proofs.lemmas.List.{drop_all, drop_more}
+use Rattle.std.proofs.lemmas.List.Folds.{Any-from_list_any, list_any_at}
+use Rattle.std.proofs.lemmas.Slice.Eq.{bytes_eq-Decides}
 use Rattle.rootchain.specs.Chains.{KeyedRoots}
 use Rattle.rootchain.specs.Places.{IsNextAfter}
 use Rattle.rootchain.specs.declared.signed_promise.SignedPromise.{SignedPromise}
@@ -15,11 +19,11 @@ use Rattle.wire.specs.Requests.{RequestContent}
 use Rattle.asking.specs.declared.asker.Asker.{Asker}
 use Rattle.memory.specs.declared.mark.Mark.{Mark}
 use Rattle.asking.specs.declared.said.Said.{Said}
-use Rattle.asking.specs.Joining.{BeginsAt, WatchesNew, IsFirstAfter, IsJoined, IsUnwatched, StartsFrom}
+use Rattle.asking.specs.Joining.{noted_for, AllHand, BeginsAt, WatchesNew, IsFirstAfter, IsJoined, IsLatest, IsUnwatched, StartsFrom}
 use Rattle.asking.specs.Refused.{client_refuses}
 use Rattle.asking.specs.Scenes.{Scene, scene}
 use Rattle.asking.specs.Reports.{Report, Tells, report_of, told_after}
-use Rattle.asking.specs.Visiting.{TestsAll}
+use Rattle.asking.specs.Visiting.{IsMarked, TestsAll}
 use Rattle.asking.specs.Watching.{StepsThrough}
 use Rattle.asking.proofs.Going.{told_onto}
 
@@ -38,6 +42,35 @@ none-some root found none some = search (rules, sym none ∙ some)
 pub no_next : (chain : KeyedRoots) (epoch : ℕ) (found : Option SignedRoot) → ((root : SignedRoot) → (found ≡ Some root) ↔ IsNextAfter chain epoch root) → found ≡ None → IsFirstAfter chain epoch None
 no_next chain epoch found next none root after = none-some root found none ((next root).1 after)
 
+-- which promises of this run count for a name
+module _ (marks : List Mark) (name : List ℕ) (noted : List SignedPromise) where
+  pub noted_marked : IsMarked marks name → noted ≡ noted_for marks name noted
+  noted_marked (mark, (k, below, at), same) =
+      let found = list_any_at (λ (m : Mark). bytes_eq m.name name) marks k mark below (ap (λ (m : Mark). bytes_eq m.name name) at ∙ (bytes_eq-Decides mark.name name).1 same) in
+      ap (λ (b : Bool). if b then noted else []) (sym found)
+
+  pub noted_unmarked : ¬ IsMarked marks name → [] ≡ noted_for marks name noted
+  noted_unmarked unmarked = by (list_any (λ (m : Mark). bytes_eq m.name name) marks) refl
+    where
+      by : (b : Bool) → list_any (λ (m : Mark). bytes_eq m.name name) marks ≡ b → ◌≡◌ {A = List SignedPromise} [] (if b then noted else [])
+      by true is = let (k, mark, below, at, same) = Any-from_list_any (λ (m : Mark). bytes_eq m.name name) marks is in absurd (unmarked (mark, (k, below, at), (bytes_eq-Decides mark.name name).0 same))
+      by false is = refl
+
+-- the last of two lists of promises, one behind the other
+module _ (marks : List Mark) (name : List ℕ) (epoch : ℕ) where
+  pub latest_behind : (last middle found : Option SignedPromise) (promises more : List SignedPromise) → IsLatest marks name epoch last promises middle → IsLatest marks name epoch middle more found
+      → IsLatest marks name epoch last (promises ++ more) found
+  latest_behind last middle found [] more same behind = subst (λ (o : Option SignedPromise). IsLatest marks name epoch o more found) same behind
+  latest_behind last middle found (signed ∷ promises) more (inl (later, latest)) behind = inl (later, latest_behind (Some signed) middle found promises more latest behind)
+  latest_behind last middle found (signed ∷ promises) more (inr (not, latest)) behind = inr (not, latest_behind last middle found promises more latest behind)
+
+-- what comes of two lists of promises that a monitor is given, one behind the other
+module _ (hash : List ℕ → List ℕ) (accepted verified : List ℕ → List ℕ → List ℕ → Type 0) where
+  pub hands_behind : (promises more : List SignedPromise) (before middle after : Monitor) → AllHand hash accepted verified promises before middle → AllHand hash accepted verified more middle after
+      → AllHand hash accepted verified (promises ++ more) before after
+  hands_behind [] more before middle after same behind = subst (λ (m : Monitor). AllHand hash accepted verified more m after) same behind
+  hands_behind (signed ∷ promises) more before middle after (why, next, hands, rest) behind = (why, next, hands, hands_behind promises more next middle after rest behind)
+
 pub scene_of : {T : Type 0} (client client' : Client) (monitors monitors' : List Monitor) (told told' : Report) (stream : T) → client ≡ client' → monitors ≡ monitors' → told ≡ told'
     → ◌≡◌ {A = Scene T} (record { client = client; monitors = monitors; told = told; stream = stream }) (record { client = client'; monitors = monitors'; told = told'; stream = stream })
 scene_of {T} client client' monitors monitors' told told' stream one other third =
@@ -46,12 +79,12 @@ scene_of {T} client client' monitors monitors' told told' stream one other third
     ∙ ap (λ (x : Report). let s : Scene T = record { client = client'; monitors = monitors'; told = x; stream = stream } in s) third
 
 module _ {H V S T : Type 0} (hash : List ℕ → List ℕ) (accepted verified : List ℕ → List ℕ → List ℕ → Type 0) (exchanged : T → RequestContent → Frame → T → Type 0) where
-  module _ (key : List ℕ) (earlier : List SignedPromise) (name : List ℕ) (given : Option (List ℕ)) (asker : Asker H V S) (said : Said) (stream : T) (first : SignedRoot) where
+  module _ (key : List ℕ) (promised : List SignedPromise) (name : List ℕ) (given : Option (List ℕ)) (asker : Asker H V S) (said : Said) (stream : T) (first : SignedRoot) where
     -- a monitor was added, and stepped
     pub joins : {A E : Type 0} (marks : List Mark) (result : Result A E) (added last : Asker H V S) (said' : Said) (stream' : T) (monitor : Monitor) (place : ℕ) → added.client ≡ asker.client
-        → added.monitors.items ≡ asker.monitors.items ++ monitor ∷ [] → place ≡ length asker.monitors.items → IsJoined hash accepted verified marks key earlier asker.client.chain first name given monitor
+        → added.monitors.items ≡ asker.monitors.items ++ monitor ∷ [] → place ≡ length asker.monitors.items → IsJoined hash accepted verified marks key promised asker.client.chain first name given monitor
         → OnOk result ((count : ℕ) × StepsThrough hash accepted exchanged count (scene added said stream) place (scene last said' stream'))
-        → OnOk result (BeginsAt hash accepted verified exchanged marks key earlier name given first (scene asker said stream) (scene last said' stream'))
+        → OnOk result (BeginsAt hash accepted verified exchanged marks key promised name given first (scene asker said stream) (scene last said' stream'))
     joins marks (Ok done) added last said' stream' monitor place client monitors at begun (count, steps) =
         let same = scene_of added.client asker.client added.monitors.items (asker.monitors.items ++ monitor ∷ []) (report_of said) (report_of said) stream client monitors refl in
         let here = subst (λ (n : ℕ). StepsThrough hash accepted exchanged count (scene added said stream) n (scene last said' stream')) at steps in
@@ -61,7 +94,7 @@ module _ {H V S T : Type 0} (hash : List ℕ → List ℕ) (accepted verified : 
     -- a root was refused
     pub joins_not : (marks : List Mark) (last : Asker H V S) (said' : Said) (why : Refusal) → last.client ≡ asker.client → last.monitors.items ≡ asker.monitors.items
         → why ≢ Memory → StartsFrom hash verified asker.client.chain key first (Err why) → Tells said (client_refuses (codes "client refuses root") why) said'
-        → BeginsAt hash accepted verified exchanged marks key earlier name given first (scene asker said stream) (scene last said' stream)
+        → BeginsAt hash accepted verified exchanged marks key promised name given first (scene asker said stream) (scene last said' stream)
     joins_not marks last said' why client monitors known starts tells = inr (
       why,
       known,
@@ -72,8 +105,8 @@ module _ {H V S T : Type 0} (hash : List ℕ → List ℕ) (accepted verified : 
 
     -- the watch began, and the promises were tested
     pub begins : {A E : Type 0} (result : Result A E) (marks marks' : Vec Mark Global) (middle after : Scene T) → IsUnwatched asker.client.chain name marks.items (Some first) → marks' ≡ marks
-        → BeginsAt hash accepted verified exchanged marks.items key earlier name given first (scene asker said stream) middle → OnOk result (TestsAll hash accepted exchanged marks'.items middle after)
-        → OnOk result (WatchesNew hash accepted verified exchanged marks.items key earlier name given (scene asker said stream) after)
+        → BeginsAt hash accepted verified exchanged marks.items key promised name given first (scene asker said stream) middle → OnOk result (TestsAll hash accepted exchanged marks'.items middle after)
+        → OnOk result (WatchesNew hash accepted verified exchanged marks.items key promised name given (scene asker said stream) after)
     begins (Ok done) marks marks' middle after unwatched same begun tests =
         inr (first, unwatched, (middle, begun, subst (λ (all : Vec Mark Global). TestsAll hash accepted exchanged all.items middle after) same tests))
     begins (Err fault) marks marks' middle after unwatched same begun tests = tt

@@ -45,7 +45,7 @@ status_some status zero some = absurd (some refl)
 status_some status (suc n) some = grind (arith, nat_tests)
 
 module _ {H V S T : Type 0} (hash : List ℕ → List ℕ) (accepted verified : List ℕ → List ℕ → List ℕ → Type 0) (exchanged : T → RequestContent → Frame → T → Type 0) where
-  module _ (known : Memory) (marks : List Mark) (key : List ℕ) (earlier : List SignedPromise) (name : List ℕ) (given : Option (List ℕ)) where
+  module _ (known : Memory) (marks : List Mark) (key : List ℕ) (promised : List SignedPromise) (name : List ℕ) (given : Option (List ℕ)) where
     -- the scene in which they are told again
     recalled-is : (asker : Asker H V S) (said middle : Said) (stream : T) (again : Report) → Tells said again middle
         → ◌≡◌ {A = Scene T} (scene asker middle stream) (record (scene asker said stream) { told = told_after (report_of said) again })
@@ -53,21 +53,21 @@ module _ {H V S T : Type 0} (hash : List ℕ → List ℕ) (accepted verified : 
         scene_of asker.client asker.client asker.monitors.items asker.monitors.items (report_of middle) (told_after (report_of said) again) stream refl refl (told_onto said middle again tells)
 
     pub begins_recalled : {A E : Type 0} (result : Result A E) (asker last : Asker H V S) (said middle said' : Said) (stream stream' : T) → (again : Report) × TellsAlarms name known again × Tells said again middle
-        → OnOk result (WatchesNew hash accepted verified exchanged marks key earlier name given (scene asker middle stream) (scene last said' stream'))
-        → OnOk result (BeginsWatch hash accepted verified exchanged known marks key earlier name given (scene asker said stream) (scene last said' stream'))
+        → OnOk result (WatchesNew hash accepted verified exchanged marks key promised name given (scene asker middle stream) (scene last said' stream'))
+        → OnOk result (BeginsWatch hash accepted verified exchanged known marks key promised name given (scene asker said stream) (scene last said' stream'))
     begins_recalled (Ok done) asker last said middle said' stream stream' (again, alarms, tells) watches =
-        (again, alarms, subst (λ (s : Scene T). WatchesNew hash accepted verified exchanged marks key earlier name given s (scene last said' stream')) (recalled-is asker said middle stream again tells) watches)
+        (again, alarms, subst (λ (s : Scene T). WatchesNew hash accepted verified exchanged marks key promised name given s (scene last said' stream')) (recalled-is asker said middle stream again tells) watches)
     begins_recalled (Err why) asker last said middle said' stream stream' tells watches = tt
 
     pub halts_recalled : {A : Type 0} (result : Result A AskFault) (asker last : Asker H V S) (said middle said' : Said) (stream : T) → (again : Report) × TellsAlarms name known again × Tells said again middle
-        → IfErr result (λ fault. HaltsAfter (WatchesSome hash accepted verified exchanged marks key earlier name given (scene asker middle stream)) fault last said')
-        → IfErr result (λ fault. HaltsAfter (BeginsSome hash accepted verified exchanged known marks key earlier name given (scene asker said stream)) fault last said')
+        → IfErr result (λ fault. HaltsAfter (WatchesSome hash accepted verified exchanged marks key promised name given (scene asker middle stream)) fault last said')
+        → IfErr result (λ fault. HaltsAfter (BeginsSome hash accepted verified exchanged known marks key promised name given (scene asker said stream)) fault last said')
     halts_recalled (Ok done) asker last said middle said' stream told halts = tt
     halts_recalled (Err fault) asker last said middle said' stream (again, alarms, tells) (reached, watches, halts) =
-        let here = subst (λ (s : Scene T). WatchesSome hash accepted verified exchanged marks key earlier name given s reached) (recalled-is asker said middle stream again tells) watches in
+        let here = subst (λ (s : Scene T). WatchesSome hash accepted verified exchanged marks key promised name given s reached) (recalled-is asker said middle stream again tells) watches in
         (reached, inr (again, alarms, inr here), halts)
 
     pub halts_unrecalled : (asker : Asker H V S) (said said' : Said) (stream : T) → report_of said' ≡ report_of said
-        → HaltsAfter (BeginsSome hash accepted verified exchanged known marks key earlier name given (scene asker said stream)) OutOfMemory asker said'
+        → HaltsAfter (BeginsSome hash accepted verified exchanged known marks key promised name given (scene asker said stream)) OutOfMemory asker said'
     halts_unrecalled asker said said' stream same =
-        halts_untold asker asker said said' stream (BeginsSome hash accepted verified exchanged known marks key earlier name given (scene asker said stream)) (inl refl) same
+        halts_untold asker asker said said' stream (BeginsSome hash accepted verified exchanged known marks key promised name given (scene asker said stream)) (inl refl) same

@@ -147,27 +147,27 @@ module _ (hash : List ℕ → List ℕ) (accepted verified : List ℕ → List �
 
   -- ---- a monitor that joins
 
-  module _ (marks : List Mark) (key : List ℕ) (earlier : List SignedPromise) (name : List ℕ) (given : Option (List ℕ)) where
-    begins-at-rises : (first : SignedRoot) (before after : Scene T) → BeginsAt hash accepted verified exchanged marks key earlier name given first before after → Rises before after
+  module _ (marks : List Mark) (key : List ℕ) (promised : List SignedPromise) (name : List ℕ) (given : Option (List ℕ)) where
+    begins-at-rises : (first : SignedRoot) (before after : Scene T) → BeginsAt hash accepted verified exchanged marks key promised name given first before after → Rises before after
     begins-at-rises first before after (inl (monitor, joined, (count, steps))) = through-rises count (record before { monitors = before.monitors ++ monitor ∷ [] }) (length before.monitors) after steps
     begins-at-rises first before after (inr (why, not, starts, same)) = subst (λ (s : Scene T). before.told.status ≤ s.told.status) (sym same) (worse-above before.told.status 1)
 
-    watches-rises : (before after : Scene T) → WatchesNew hash accepted verified exchanged marks key earlier name given before after → Rises before after
+    watches-rises : (before after : Scene T) → WatchesNew hash accepted verified exchanged marks key promised name given before after → Rises before after
     watches-rises before after (inl (none, same)) = same-scene before after same
     watches-rises before after (inr (first, is, (middle, begins, tests))) = then-rises before middle after (begins-at-rises first before middle begins) (all-tests-rise marks middle after tests)
 
-    watches-some-rise : (before after : Scene T) → WatchesSome hash accepted verified exchanged marks key earlier name given before after → Rises before after
+    watches-some-rise : (before after : Scene T) → WatchesSome hash accepted verified exchanged marks key promised name given before after → Rises before after
     watches-some-rise before after (first, is, inl (inl same)) = same-scene before after same
     watches-some-rise before after (first, is, inl (inr (monitor, joined, steps))) = some-steps-rise (record before { monitors = before.monitors ++ monitor ∷ [] }) (length before.monitors) after steps
     watches-some-rise before after (first, is, inr (middle, begins, tests)) = then-rises before middle after (begins-at-rises first before middle begins) (some-tests-rise marks middle after tests)
 
     module _ (known : Memory) where
-      pub begins_rises : (before after : Scene T) → BeginsWatch hash accepted verified exchanged known marks key earlier name given before after → Rises before after
+      pub begins_rises : (before after : Scene T) → BeginsWatch hash accepted verified exchanged known marks key promised name given before after → Rises before after
       begins_rises before after (again, tells, watches) =
           let recalled : Scene T = record before { told = told_after before.told again } in
           then-rises before recalled after (more-told before recalled again refl) (watches-rises recalled after watches)
 
-      pub begins_some_rises : (before after : Scene T) → BeginsSome hash accepted verified exchanged known marks key earlier name given before after → Rises before after
+      pub begins_some_rises : (before after : Scene T) → BeginsSome hash accepted verified exchanged known marks key promised name given before after → Rises before after
       begins_some_rises before after (inl same) = same-scene before after same
       begins_some_rises before after (inr (again, tells, inl same)) = more-told before after again (subst (λ (s : Scene T). s.told ≡ told_after before.told again) (sym same) refl)
       begins_some_rises before after (inr (again, tells, inr watches)) =
@@ -258,12 +258,12 @@ module _ (hash : List ℕ → List ℕ) (accepted verified : List ℕ → List �
   test_rises marks (Err fault) before after asker said same tests err halts =
       subst (λ (r : Report). before.told.status ≤ r.status) same (halted (TestsSome hash accepted exchanged marks before) before fault asker said (some-tests-rise marks before) halts)
 
-  pub watch_rises : {H V S A : Type 0} (known : Memory) (marks : List Mark) (key : List ℕ) (earlier : List SignedPromise) (name : List ℕ) (given : Option (List ℕ)) (result : Result A AskFault) (before after : Scene T) (asker : Asker H V S) (said : Said)
-      → report_of said ≡ after.told → OnOk result (BeginsWatch hash accepted verified exchanged known marks key earlier name given before after)
-      → IfErr result (λ fault. HaltsAfter (BeginsSome hash accepted verified exchanged known marks key earlier name given before) fault asker said) → Rises before after
-  watch_rises known marks key earlier name given (Ok done) before after asker said same begins halts = begins_rises marks key earlier name given known before after begins
-  watch_rises known marks key earlier name given (Err fault) before after asker said same begins halts = subst (λ (r : Report). before.told.status ≤ r.status) same
-      (halted (BeginsSome hash accepted verified exchanged known marks key earlier name given before) before fault asker said (begins_some_rises marks key earlier name given known before) halts)
+  pub watch_rises : {H V S A : Type 0} (known : Memory) (marks : List Mark) (key : List ℕ) (promised : List SignedPromise) (name : List ℕ) (given : Option (List ℕ)) (result : Result A AskFault) (before after : Scene T) (asker : Asker H V S) (said : Said)
+      → report_of said ≡ after.told → OnOk result (BeginsWatch hash accepted verified exchanged known marks key promised name given before after)
+      → IfErr result (λ fault. HaltsAfter (BeginsSome hash accepted verified exchanged known marks key promised name given before) fault asker said) → Rises before after
+  watch_rises known marks key promised name given (Ok done) before after asker said same begins halts = begins_rises marks key promised name given known before after begins
+  watch_rises known marks key promised name given (Err fault) before after asker said same begins halts = subst (λ (r : Report). before.told.status ≤ r.status) same
+      (halted (BeginsSome hash accepted verified exchanged known marks key promised name given before) before fault asker said (begins_some_rises marks key promised name given known before) halts)
 
   pub ask_rises : {H V S A : Type 0} (marks : List Mark) (token : List ℕ) (asked : RequestContent) (noted noted' : List SignedPromise) (result : Result A AskFault) (before after : Scene T) (asker : Asker H V S) (said : Said)
       → report_of said ≡ after.told → OnOk result (AsksDirectory hash accepted verified exchanged marks token asked noted noted' before after)

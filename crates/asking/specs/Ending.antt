@@ -15,7 +15,7 @@ use Rattle.asking.specs.AskOptions.{AskOptions, ask_keys_of}
 use Rattle.asking.specs.Asking.{AsksSome, FindsSome, StopsAsking}
 use Rattle.asking.specs.Exchanges.{ExchangesFrames}
 use Rattle.asking.specs.Following.{StopsAfter, TakesSome}
-use Rattle.asking.specs.Joining.{BeginsSome}
+use Rattle.asking.specs.Joining.{own_for, BeginsSome}
 use Rattle.asking.specs.Reports.{Report}
 use Rattle.asking.specs.Runs.{AsksLines, StartsRun, DoesLine, emptied, Background, lines_asked, Prepares, RunsWhole, TakesNew, Writes}
 use Rattle.asking.specs.Scenes.{Scene, StopsAtHead}
@@ -62,7 +62,8 @@ module _ (hash : List ℕ → List ℕ) (accepted verified : List ℕ → List �
     DoesPart Pass before reached = ⊥
     DoesPart (Ask asked) before reached = StopsAsking hash accepted verified exchanged background.token asked before reached
         ⊎ ((noted : List SignedPromise) × (noted' : List SignedPromise) × AsksSome hash accepted verified exchanged background.marks background.token asked noted noted' before reached)
-    DoesPart (Watch name given) before reached = BeginsSome hash accepted verified exchanged background.known background.marks background.key background.earlier name given before reached
+    DoesPart (Watch name given) before reached = (noted : List SignedPromise)
+        × BeginsSome hash accepted verified exchanged background.known background.marks background.key (own_for background.marks name background.earlier noted) name given before reached
     DoesPart (Piece session piece) before reached = ⊥
     DoesPart (End session) before reached = ⊥
 

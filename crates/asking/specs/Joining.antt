@@ -1,5 +1,7 @@
 -- How a monitor of a name is added, and begins to watch.
-use Rattle.std.specs.Prelude.{◌≡◌, ◌≢◌, ◌⊎◌, ℕ, zero, suc, ◌<◌, List, [], ◌∷◌, ◌++◌, length, Any, Option, Some, None, Result, Ok, Err, codes}
+use Rattle.std.specs.Prelude.{◌≡◌, ◌≢◌, ◌⊎◌, ℕ, zero, suc, ◌<◌, List, [], ◌∷◌, ◌++◌, length, Any, if◌then◌else◌, Option, Some, None, Result, Ok, Err, codes}
+use Rattle.std.specs.List.{list_any}
+use Rattle.std.specs.Str.{bytes_eq}
 use Rattle.rootchain.specs.Chains.{IsHead, KeyedRoots}
 use Rattle.rootchain.specs.Places.{IsNextAfter}
 use Rattle.rootchain.specs.Promises.{signed_promise_bytes}
@@ -51,6 +53,14 @@ IsLatest marks name epoch last (signed ∷ more) found =
     (IsLaterPromise marks name epoch last signed × IsLatest marks name epoch (Some signed) more found)
     ⊎ ((¬ IsLaterPromise marks name epoch last signed) × IsLatest marks name epoch last more found)
 
+-- The promises for its own changes that a monitor of a name is given: those of earlier runs and, if the name has a
+-- mark, those that were noted in this run behind them.
+abbrev pub noted_for : List Mark → List ℕ → List SignedPromise → List SignedPromise
+noted_for marks name noted = if list_any (λ (mark : Mark). bytes_eq mark.name name) marks then noted else []
+
+abbrev pub own_for : List Mark → List ℕ → List SignedPromise → List SignedPromise → List SignedPromise
+own_for marks name earlier noted = earlier ++ noted_for marks name noted
+
 -- what is expected at first: the key of that promise, or else the one that was given
 abbrev pub first_expected : Option SignedPromise → Option (List ℕ) → Option (List ℕ)
 first_expected (Some signed) given = Some signed.promise.key
@@ -85,20 +95,20 @@ module _ (hash : List ℕ → List ℕ) (accepted verified : List ℕ → List �
   AllHand [] before after = after ≡ before
   AllHand (signed ∷ more) before after = (why : Option MonitorRefusal) × (middle : Monitor) × HandsTo hash accepted verified signed (signed_promise_bytes signed) before why middle × AllHand more middle after
 
-  -- A monitor that watches a name from a root of the chain on. It expects what earlier runs were promised: at first
-  -- the last before that root that a mark awaits, or else the given key, and those there as changes.
-  pub record IsJoined (marks : List Mark) (key : List ℕ) (earlier : List SignedPromise) (chain : KeyedRoots) (first : SignedRoot) (name : List ℕ) (given : Option (List ℕ)) (monitor : Monitor) : Type 0 where
+  -- A monitor that watches a name from a root of the chain on. It expects what was promised: at first the last before
+  -- that root that a mark awaits, or else the given key, and those there as changes.
+  pub record IsJoined (marks : List Mark) (key : List ℕ) (promised : List SignedPromise) (chain : KeyedRoots) (first : SignedRoot) (name : List ℕ) (given : Option (List ℕ)) (monitor : Monitor) : Type 0 where
     pub own : Client
     pub starts : StartsFrom hash verified chain key first (Ok own)
     pub last : Option SignedPromise
-    pub latest : IsLatest marks name first.body.epoch None earlier last
-    pub hands : AllHand earlier (new_monitor own name (first_expected last given)) monitor
+    pub latest : IsLatest marks name first.body.epoch None promised last
+    pub hands : AllHand promised (new_monitor own name (first_expected last given)) monitor
 
-  module _ {T : Type 0} (exchanged : T → RequestContent → Frame → T → Type 0) (marks : List Mark) (key : List ℕ) (earlier : List SignedPromise) (name : List ℕ) (given : Option (List ℕ)) where
+  module _ {T : Type 0} (exchanged : T → RequestContent → Frame → T → Type 0) (marks : List Mark) (key : List ℕ) (promised : List SignedPromise) (name : List ℕ) (given : Option (List ℕ)) where
     -- such a monitor is added, behind the others, and watches each epoch of its chain; or a root is told as refused
     abbrev pub BeginsAt : SignedRoot → Scene T → Scene T → Type 0
     BeginsAt first before after =
-        ((monitor : Monitor) × IsJoined marks key earlier before.client.chain first name given monitor
+        ((monitor : Monitor) × IsJoined marks key promised before.client.chain first name given monitor
         × ((count : ℕ) × StepsThrough hash accepted exchanged count (record before { monitors = before.monitors ++ monitor ∷ [] }) (length before.monitors) after))
         ⊎ ((why : Refusal) × (why ≢ Memory) × StartsFrom hash verified before.client.chain key first (Err why)
         × (after ≡ record before { told = told_after before.told (client_refuses (codes "client refuses root") why) }))
@@ -114,7 +124,7 @@ module _ (hash : List ℕ → List ℕ) (accepted verified : List ℕ → List �
     -- nothing is told of such a monitor yet; or it is added, and watches some epochs
     abbrev pub BeginsSomeAt : SignedRoot → Scene T → Scene T → Type 0
     BeginsSomeAt first before after = (after ≡ before)
-        ⊎ ((monitor : Monitor) × IsJoined marks key earlier before.client.chain first name given monitor
+        ⊎ ((monitor : Monitor) × IsJoined marks key promised before.client.chain first name given monitor
         × StepsSome hash accepted exchanged (record before { monitors = before.monitors ++ monitor ∷ [] }) (length before.monitors) after)
 
     -- a name is watched from such a root on, up to some point; or it is watched, and then some promises are tested
@@ -122,14 +132,14 @@ module _ (hash : List ℕ → List ℕ) (accepted verified : List ℕ → List �
     WatchesSome before after = (first : SignedRoot) × IsUnwatched before.client.chain name marks (Some first)
         × (BeginsSomeAt first before after ⊎ ((middle : Scene T) × BeginsAt first before middle × TestsSome hash accepted exchanged marks middle after))
 
-  module _ {T : Type 0} (exchanged : T → RequestContent → Frame → T → Type 0) (known : Remembered) (marks : List Mark) (key : List ℕ) (earlier : List SignedPromise) (name : List ℕ) (given : Option (List ℕ)) where
+  module _ {T : Type 0} (exchanged : T → RequestContent → Frame → T → Type 0) (known : Remembered) (marks : List Mark) (key : List ℕ) (promised : List SignedPromise) (name : List ℕ) (given : Option (List ℕ)) where
     -- the alarms that earlier runs told of a name are told again, and then it is watched
     abbrev pub BeginsWatch : Scene T → Scene T → Type 0
     BeginsWatch before after = (again : Report) × TellsAlarms name known again
-        × WatchesNew exchanged marks key earlier name given (record before { told = told_after before.told again }) after
+        × WatchesNew exchanged marks key promised name given (record before { told = told_after before.told again }) after
 
     -- they are not told yet; or they are, and the name is watched up to some point
     abbrev pub BeginsSome : Scene T → Scene T → Type 0
     BeginsSome before after = (after ≡ before)
         ⊎ ((again : Report) × TellsAlarms name known again
-        × (let recalled : Scene T = record before { told = told_after before.told again } in (after ≡ recalled) ⊎ WatchesSome exchanged marks key earlier name given recalled after))
+        × (let recalled : Scene T = record before { told = told_after before.told again } in (after ≡ recalled) ⊎ WatchesSome exchanged marks key promised name given recalled after))

@@ -13,7 +13,7 @@ use Rattle.play.specs.Scripts.{ScriptLine, Pass, Ask, Watch, Piece, End, line_of
 use Rattle.asking.specs.AskOptions.{AskOptions}
 use Rattle.asking.specs.Asking.{AsksDirectory, FindsHead}
 use Rattle.asking.specs.Following.{Follows}
-use Rattle.asking.specs.Joining.{BeginsWatch}
+use Rattle.asking.specs.Joining.{own_for, BeginsWatch}
 use Rattle.asking.specs.Recalled.{evidence_again}
 use Rattle.asking.specs.Reports.{Report}
 use Rattle.asking.specs.Scenes.{Scene, StartsAtHead}
@@ -103,7 +103,8 @@ module _ (hash : List ℕ → List ℕ) (accepted verified : List ℕ → List �
     abbrev pub DoesLine : ScriptLine → Scene T → Scene T → Type 0
     DoesLine Pass before after = after ≡ before
     DoesLine (Ask asked) before after = (noted : List SignedPromise) × (noted' : List SignedPromise) × AsksDirectory hash accepted verified exchanged background.marks background.token asked noted noted' before after
-    DoesLine (Watch name given) before after = BeginsWatch hash accepted verified exchanged background.known background.marks background.key background.earlier name given before after
+    DoesLine (Watch name given) before after = (noted : List SignedPromise)
+        × BeginsWatch hash accepted verified exchanged background.known background.marks background.key (own_for background.marks name background.earlier noted) name given before after
     DoesLine (Piece session piece) before after = ⊥
     DoesLine (End session) before after = ⊥
 

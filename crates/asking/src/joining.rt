@@ -2,15 +2,16 @@
 ghost use Rattle.std.specs.Prelude.{◌≡◌, ◌≢◌, ◌↔◌, ℕ, IfErr, IfOk, Any, IsTrue, None, OnErr, OnOk, Err, Ok, option_map};
 ghost use Rattle.client.specs.declared.client_refusal.Refusal.TheVariants.{Memory};
 ghost use Rattle.memory.specs.Watching.{IsAwaited};
-ghost use Rattle.asking.specs.Askers.{asker_earlier, asker_key, asker_known, asker_marks};
+ghost use Rattle.asking.specs.Askers.{asker_changes, asker_earlier, asker_key, asker_known, asker_marks};
 ghost use Rattle.asking.specs.Exchanges.{ExchangesFrames};
-ghost use Rattle.asking.specs.Joining.{first_expected, AllHand, BeginsAt, BeginsSome, BeginsSomeAt, BeginsWatch, IsJoined, IsLaterPromise, IsLatest, IsUnwatched, RefusesOne, Retraces, RetracesOne, StartsFrom, WatchesNew, WatchesSome};
+ghost use Rattle.asking.specs.Joining.{first_expected, noted_for, own_for, AllHand, BeginsAt, BeginsSome, BeginsSomeAt, BeginsWatch, IsJoined, IsLaterPromise, IsLatest, IsUnwatched, RefusesOne, Retraces, RetracesOne, StartsFrom, WatchesNew, WatchesSome};
 ghost use Rattle.asking.specs.Recalled.{TellsAlarms};
 ghost use Rattle.asking.specs.Reports.{report_of, Report, Tells};
 ghost use Rattle.asking.specs.Scenes.{scene, HaltsAfter, StaysWhole};
 ghost use Rattle.asking.specs.declared.ask_fault.AskFault.TheVariants.{Stopped};
 
 use crate::checking::tell_client;
+use crate::promises::is_marked;
 use crate::said::ALARM;
 use crate::watching::hand_one;
 use crate::{AskFault, Asker, Checks, Said};
@@ -46,11 +47,11 @@ where
         key: Option<&KeyData>,
         said: &mut Said,
     ) -> Result<(), AskFault>
-        ensures begins { OnOk result (BeginsWatch H.digest_of V.accepted S.verified (ExchangesFrames T.contents T.remaining) (asker_known self.old) (asker_marks self.old) (asker_key self.old) (asker_earlier self.old) name.now (option_map (λ key. key.now) key.entry)
+        ensures begins { OnOk result (BeginsWatch H.digest_of V.accepted S.verified (ExchangesFrames T.contents T.remaining) (asker_known self.old) (asker_marks self.old) (asker_key self.old) (own_for (asker_marks self.old) name.now (asker_earlier self.old) (asker_changes self.old)) name.now (option_map (λ key. key.now) key.entry)
             (scene self.old said.old stream.old) (scene self.new said.new stream.new)) }
         ensures stays { StaysWhole self.old self.new }
         ensures err { IfErr result (λ fault. fault ≢ Stopped) }
-        ensures halts { IfErr result (λ fault. HaltsAfter (BeginsSome H.digest_of V.accepted S.verified (ExchangesFrames T.contents T.remaining) (asker_known self.old) (asker_marks self.old) (asker_key self.old) (asker_earlier self.old) name.now (option_map (λ key. key.now) key.entry)
+        ensures halts { IfErr result (λ fault. HaltsAfter (BeginsSome H.digest_of V.accepted S.verified (ExchangesFrames T.contents T.remaining) (asker_known self.old) (asker_marks self.old) (asker_key self.old) (own_for (asker_marks self.old) name.now (asker_earlier self.old) (asker_changes self.old)) name.now (option_map (λ key. key.now) key.entry)
             (scene self.old said.old stream.old)) fault self.new said.new) }
     {
         self.tell_alarms(name, said)?;
@@ -75,11 +76,11 @@ where
         key: Option<&KeyData>,
         said: &mut Said,
     ) -> Result<(), AskFault>
-        ensures begins { OnOk result (WatchesNew H.digest_of V.accepted S.verified (ExchangesFrames T.contents T.remaining) (asker_marks self.old) (asker_key self.old) (asker_earlier self.old) name.now (option_map (λ key. key.now) key.entry)
+        ensures begins { OnOk result (WatchesNew H.digest_of V.accepted S.verified (ExchangesFrames T.contents T.remaining) (asker_marks self.old) (asker_key self.old) (own_for (asker_marks self.old) name.now (asker_earlier self.old) (asker_changes self.old)) name.now (option_map (λ key. key.now) key.entry)
             (scene self.old said.old stream.old) (scene self.new said.new stream.new)) }
         ensures stays { StaysWhole self.old self.new }
         ensures err { IfErr result (λ fault. fault ≢ Stopped) }
-        ensures halts { IfErr result (λ fault. HaltsAfter (WatchesSome H.digest_of V.accepted S.verified (ExchangesFrames T.contents T.remaining) (asker_marks self.old) (asker_key self.old) (asker_earlier self.old) name.now (option_map (λ key. key.now) key.entry)
+        ensures halts { IfErr result (λ fault. HaltsAfter (WatchesSome H.digest_of V.accepted S.verified (ExchangesFrames T.contents T.remaining) (asker_marks self.old) (asker_key self.old) (own_for (asker_marks self.old) name.now (asker_earlier self.old) (asker_changes self.old)) name.now (option_map (λ key. key.now) key.entry)
             (scene self.old said.old stream.old)) fault self.new said.new) }
     {
         let Some(first) = first_unwatched(&self.client, &self.marks, name) else {
@@ -98,11 +99,11 @@ where
         key: Option<&KeyData>,
         said: &mut Said,
     ) -> Result<(), AskFault>
-        ensures begins { OnOk result (BeginsAt H.digest_of V.accepted S.verified (ExchangesFrames T.contents T.remaining) (self.old).marks.items (self.old).key (self.old).earlier.items name.now (option_map (λ key. key.now) key.entry)
+        ensures begins { OnOk result (BeginsAt H.digest_of V.accepted S.verified (ExchangesFrames T.contents T.remaining) (self.old).marks.items (self.old).key (own_for (self.old).marks.items name.now (self.old).earlier.items (self.old).changes.items) name.now (option_map (λ key. key.now) key.entry)
             first.now (scene self.old said.old stream.old) (scene self.new said.new stream.new)) }
         ensures stays { StaysWhole self.old self.new }
         ensures err { IfErr result (λ fault. fault ≢ Stopped) }
-        ensures halts { IfErr result (λ fault. HaltsAfter (BeginsSomeAt H.digest_of V.accepted S.verified (ExchangesFrames T.contents T.remaining) (self.old).marks.items (self.old).key (self.old).earlier.items name.now (option_map (λ key. key.now) key.entry)
+        ensures halts { IfErr result (λ fault. HaltsAfter (BeginsSomeAt H.digest_of V.accepted S.verified (ExchangesFrames T.contents T.remaining) (self.old).marks.items (self.old).key (own_for (self.old).marks.items name.now (self.old).earlier.items (self.old).changes.items) name.now (option_map (λ key. key.now) key.entry)
             first.now (scene self.old said.old stream.old)) fault self.new said.new) }
     {
         let place = self.monitors.len();
@@ -118,23 +119,34 @@ where
         }
     }
 
-    /// A monitor whose chain is that of the client from this root on. What earlier runs were promised for the
-    /// name before that root is expected at first, if a mark awaits it, and what they were promised there changes it.
+    /// A monitor whose chain is that of the client from this root on. What was promised for the name before that
+    /// root is expected at first, if a mark awaits it, and what was promised there changes it. That is of earlier runs
+    /// and, if the name has a mark, of this one.
     fn monitor_from(
         &mut self,
         first: &SignedRoot,
         name: &Name,
         key: Option<&KeyData>,
     ) -> Result<Monitor<H, V, S>, Refusal>
-        ensures begun { IfOk result (λ monitor. IsJoined H.digest_of V.accepted S.verified (self.old).marks.items (self.old).key (self.old).earlier.items (self.old).client.chain first.now name.now (option_map (λ key. key.now) key.entry) monitor) }
+        ensures begun { IfOk result (λ monitor. IsJoined H.digest_of V.accepted S.verified (self.old).marks.items (self.old).key (own_for (self.old).marks.items name.now (self.old).earlier.items (self.old).changes.items) (self.old).client.chain first.now name.now (option_map (λ key. key.now) key.entry) monitor) }
         ensures refused { IfErr result (λ why. why ≢ Memory → StartsFrom H.digest_of S.verified (self.old).client.chain (self.old).key first.now (Err why)) }
         ensures same { ((self.new).client ≡ (self.old).client) × ((self.new).monitors ≡ (self.old).monitors) × StaysWhole self.old self.new }
     {
         let own = client_from(self.alloc, &mut self.checks, &self.client, self.key, first)?;
-        let last = last_before(&self.marks, &self.earlier, name, first.body.epoch);
+        let (marks, earlier, changes) = (&self.marks, &self.earlier, &self.changes);
+        let last = last_before(marks, earlier, changes, name, first.body.epoch);
         let start = expected_at_first(last, key);
         let mut monitor = Monitor::new(self.alloc, own, name.copied(), start);
-        if hand_all(&mut self.checks, &mut monitor, &self.earlier).is_err() {
+        if hand_own(
+            &mut self.checks,
+            &mut monitor,
+            marks,
+            earlier,
+            changes,
+            name,
+        )
+        .is_err()
+        {
             return Err(Refusal::Memory);
         }
         Ok(monitor)
@@ -276,16 +288,46 @@ where
     }
 }
 
-/// The last promise for a name from before this epoch that a mark awaits.
+/// The changes of this run that a monitor of a name is given: all of them if the name has a mark. Without one a run
+/// tells what `play` tells, whose monitors do not know what was promised before they began.
+fn changes_for<'a>(marks: &[Mark], changes: &'a [SignedPromise], name: &Name) -> &'a [SignedPromise]
+    ensures { result.now ≡ noted_for marks.now name.now changes.entry.now }
+{
+    if is_marked(marks, name) {
+        changes
+    } else {
+        &changes[..0]
+    }
+}
+
+/// The last promise for a name from before this epoch that a mark awaits: of earlier runs, or of the changes of this
+/// one that a monitor of the name is given.
 fn last_before<'a>(
+    marks: &[Mark],
+    earlier: &'a [SignedPromise],
+    changes: &'a [SignedPromise],
+    name: &Name,
+    epoch: u64,
+) -> Option<&'a SignedPromise>
+    ensures { IsLatest marks.now name.now epoch None (own_for marks.now name.now earlier.entry.now changes.entry.now) (option_map (λ signed. signed.now) result) }
+{
+    let last = last_of(None, marks, earlier, name, epoch);
+    let noted = changes_for(marks, changes, name);
+    last_of(last, marks, noted, name, epoch)
+}
+
+/// The last of these promises that is one for a name from before this epoch, and that a mark awaits; or the one before
+/// them.
+fn last_of<'a>(
+    before: Option<&'a SignedPromise>,
     marks: &[Mark],
     promises: &'a [SignedPromise],
     name: &Name,
     epoch: u64,
 ) -> Option<&'a SignedPromise>
-    ensures { IsLatest marks.now name.now epoch None promises.entry.now (option_map (λ signed. signed.now) result) }
+    ensures { IsLatest marks.now name.now epoch (option_map (λ signed. signed.now) before.entry) promises.entry.now (option_map (λ signed. signed.now) result) }
 {
-    let mut last: Option<&SignedPromise> = None;
+    let mut last = before;
     for signed in promises {
         if is_later(marks, last, signed, name, epoch) {
             last = Some(signed);
@@ -332,20 +374,39 @@ fn expected_at_first(last: Option<&SignedPromise>, given: Option<&KeyData>) -> O
     }
 }
 
-/// Gives a monitor each promise of earlier runs that is one for its name. One from before the first root, or one that
-/// is kept twice, is refused.
-fn hand_all<H, V, S>(
+/// Gives a monitor of a name the promises of earlier runs, and behind them the changes of this one that it is given.
+fn hand_own<H, V, S>(
     checks: &mut Checks<H, V, S>,
     monitor: &mut Monitor<H, V, S>,
+    marks: &[Mark],
     earlier: &[SignedPromise],
+    changes: &[SignedPromise],
+    name: &Name,
 ) -> Result<(), AllocError>
 where
     H: NodeHash + Drop,
     V: VufCheck + Drop,
     S: Verifier + Drop,
-    ensures { OnOk result (AllHand H.digest_of V.accepted S.verified earlier.now monitor.old monitor.new) }
+    ensures { OnOk result (AllHand H.digest_of V.accepted S.verified (own_for marks.now name.now earlier.now changes.now) monitor.old monitor.new) }
 {
-    for signed in earlier {
+    hand_all(checks, monitor, earlier)?;
+    hand_all(checks, monitor, changes_for(marks, changes, name))
+}
+
+/// Gives a monitor each of these promises that is one for its name. One from before the first root, or one that is kept
+/// twice, is refused.
+fn hand_all<H, V, S>(
+    checks: &mut Checks<H, V, S>,
+    monitor: &mut Monitor<H, V, S>,
+    promises: &[SignedPromise],
+) -> Result<(), AllocError>
+where
+    H: NodeHash + Drop,
+    V: VufCheck + Drop,
+    S: Verifier + Drop,
+    ensures { OnOk result (AllHand H.digest_of V.accepted S.verified promises.now monitor.old monitor.new) }
+{
+    for signed in promises {
         let _refused = hand_one(monitor, checks, signed, signed.write().bytes())?;
     }
     Ok(())

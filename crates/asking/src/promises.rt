@@ -123,7 +123,7 @@ where
 }
 
 /// Whether a name was watched in an earlier run.
-fn is_marked(marks: &[Mark], name: &Name) -> bool
+pub(crate) fn is_marked(marks: &[Mark], name: &Name) -> bool
     ensures { IsTrue result ↔ IsMarked marks.now name.now }
 {
     marks.iter().any(|mark| mark.name == *name)

@@ -7,5 +7,5 @@ use Rattle.asking.proofs.joining.hand_all.Goals as goal
 pub returns : goal.returns
 returns g c =
     c.loop-signed.invariant c.loop-signed.monitor
-    (at_end (λ (all : List SignedPromise). AllHand g.H.NodeHash.digest_of g.V.VufCheck.accepted g.S.Verifier.verified all c.loop-signed.monitor c.loop-signed.monitor) c.args.earlier.now c.loop-signed.signed-index
+    (at_end (λ (all : List SignedPromise). AllHand g.H.NodeHash.digest_of g.V.VufCheck.accepted g.S.Verifier.verified all c.loop-signed.monitor c.loop-signed.monitor) c.args.promises.now c.loop-signed.signed-index
     c.loop-signed-test.false refl)

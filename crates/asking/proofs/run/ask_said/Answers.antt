@@ -1,7 +1,7 @@
 use Rattle.std.proofs.Common.{ℕ, List, Option, inl, refl, subst}
 use Rattle.std.specs.Prelude.{OnOk}
 use Rattle.asking.specs.Exchanges.{ExchangesFrames}
-use Rattle.asking.specs.Joining.{BeginsWatch}
+use Rattle.asking.specs.Joining.{own_for, BeginsWatch}
 use Rattle.asking.specs.Runs.{background_of}
 use Rattle.asking.specs.Scenes.{scene}
 use Rattle.play.specs.Scripts.{ask_seen}
@@ -12,9 +12,11 @@ use Rattle.asking.proofs.run.ask_said.Goals as goal
 
 pub returns-in-Watch-clause-does : goal.returns-in-Watch-clause-does
 returns-in-Watch-clause-does g c =
-    rw c.in-Watch.is (subst (λ (given : Option (List ℕ)). OnOk c.watch.result (BeginsWatch g.H.NodeHash.digest_of g.V.VufCheck.accepted g.S.Verifier.verified (ExchangesFrames g.T.Write.contents g.T.Read.remaining)
-    c.args.asker.now.known c.args.asker.now.marks.items c.args.asker.now.key c.args.asker.now.earlier.items c.in-Watch.name given (scene c.args.asker.now c.args.said.now c.args.stream.now) (scene c.watch.new.self c.watch.new.said c.watch.new.stream)))
-    c.as_ref.ensures.value c.watch.ensures.begins)
+    let promised = own_for c.args.asker.now.marks.items c.in-Watch.name c.args.asker.now.earlier.items c.args.asker.now.changes.items in
+    let begins = subst (λ (given : Option (List ℕ)). OnOk c.watch.result (BeginsWatch g.H.NodeHash.digest_of g.V.VufCheck.accepted g.S.Verifier.verified (ExchangesFrames g.T.Write.contents g.T.Read.remaining)
+    c.args.asker.now.known c.args.asker.now.marks.items c.args.asker.now.key promised c.in-Watch.name given (scene c.args.asker.now c.args.said.now c.args.stream.now) (scene c.watch.new.self c.watch.new.said c.watch.new.stream)))
+    c.as_ref.ensures.value c.watch.ensures.begins in
+    rw c.in-Watch.is (ok_then c.watch.result begins (λ watched. (c.args.asker.now.changes.items, watched)))
 
 pub returns-in-Ask-clause-does : goal.returns-in-Ask-clause-does
 returns-in-Ask-clause-does g c =
@@ -28,8 +30,8 @@ returns-in-Ask-clause-rises g c =
 
 pub returns-in-Watch-clause-rises : goal.returns-in-Watch-clause-rises
 returns-in-Watch-clause-rises g c =
-    watch_rises g.H.NodeHash.digest_of g.V.VufCheck.accepted g.S.Verifier.verified (ExchangesFrames g.T.Write.contents g.T.Read.remaining) c.args.asker.now.known c.args.asker.now.marks.items c.args.asker.now.key c.args.asker.now.earlier.items
-    _ _ c.watch.result (scene c.args.asker.now c.args.said.now c.args.stream.now) (scene c.watch.new.self c.watch.new.said c.watch.new.stream)
+    watch_rises g.H.NodeHash.digest_of g.V.VufCheck.accepted g.S.Verifier.verified (ExchangesFrames g.T.Write.contents g.T.Read.remaining) c.args.asker.now.known c.args.asker.now.marks.items c.args.asker.now.key
+    (own_for c.args.asker.now.marks.items c.in-Watch.name c.args.asker.now.earlier.items c.args.asker.now.changes.items) _ _ c.watch.result (scene c.args.asker.now c.args.said.now c.args.stream.now) (scene c.watch.new.self c.watch.new.said c.watch.new.stream)
     c.watch.new.self c.watch.new.said refl c.watch.ensures.begins c.watch.ensures.halts
 
 pub returns-in-Ask-clause-reaches : goal.returns-in-Ask-clause-reaches
@@ -40,7 +42,7 @@ returns-in-Ask-clause-reaches g c =
 
 pub returns-in-Watch-clause-reaches : goal.returns-in-Watch-clause-reaches
 returns-in-Watch-clause-reaches g c =
-    rw c.in-Watch.is (watched_reaches g.H.NodeHash.digest_of g.V.VufCheck.accepted g.S.Verifier.verified (ExchangesFrames g.T.Write.contents g.T.Read.remaining) (background_of c.args.asker.now) c.in-Watch.name _ _ c.watch.result
+    rw c.in-Watch.is (watched_reaches g.H.NodeHash.digest_of g.V.VufCheck.accepted g.S.Verifier.verified (ExchangesFrames g.T.Write.contents g.T.Read.remaining) (background_of c.args.asker.now) c.in-Watch.name _ _ c.args.asker.now.changes.items c.watch.result
     (scene c.args.asker.now c.args.said.now c.args.stream.now) (scene c.watch.new.self c.watch.new.said c.watch.new.stream)
     c.watch.new.self c.watch.new.said c.as_ref.ensures.value refl c.watch.ensures.begins c.watch.ensures.halts)
 

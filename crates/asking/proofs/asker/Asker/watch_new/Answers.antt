@@ -1,6 +1,6 @@
 use Rattle.std.proofs.Common.{◌≡◌, Err, Some, inl, option_map, rules}
 use Rattle.asking.specs.Exchanges.{ExchangesFrames}
-use Rattle.asking.specs.Joining.{IsUnwatched}
+use Rattle.asking.specs.Joining.{own_for, IsUnwatched}
 use Rattle.asking.specs.Scenes.{scene}
 use Rattle.asking.proofs.Joined.{begins}
 use Rattle.asking.proofs.Halted.{halts_begun}
@@ -9,7 +9,7 @@ use Rattle.asking.proofs.asker.Asker.watch_new.Goals as goal
 pub returns-clause-begins : goal.returns-clause-begins
 returns-clause-begins g c =
     let unwatched : IsUnwatched c.args.self.now.client.chain c.args.name.now c.args.self.now.marks.items (Some c.in-Some.first) = search rules in
-    begins g.H.NodeHash.digest_of g.V.VufCheck.accepted g.S.Verifier.verified (ExchangesFrames g.T.Write.contents g.T.Read.remaining) c.args.self.now.key c.args.self.now.earlier.items c.args.name.now
+    begins g.H.NodeHash.digest_of g.V.VufCheck.accepted g.S.Verifier.verified (ExchangesFrames g.T.Write.contents g.T.Read.remaining) c.args.self.now.key (own_for c.args.self.now.marks.items c.args.name.now c.args.self.now.earlier.items c.args.self.now.changes.items) c.args.name.now
     (option_map (λ key. key.now) c.args.key) c.args.self.now c.args.said.now c.args.stream.now c.in-Some.first c.test_promises.result c.args.self.now.marks c.begin_watch.new.self.marks
     (scene c.begin_watch.new.self c.begin_watch.new.said c.begin_watch.new.stream) (scene c.test_promises.new.self c.test_promises.new.said c.test_promises.new.stream) unwatched c.in_ok-begin_watch.ensures.stays.2
     c.in_ok-begin_watch.ensures.begins c.test_promises.ensures.tests
@@ -17,7 +17,7 @@ returns-clause-begins g c =
 pub returns-clause-halts : goal.returns-clause-halts
 returns-clause-halts g c =
     let unwatched : IsUnwatched c.args.self.now.client.chain c.args.name.now c.args.self.now.marks.items (Some c.in-Some.first) = search rules in
-    halts_begun g.H.NodeHash.digest_of g.V.VufCheck.accepted g.S.Verifier.verified (ExchangesFrames g.T.Write.contents g.T.Read.remaining) c.args.self.now.key c.args.self.now.earlier.items c.args.name.now
+    halts_begun g.H.NodeHash.digest_of g.V.VufCheck.accepted g.S.Verifier.verified (ExchangesFrames g.T.Write.contents g.T.Read.remaining) c.args.self.now.key (own_for c.args.self.now.marks.items c.args.name.now c.args.self.now.earlier.items c.args.self.now.changes.items) c.args.name.now
     (option_map (λ key. key.now) c.args.key) c.args.self.now c.args.said.now c.args.stream.now c.in-Some.first c.test_promises.result c.args.self.now.marks c.begin_watch.new.self.marks
     (scene c.begin_watch.new.self c.begin_watch.new.said c.begin_watch.new.stream) c.test_promises.new.self c.test_promises.new.said unwatched c.in_ok-begin_watch.ensures.stays.2
     c.in_ok-begin_watch.ensures.begins c.test_promises.ensures.halts

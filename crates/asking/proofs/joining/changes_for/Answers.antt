@@ -1,0 +1,14 @@
+use Rattle.std.proofs.Common.{rules}
+use Rattle.asking.specs.Visiting.{IsMarked}
+use Rattle.asking.proofs.Joined.{noted_marked, noted_unmarked}
+use Rattle.asking.proofs.joining.changes_for.Goals as goal
+
+pub returns-then-is_marked : goal.returns-then-is_marked
+returns-then-is_marked c =
+    let marked : IsMarked c.args.marks.now c.args.name.now = search rules in
+    noted_marked c.args.marks.now c.args.name.now c.args.changes.now marked
+
+pub returns-else-is_marked : goal.returns-else-is_marked
+returns-else-is_marked c =
+    let unmarked : ¬ IsMarked c.args.marks.now c.args.name.now = search rules in
+    noted_unmarked c.args.marks.now c.args.name.now c.args.changes.now unmarked
