@@ -1,6 +1,7 @@
 pub mod Asked
 pub mod Earlier
 pub mod Remembered
+pub mod Keeping
 pub mod Ended
 pub mod Faulty
 pub mod Going

@@ -45,9 +45,19 @@ IsSettled (Err (run.Ask Stopped)) = ⊤
 IsSettled (Err (run.Ask OutOfMemory)) = ⊥
 IsSettled (Err (run.Program fault)) = ⊥
 
--- what a state remembers behind that is what it learns before this is told and once it is
+-- what a state learns before this is told; where there is none, nothing is kept
+abbrev pub AddsTo : {H V S : Type 0} → Asker H V S → List ℕ → Option State → Option State → Type 0
+AddsTo asker told None after = after ≡ None
+AddsTo asker told (Some before) after = (kept : State) × (after ≡ Some kept)
+    × LearnsBefore (drop before.changes asker.changes.items) asker.client.promises told (drop before.monitors asker.monitors.items) before.memory kept.memory
+    × (kept.head ≡ before.head) × (kept.monitors ≡ before.monitors)
+
+-- what it learns once it is told
+abbrev pub SavesTo : {H V S : Type 0} → Asker H V S → List ℕ → Option State → Option State → Type 0
+SavesTo asker told None after = after ≡ None
+SavesTo asker told (Some before) after = (kept : State) × (after ≡ Some kept)
+    × ((some : List Monitor) × MayMove asker.client.chain before.head before.monitors asker.monitors.items some × LearnsAfter told asker.monitors.items some before.memory kept.memory)
+
+-- both
 abbrev pub KeepsUp : {H V S : Type 0} → Asker H V S → List ℕ → Option State → Option State → Type 0
-KeepsUp asker told None after = after ≡ None
-KeepsUp asker told (Some before) after = (kept : State) × (after ≡ Some kept) × ((middle : Memory) × (some : List Monitor)
-    × LearnsBefore (drop before.changes asker.changes.items) asker.client.promises told (drop before.monitors asker.monitors.items) before.memory middle
-    × MayMove asker.client.chain before.head before.monitors asker.monitors.items some × LearnsAfter told asker.monitors.items some middle kept.memory)
+KeepsUp asker told before after = (middle : Option State) × AddsTo asker told before middle × SavesTo asker told middle after

@@ -1,5 +1,5 @@
 // A run: each line of the input is asked, what is told of it is written, and the state is kept.
-ghost use Rattle.std.specs.Prelude.{◌≡◌, ◌⊎◌, ◌↔◌, ◌<◌, ◌≤◌, ◌++◌, List, ℕ, [], Err, IfErr, IfOk, IfSome, MatchOption, None, Ok, OnErr, OnOk, Option, Some, option_map, ⊤};
+ghost use Rattle.std.specs.Prelude.{◌≡◌, ◌≢◌, ◌⊎◌, ◌↔◌, ◌<◌, ◌≤◌, ◌++◌, List, ℕ, [], Err, IfErr, IfOk, IfSome, MatchOption, None, Ok, OnErr, OnOk, Option, Some, option_map, ⊤};
 ghost use Rattle.std.specs.Io.KnownBytes.{Appends};
 ghost use Rattle.textio.specs.Lines.{lines_of};
 ghost use Rattle.textio.specs.Output.{WritesSome};
@@ -8,11 +8,12 @@ ghost use Rattle.play.specs.Scripts.{line_of, line_seen};
 ghost use Rattle.asking.specs.AskOptions.{ask_values};
 ghost use Rattle.asking.specs.Ending.{AsksPart, AsksSomeLine, BeginsNone, DoesSome, end_status, EndsEarly, HoldsBack, PreparesSome, stopped_status, TakesSomeNew};
 ghost use Rattle.asking.specs.Exchanges.{ExchangesFrames};
-ghost use Rattle.asking.specs.Keeping.{IsSettled, KeepsUp};
+ghost use Rattle.asking.specs.Keeping.{AddsTo, IsSettled, KeepsUp, SavesTo};
 ghost use Rattle.asking.specs.Recalled.{evidence_again};
 ghost use Rattle.asking.specs.Reports.{report_of, told_after, Report};
 ghost use Rattle.asking.specs.RunFaults.{AsksInput, CannotBeAsked, IsFaultOfSaving, IsFaultOfState, IsFaultWith, IsFirstUnasked, StopsOr};
 ghost use Rattle.asking.specs.Runs.{AsksLine, AsksLines, BeginsAsking, DoesLine, emptied, Grows, IsSoundFor, KeepsAll, new_background, background_of, lines_asked, Prepares, RunsWhole, TakesNew, with_word, words_line, Writes};
+ghost use Rattle.asking.specs.declared.ask_fault.AskFault.TheVariants.{OutOfMemory as NoMemory};
 ghost use Rattle.asking.specs.declared.ask_fault.RunFault.TheVariants.{Program};
 ghost use Rattle.asking.specs.declared.run.RunEnd.TheVariants.{Whole, Stopped};
 ghost use Rattle.asking.specs.declared.said.TheConstants.{ALARM};
@@ -524,9 +525,9 @@ where
         self.settle(asker, asked, writer, errors)
     }
 
-    /// Keeps the roots, promises and evidence that are new, writes what is said, and then keeps the alarms and how far
-    /// names were watched: so a promise that is told is kept, unless keeping it is what fails. Where memory ran out an
-    /// alarm may be untold: then a later run watches from the same epochs. Returns what came of the questions.
+    /// Keeps the roots, promises and evidence that are new, and from where names are watched, writes what is said, and then
+    /// keeps the alarms and how far names were watched: so a promise that is told is kept, unless keeping it is what fails,
+    /// and an alarm that a stop leaves untold is found again. Returns what came of the questions.
     fn settle<W, E, H, V, S>(
         &mut self,
         asker: &Asker<H, V, S>,
@@ -549,24 +550,64 @@ where
         ensures status { (self.new).said.status ≡ (self.old).said.status }
     {
         let told = Vec::from_slice(self.alloc, &self.said.text)?;
-        if let Some(state) = self.state.as_mut() {
-            state.add(self.files, asker, &told)?;
-        }
-        if asked == Err(AskFault::Stopped) {
-            tell_epoch(
-                b"no root is taken after epoch ",
-                asker.head(),
-                &mut self.said,
-            )?;
-        }
+        self.add(asker, &told)?;
+        self.explain_stop(asker.head(), &asked)?;
         self.write(writer, errors)?;
-        if asked != Err(AskFault::OutOfMemory) {
-            if let Some(state) = self.state.as_mut() {
-                state.save(self.files, asker, &told)?;
-            }
-        }
+        self.save(asker, &told, &asked)?;
         asked?;
         Ok(())
+    }
+
+    /// Says after which epoch no root is taken, if roots stopped the questions.
+    fn explain_stop(&mut self, head: u64, asked: &Result<(), AskFault>) -> Result<(), AllocError>
+        ensures said { report_of (self.new).said ≡ report_of (self.old).said }
+        ensures still { (self.new).state ≡ (self.old).state }
+    {
+        if *asked != Err(AskFault::Stopped) {
+            return Ok(());
+        }
+        tell_epoch(b"no root is taken after epoch ", head, &mut self.said)
+    }
+
+    /// Adds what is new to the files of the state, if there is one, before this is told.
+    fn add<H, V, S>(&mut self, asker: &Asker<H, V, S>, told: &[u8]) -> Result<(), ProgramFault>
+    where
+        H: NodeHash + Drop,
+        V: VufCheck + Drop,
+        S: Verifier + Drop,
+        ensures adds { OnOk result (AddsTo asker.now told.now (self.old).state (self.new).state) }
+        ensures said { (self.new).said ≡ (self.old).said }
+        ensures err { IfErr result IsFaultOfSaving }
+    {
+        match self.state.as_mut() {
+            Some(state) => state.add(self.files, asker, told),
+            None => Ok(()),
+        }
+    }
+
+    /// Adds the alarms and how far names were watched to the files of the state, if there is one, once this is told. Where
+    /// memory ran out in a question, an alarm may be untold, and nothing is added.
+    fn save<H, V, S>(
+        &mut self,
+        asker: &Asker<H, V, S>,
+        told: &[u8],
+        asked: &Result<(), AskFault>,
+    ) -> Result<(), ProgramFault>
+    where
+        H: NodeHash + Drop,
+        V: VufCheck + Drop,
+        S: Verifier + Drop,
+        ensures saves { OnOk result (asked.now ≢ Err NoMemory → SavesTo asker.now told.now (self.old).state (self.new).state) }
+        ensures said { (self.new).said ≡ (self.old).said }
+        ensures err { IfErr result IsFaultOfSaving }
+    {
+        if *asked == Err(AskFault::OutOfMemory) {
+            return Ok(());
+        }
+        match self.state.as_mut() {
+            Some(state) => state.save(self.files, asker, told),
+            None => Ok(()),
+        }
     }
 
     /// Drops the alarms of a name from what is remembered, and tells how many there were, behind evidence of earlier runs.
@@ -642,6 +683,7 @@ where
         ensures some { WritesSome (W.contents writer.old) (W.contents writer.new) (self.old).said.text.items }
         ensures emptied { (self.new).said.text.items ≡ [] }
         ensures words { OnOk result (Appends (E.contents errors.old) (E.contents errors.new) (self.old).said.words.items) }
+        ensures still { (self.new).state ≡ (self.old).state }
         ensures status { (self.new).said.status ≡ (self.old).said.status }
         ensures err { IfErr result (λ fault. fault ≡ CannotWrite) }
         ensures grows { Grows (W.contents writer.old) (W.contents writer.new) }

@@ -532,7 +532,8 @@ impl<'a> State<'a> {
         files: &F,
         lines: &[u8],
     ) -> Result<(), ProgramFault>
-        ensures { IfErr result IsFaultOfSaving }
+        ensures err { IfErr result IsFaultOfSaving }
+        ensures same { ((self.new).memory ≡ (self.old).memory) × ((self.new).head ≡ (self.old).head) × ((self.new).monitors ≡ (self.old).monitors) }
     {
         if lines.is_empty() {
             return Ok(());

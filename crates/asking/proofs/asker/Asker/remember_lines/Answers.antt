@@ -1,5 +1,21 @@
-use Rattle.std.proofs.Common.{◌+◌, arith}
+use Rattle.std.proofs.Common.{◌+◌, ◌∙◌, arith}
 use Rattle.textio.specs.Lines.{lines_of}
 use Rattle.memory.proofs.Recalled.{recalls-taken}
-use Rattle.asking.proofs.Remembered.{own_none, own_on, own_whole}
+use Rattle.asking.specs.Runs.{IsSameAsker}
+use Rattle.asking.proofs.Remembered.{own_on, same_on}
 use Rattle.asking.proofs.asker.Asker.remember_lines.Goals as goal
+
+pub loop-rest-preserved : goal.loop-rest-preserved
+loop-rest-preserved g c =
+    let line = c.first_line.result.0.now in
+    let behind = lines_of c.first_line.result.1.now in
+    let (one, is, grown) = c.in_ok-remember_line.ensures.earlier in
+    record {
+      same = same_on c.args.self.now c.loop-rest.self c.remember_line.new.self c.loop-rest.invariant.same c.remember_line.ensures.same;
+      kept = λ keeps. c.in_ok-remember_line.ensures.kept (c.loop-rest.invariant.kept keeps);
+      spells = λ result recalls. c.loop-rest.invariant.spells result (rw c.first_line.ensures.lines
+          (recalls-taken (c.loop-rest.number + 1) line behind c.loop-rest.memory c.remember_line.new.memory result c.in_ok-remember_line.ensures.takes recalls));
+      few = omega (arith, c.first_line.ensures.less, c.loop-rest.invariant.few);
+      own = own_on (lines_of c.args.text.now) (lines_of c.loop-rest.rest.now) line behind c.args.self.now.earlier.items c.loop-rest.self.earlier.items c.remember_line.new.self.earlier.items one
+          c.first_line.ensures.lines is grown c.loop-rest.invariant.own;
+    }

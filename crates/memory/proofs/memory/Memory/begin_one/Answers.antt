@@ -16,5 +16,5 @@ returns-clause-ok g c =
     let epoch = c.begins_behind-epoch.result in
     let name : c.copied-name.result ≡ c.args.monitor.now.name = search rules in
     on_ok c.learn.result (λ learned. let (news, one, grown) = learned in
-        let named = subst (λ (n : List ℕ). LearnsOne (Watched (record { name = n; since = epoch; epoch = epoch })) c.args.self.now news c.learn.new.self) name one in
-        (news, inl (none, (epoch, c.begins_behind-epoch.ensures, named)), grown)) c.learn.ensures.ok
+    let named = subst (λ (n : List ℕ). LearnsOne (Watched (record { name = n; since = epoch; epoch = epoch })) c.args.self.now news c.learn.new.self) name one in
+    (news, inl (none, (epoch, c.begins_behind-epoch.ensures, named)), grown)) c.learn.ensures.ok

@@ -19,7 +19,7 @@ loop-start-preserved c =
     let other : ¬ Remembers c.args.self.now signed = search rules in
     let split : drop (start - 1) kept ≡ signed ∷ drop start kept = drop-before kept (start - 1) start signed (omega (arith, c.loop-start-test.true)) c.loop-start.invariant.0 at in
     let none : All (λ (s : SignedPromise). ¬ Remembers c.args.self.now s) (drop (start - 1) kept) =
-        rw split (All-cons (λ (s : SignedPromise). ¬ Remembers c.args.self.now s) signed (drop start kept) other c.loop-start.invariant.1) in
+    rw split (All-cons (λ (s : SignedPromise). ¬ Remembers c.args.self.now s) signed (drop start kept) other c.loop-start.invariant.1) in
     (omega (arith, c.loop-start.invariant.0), none)
 
 pub returns-then-has_promise : goal.returns-then-has_promise

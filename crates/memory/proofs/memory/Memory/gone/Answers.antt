@@ -19,10 +19,10 @@ loop-promised-preserved c =
     let mapped : map signed_of (take (place + 1) items) ≡ map signed_of front ++ signed ∷ [] = ap (map signed_of) whole ∙ map-append signed_of front (promised ∷ []) in
     let Stays = λ (s : SignedPromise). ¬ Contains c.args.kept.now s in
     let left : IsLeft Stays (map signed_of (take (place + 1) items)) c.if-not-contains.gone.items = rw mapped (elim c.if-not-contains.branch [
-      then-not-contains+in_ok-push w ↦
+      | then-not-contains+in_ok-push w ↦
           let stays : ¬ Contains c.args.kept.now signed = search rules in
           rw (w.gone-is, w.in_ok-push.ensures.items, w.copied.ensures) (left-more Stays (map signed_of front) signed c.loop-promised.gone.items stays c.loop-promised.invariant)
-    | else-not-contains w ↦
+      | else-not-contains w ↦
           let there : Contains c.args.kept.now signed = search rules in
           rw w.gone-is (left-skip Stays (map signed_of front) signed c.loop-promised.gone.items (λ stays. stays there) c.loop-promised.invariant)
     ]) in

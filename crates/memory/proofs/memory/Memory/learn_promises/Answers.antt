@@ -21,6 +21,7 @@ loop-signed-preserved c =
     let read : c.signed-item.result ≡ signed = sym c.copied-signed.ensures in
     let next : take (place + 1) promises ≡ front ++ get_or promises place c.signed-item.result ∷ [] = take_more promises place c.signed-item.result c.loop-signed-test.true in
     let whole : take (place + 1) promises ≡ front ++ signed ∷ [] = next ∙ ap (λ (s : SignedPromise). front ++ s ∷ []) (sym c.signed-item.is ∙ read) in
-    let mapped : map item (take (place + 1) promises) ≡ map item front ++ item signed ∷ [] = ap (map item) whole ∙ map-append item front (signed ∷ []) in
-    (rw mapped (one_more LearnsOne (map item front) (item signed) c.args.self.now c.loop-signed.self c.learn.new.self c.args.lines.now.items c.loop-signed.lines.items c.learn.new.lines.items c.loop-signed.invariant.0 c.in_ok-learn.ensures.ok),
-    starts_with_trans _ _ _ c.in_ok-learn.ensures.grows c.loop-signed.invariant.1)
+    let mapped : map item (take (place + 1) promises) ≡ map item front ++ item signed ∷ [] = ap (map item) whole ∙ map-append item front (signed ∷ []) in (
+      rw mapped (one_more LearnsOne (map item front) (item signed) c.args.self.now c.loop-signed.self c.learn.new.self c.args.lines.now.items c.loop-signed.lines.items c.learn.new.lines.items c.loop-signed.invariant.0 c.in_ok-learn.ensures.ok),
+      starts_with_trans _ _ _ c.in_ok-learn.ensures.grows c.loop-signed.invariant.1,
+    )

@@ -10,9 +10,10 @@ loop-rest-preserved c =
     let (done, parts, sofar) = c.loop-rest.invariant.0 in
     let line = c.first_line.result.0.now in
     let behind = lines_of c.first_line.result.1.now in
-    let more : lines_of c.args.told.now ≡ done ++ line ∷ [] ++ behind = parts ∙ ap (λ (ls : List (List ℕ)). done ++ ls) c.first_line.ensures.lines ∙ sym (append_assoc done (line ∷ []) behind) in
-    ((done ++ line ∷ [], more, one_more (LearnsLine c.args.kind) done line c.args.self.now c.loop-rest.self c.learn_line.new.self c.args.lines.now.items c.loop-rest.lines.items c.learn_line.new.lines.items sofar c.in_ok-learn_line.ensures.ok),
-    starts_with_trans _ _ _ c.in_ok-learn_line.ensures.grows c.loop-rest.invariant.1)
+    let more : lines_of c.args.told.now ≡ done ++ line ∷ [] ++ behind = parts ∙ ap (λ (ls : List (List ℕ)). done ++ ls) c.first_line.ensures.lines ∙ sym (append_assoc done (line ∷ []) behind) in (
+      (done ++ line ∷ [], more, one_more (LearnsLine c.args.kind) done line c.args.self.now c.loop-rest.self c.learn_line.new.self c.args.lines.now.items c.loop-rest.lines.items c.learn_line.new.lines.items sofar c.in_ok-learn_line.ensures.ok),
+      starts_with_trans _ _ _ c.in_ok-learn_line.ensures.grows c.loop-rest.invariant.1,
+    )
 
 pub returns-in_err-learn_line-clause-err : goal.returns-in_err-learn_line-clause-err
 returns-in_err-learn_line-clause-err c =

@@ -18,6 +18,7 @@ loop-monitor-preserved g c =
     let monitor = c.monitor-item.result in
     let front = take place some in
     let next : take (place + 1) some ≡ front ++ get_or some place monitor ∷ [] = take_more some place monitor c.loop-monitor-test.true in
-    let whole : take (place + 1) some ≡ front ++ monitor ∷ [] = next ∙ ap (λ (m : Monitor). front ++ m ∷ []) (sym c.monitor-item.is) in
-    (rw whole (one_more BeginsOne front monitor c.args.self.now c.loop-monitor.self c.begin_one.new.self c.args.lines.now.items c.loop-monitor.lines.items c.begin_one.new.lines.items c.loop-monitor.invariant.0 c.in_ok-begin_one.ensures.ok),
-    starts_with_trans _ _ _ c.in_ok-begin_one.ensures.grows c.loop-monitor.invariant.1)
+    let whole : take (place + 1) some ≡ front ++ monitor ∷ [] = next ∙ ap (λ (m : Monitor). front ++ m ∷ []) (sym c.monitor-item.is) in (
+      rw whole (one_more BeginsOne front monitor c.args.self.now c.loop-monitor.self c.begin_one.new.self c.args.lines.now.items c.loop-monitor.lines.items c.begin_one.new.lines.items c.loop-monitor.invariant.0 c.in_ok-begin_one.ensures.ok),
+      starts_with_trans _ _ _ c.in_ok-begin_one.ensures.grows c.loop-monitor.invariant.1,
+    )

@@ -1,0 +1,8 @@
+use Rattle.std.proofs.Common.{◌≡◌, Some, refl, rules}
+use Rattle.memory.proofs.Learned.{on_ok}
+use Rattle.asking.proofs.run.Run.add.Goals as goal
+
+pub returns-in-Some-clause-adds : goal.returns-in-Some-clause-adds
+returns-in-Some-clause-adds g c =
+    let was : c.args.self.now.state ≡ Some c.in-Some.state.now = search rules in
+    rw was (on_ok c.add.result (λ learns. (c.add.new.self, refl, learns, c.add.ensures.looked.0, c.add.ensures.looked.1)) c.add.ensures.learns)
