@@ -1,4 +1,4 @@
-use Rattle.std.proofs.Common.{◌≡◌, ◌∙◌, ℕ, List, ap, drop}
+use Rattle.std.proofs.Common.{◌∙◌, ℕ, List, ap, drop}
 use Rattle.monitor.specs.Monitors.{Monitor}
 use Rattle.asking.proofs.Earlier.{ok_so}
 use Rattle.asking.proofs.Keeping.{learned_before}

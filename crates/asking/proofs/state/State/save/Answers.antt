@@ -1,4 +1,4 @@
-use Rattle.std.proofs.Common.{◌≡◌, ◌∙◌}
+use Rattle.std.proofs.Common.{◌∙◌}
 use Rattle.asking.proofs.Keeping.{learned_after}
 use Rattle.asking.proofs.state.State.save.Goals as goal
 

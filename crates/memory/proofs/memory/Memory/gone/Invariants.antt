@@ -1,4 +1,4 @@
-use Rattle.std.proofs.Common.{◌≡◌, List, map, take, Contains}
+use Rattle.std.proofs.Common.{map, take, Contains}
 use Rattle.rootchain.specs.declared.signed_promise.SignedPromise.{SignedPromise}
 use Rattle.memory.specs.Lists.{IsLeft}
 use Rattle.memory.specs.Memories.{signed_of}

@@ -1,4 +1,4 @@
-use Rattle.std.proofs.Common.{◌≡◌, ◌≢◌, ◌∙◌, ℕ, List, [], ◌∷◌, ◌++◌, ap, append_assoc, inr, refl, rules, sym}
+use Rattle.std.proofs.Common.{◌≢◌, ◌∙◌, ℕ, List, [], ◌∷◌, ◌++◌, ap, append_assoc, inr, refl, rules, sym}
 use Rattle.memory.specs.Lines.{item_line}
 use Rattle.memory.proofs.Learned.{one_text}
 use Rattle.memory.proofs.memory.Memory.learn.Goals as goal

@@ -1,4 +1,4 @@
-use Rattle.std.proofs.Common.{List, inl, rules}
+use Rattle.std.proofs.Common.{inl, rules}
 use Rattle.memory.specs.Learning.{IsOfKind}
 use Rattle.memory.specs.Lines.{IsLineOf}
 use Rattle.memory.specs.declared.item.Item.{Item}

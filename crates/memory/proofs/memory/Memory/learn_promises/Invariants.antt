@@ -1,4 +1,4 @@
-use Rattle.std.proofs.Common.{◌≡◌, map, take}
+use Rattle.std.proofs.Common.{map, take}
 use Rattle.std.specs.Io.{StartsWith}
 use Rattle.memory.specs.Learning.{promised_item, LearnsOne}
 use Rattle.memory.proofs.Learned.{EachSoFar}

@@ -1,7 +1,6 @@
-use Rattle.std.proofs.Common.{◌≡◌, [], ◌∷◌, List, None, append-nil, inl, inr, refl, rules, sym}
-use Rattle.memory.specs.Learning.{IsMarkFor, LearnsOne}
+use Rattle.std.proofs.Common.{[], None, append-nil, inl, inr, refl, rules, sym}
+use Rattle.memory.specs.Learning.{IsMarkFor}
 use Rattle.memory.specs.Watching.{WatchedUpTo}
-use Rattle.memory.specs.declared.item.Item.TheVariants.{Watched}
 use Rattle.memory.proofs.Learned.{on_ok}
 use Rattle.memory.proofs.memory.Memory.mark_one.Goals as goal
 
