@@ -1,9 +1,10 @@
 -- All that monitors watched is told.
-use Rattle.std.proofs.Common.{◌≡◌, ◌∙◌, ℕ, ◌+◌, ◌<◌, ◌≤◌, List, [], ◌++◌, length, length-append, get_or, Contains, Option, Some, Ok, refl, sym, ap, subst, inl, inr, arith, append-nil, append_assoc}
+use Rattle.std.proofs.Common.{◌≡◌, ◌≢◌, ◌∙◌, ℕ, ◌+◌, ◌<◌, ◌≤◌, List, [], ◌∷◌, ◌++◌, length, length-append, get_or, Contains, Option, Some, Ok, Err, Result, refl, sym, ap, subst, inl, inr, arith, append-nil, append_assoc}
 use Rattle.std.proofs.lemmas.Bool.{cases_lt}
 use Rattle.std.proofs.lemmas.List.{get_or_append_left, get_or-append_right, get_or_default}
 use Rattle.std.proofs.lemmas.List.Elements.{Contains-append_cases}
-use Rattle.rootchain.specs.Chains.{Ascend, IsChain, KeyedRoots}
+use Rattle.rootchain.specs.Chains.{Ascend, IsAt, IsChain, KeyedRoots}
+use Rattle.rootchain.specs.declared.signed_promise.SignedPromise.{SignedPromise}
 use Rattle.rootchain.specs.declared.signed_root.SignedRoot.{SignedRoot}
 use Rattle.rootchain.proofs.Agreement.{unique}
 use Rattle.rootchain.proofs.Chains.{ascend-linked}
@@ -12,7 +13,7 @@ use Rattle.proofs.specs.Watches.{Watch, expected}
 use Rattle.client.specs.Clients.{Client}
 use Rattle.client.specs.Updating.{Updates}
 use Rattle.monitor.specs.Expecting.{Expects}
-use Rattle.monitor.specs.Monitors.{new_monitor, with_change, with_watched, IsNext, IsWatched, Monitor}
+use Rattle.monitor.specs.Monitors.{new_monitor, with_change, with_watched, IsNext, IsWatched, IsWatching, Monitor}
 use Rattle.proofs.specs.Accepts.{stated}
 use Rattle.monitor.specs.Stepping.{IsNextEpoch, StepTells, Steps}
 use Rattle.monitor.specs.declared.step.Step.{Step}
@@ -20,7 +21,7 @@ use Rattle.monitor.specs.declared.step.Step.TheVariants.{Kept, Alarm}
 use Rattle.monitor.proofs.Expected.{expects-above}
 use Rattle.monitor.proofs.Watching.{begun-watching, change-watching, updated-watching, watched-watching}
 use Rattle.asking.specs.Following.{MonitorUpdates}
-use Rattle.asking.specs.Told.{HasLines, IsTold, IsToldAt}
+use Rattle.asking.specs.Told.{HasLines, IsTold, IsToldAt, TellsWatched}
 use Rattle.asking.specs.Watching.{step_told}
 
 -- ---- lines

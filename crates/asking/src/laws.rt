@@ -24,6 +24,6 @@ pub fn refusals_have_their_numbers()
 /// what an accepted reply states with what the owner expected there.
 pub fn watched_epochs_are_told<T: Read + Write, H: NodeHash, V: VufCheck, S: Verifier>()
     ensures { (key token : List ℕ) (options : AskOptions) (stream left : T) (input : Option (List ℕ)) (status : ℕ) (old : List ℕ) (new : Option (List ℕ)) (lines : List (List ℕ)) → lines_asked options.words input ≡ Some lines
-        → (run : RunsWhole H.digest_of V.accepted S.verified (ExchangesFrames T.contents T.remaining) key token options (options.state ≡ None) stream left input status (Some old) new)
-        → (text : List ℕ) × (new ≡ Some (old ++ text)) × AllByRecursion (TellsWatched H.digest_of V.accepted text) run.last.monitors }
+      → (run : RunsWhole H.digest_of V.accepted S.verified (ExchangesFrames T.contents T.remaining) key token options (options.state ≡ None) stream left input status (Some old) new)
+      → (text : List ℕ) × (new ≡ Some (old ++ text)) × AllByRecursion (TellsWatched H.digest_of V.accepted text) run.last.monitors }
 {}
