@@ -20,4 +20,3 @@ pub mod Keeping
 pub mod Runs
 pub mod Visiting
 pub mod Watching
-pub mod Told
