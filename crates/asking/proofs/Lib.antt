@@ -15,6 +15,9 @@ pub mod Placed
 pub mod Ran
 pub mod Recalling
 pub mod Rising
+pub mod Told
+pub mod ToldScenes
+pub mod OwnRoots
 pub mod Settled
 pub mod Stepped
 pub mod Stopped

@@ -20,3 +20,4 @@ pub mod Keeping
 pub mod Runs
 pub mod Visiting
 pub mod Watching
+pub mod Told

@@ -1,5 +1,15 @@
-ghost use Rattle.std.specs.Prelude.{◌≡◌};
+ghost use Rattle.std.specs.Prelude.{◌≡◌, ◌++◌, ℕ, List, None, Option, Some};
+ghost use Rattle.std.specs.List.{AllByRecursion};
+ghost use Rattle.asking.specs.AskOptions.{AskOptions};
+ghost use Rattle.asking.specs.Exchanges.{ExchangesFrames};
+ghost use Rattle.asking.specs.Runs.{lines_asked, RunsWhole};
+ghost use Rattle.asking.specs.Told.{TellsWatched};
 ghost use Rattle.asking.specs.declared.said.TheConstants.{ALARM, OTHER_INDEX, OTHER_REPLY, REFUSED};
+
+use nodehash::NodeHash;
+use sigiface::Verifier;
+use std::io::{Read, Write};
+use vrfiface::VufCheck;
 
 /// A reply that does not answer what was asked is refused with 25, and a promise whose name has another index than
 /// it says with 26. A run in which something was refused has status 1, and one with an alarm has status 3.
@@ -8,4 +18,12 @@ pub fn refusals_have_their_numbers()
     ensures index { OTHER_INDEX ≡ 26 }
     ensures refused { REFUSED ≡ 1 }
     ensures alarm { ALARM ≡ 3 }
+{}
+
+/// Each epoch that a monitor watched in a whole run is told: the output has the line of a step for it, which compares
+/// what an accepted reply states with what the owner expected there.
+pub fn watched_epochs_are_told<T: Read + Write, H: NodeHash, V: VufCheck, S: Verifier>()
+    ensures { (key token : List ℕ) (options : AskOptions) (stream left : T) (input : Option (List ℕ)) (status : ℕ) (old : List ℕ) (new : Option (List ℕ)) (lines : List (List ℕ)) → lines_asked options.words input ≡ Some lines
+        → (run : RunsWhole H.digest_of V.accepted S.verified (ExchangesFrames T.contents T.remaining) key token options (options.state ≡ None) stream left input status (Some old) new)
+        → (text : List ℕ) × (new ≡ Some (old ++ text)) × AllByRecursion (TellsWatched H.digest_of V.accepted text) run.last.monitors }
 {}

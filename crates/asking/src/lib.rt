@@ -36,7 +36,7 @@ mod watching;
 pub use ask_fault::AskFault;
 pub use asker::Asker;
 pub use checking::hear;
-pub use laws::refusals_have_their_numbers;
+pub use laws::{refusals_have_their_numbers, watched_epochs_are_told};
 pub use order::{AskKeys, AskOrder};
 pub use play::Checks;
 pub use run::RunEnd;
