@@ -17,7 +17,9 @@ pub mod Reports
 pub mod RunFaults
 pub mod Remembering
 pub mod Keeping
+pub mod Owning
 pub mod Runs
+pub mod Saves
 pub mod Visiting
 pub mod Watching
 pub mod Told

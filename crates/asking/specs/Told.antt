@@ -1,5 +1,7 @@
 -- What was told of the epochs that monitors watched.
-use Rattle.std.specs.Prelude.{◌≡◌, ℕ, List, ◌++◌, Contains}
+use Rattle.std.specs.Prelude.{◌≡◌, ◌⊎◌, ℕ, List, ◌++◌, Contains, Option, Some}
+use Rattle.std.specs.List.{AllByRecursion}
+use Rattle.rootchain.specs.declared.signed_promise.SignedPromise.{SignedPromise}
 use Rattle.rootchain.specs.declared.signed_root.SignedRoot.{SignedRoot}
 use Rattle.proofs.specs.Accepts.{stated}
 use Rattle.proofs.specs.Comparisons.{IsAcceptedReply}
@@ -34,3 +36,18 @@ pub record IsTold (hash : List ℕ → List ℕ) (accepted verified : List ℕ �
 -- the chain has a root with the body of this one
 abbrev pub HasBody : KeyedRoots → SignedRoot → Type 0
 HasBody chain root = (own : SignedRoot) × Contains chain.roots own × (own.body ≡ root.body)
+
+-- What an owner expects of a name: given keys, and promises for changes of the owner's own.
+module _ (Given : List ℕ → Option (List ℕ) → Type 0) (Own : SignedPromise → Type 0) where
+  -- the key is promised for a change of the owner's own
+  abbrev pub IsOwnKey : List ℕ → List ℕ → Type 0
+  IsOwnKey name key = (signed : SignedPromise) × Own signed × (signed.promise.name ≡ name) × (signed.promise.key ≡ key)
+
+  -- the watch expects at first what was given, or such a key, and later such keys alone
+  pub record IsOwners (name : List ℕ) (watch : Watch) : Type 0 where
+    pub start : ((given : Option (List ℕ)) × Given name given × (watch.start ≡ given)) ⊎ ((key : List ℕ) × IsOwnKey name key × (watch.start ≡ Some key))
+    pub changes : AllByRecursion (λ (change : ℕ × List ℕ). IsOwnKey name change.1) watch.changes
+
+  -- it is told of the root for the name, against what its owner expects there
+  abbrev pub TellsEpoch : (List ℕ → List ℕ) → (List ℕ → List ℕ → List ℕ → Type 0) → List ℕ → List ℕ → SignedRoot → Type 0
+  TellsEpoch hash accepted text name root = (watch : Watch) × IsOwners name watch × IsToldAt hash accepted text name watch root

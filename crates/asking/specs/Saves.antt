@@ -1,0 +1,56 @@
+-- What a run does to the files of its state, and what these say at each time.
+use Rattle.std.specs.Prelude.{◌≡◌, ◌⊎◌, ℕ, ◌<◌, ◌≤◌, List, [], ◌∷◌, ◌++◌, Contains, Option, Some}
+use Rattle.rootchain.specs.declared.signed_promise.SignedPromise.{SignedPromise}
+use Rattle.rootchain.specs.declared.signed_root.SignedRoot.{SignedRoot}
+use Rattle.memory.specs.Memories.{nothing, Memory}
+use Rattle.memory.specs.declared.mark.Mark.{Mark}
+use Rattle.asking.specs.Told.{TellsEpoch}
+
+-- what the files of a state have: the roots of a chain, and what is remembered
+pub record Stored : Type 0 where
+  pub roots : List SignedRoot
+  pub known : Memory
+
+abbrev pub stored_nothing : Stored
+stored_nothing = record { roots = []; known = nothing }
+
+-- What happens to them, with what was written to the output before it. Roots are added, or this is to be remembered; after
+-- a fault they may have what they had.
+pub data Act : Type 0 where
+  Loads : Stored → Act
+  AddsRoots : List SignedRoot → Option (List ℕ) → Act
+  Remembers : Memory → Option (List ℕ) → Act
+
+-- what they have after all this, the latest first
+abbrev pub stored_after : List Act → Stored
+stored_after [] = stored_nothing
+stored_after (Loads stored ∷ acts) = stored
+stored_after (AddsRoots more out ∷ acts) = record { roots = (stored_after acts).roots ++ more; known = (stored_after acts).known }
+stored_after (Remembers known out ∷ acts) = record { roots = (stored_after acts).roots; known = known }
+
+-- a mark of the same name, of which the watching begins no later
+abbrev pub HasMark : List Mark → Mark → Type 0
+HasMark marks old = (mark : Mark) × Contains marks mark × (mark.name ≡ old.name) × (mark.since ≤ old.since)
+
+-- the root is an old one, whose epoch was watched for the name before
+abbrev pub WasStored : Stored → List ℕ → SignedRoot → Type 0
+WasStored before name root = Contains before.roots root
+    × ((mark : Mark) × Contains before.known.marks mark × (mark.name ≡ name) × (mark.since < root.body.epoch) × (root.body.epoch ≤ mark.epoch))
+
+module _ (hash : List ℕ → List ℕ) (accepted : List ℕ → List ℕ → List ℕ → Type 0) (Given : List ℕ → Option (List ℕ) → Type 0) (Own : SignedPromise → Type 0) where
+  -- What files have that had something else before a run, where this text was written in it: roots are added alone, and no
+  -- mark is lost; of each root up to a mark it was told, or the root's epoch had been watched before.
+  pub record KeepsTold (before : Stored) (text : List ℕ) (after : Stored) : Type 0 where
+    pub grows : (more : List SignedRoot) × (after.roots ≡ before.roots ++ more)
+    pub stays : (old : Mark) → Contains before.known.marks old → HasMark after.known.marks old
+    pub told : (mark : Mark) → Contains after.known.marks mark → (root : SignedRoot) → Contains after.roots root → mark.since < root.body.epoch → root.body.epoch ≤ mark.epoch
+        → TellsEpoch Given Own hash accepted text mark.name root ⊎ WasStored before mark.name root
+
+  -- so it is after each of these acts of a run, the latest first, before which the output had this text
+  abbrev pub AllKeepTold : Stored → List ℕ → List Act → Type 0
+  AllKeepTold before old [] = ⊥
+  AllKeepTold before old (Loads stored ∷ acts) = (stored ≡ before) × (acts ≡ [])
+  AllKeepTold before old (AddsRoots more out ∷ acts) =
+      AllKeepTold before old acts × ((text : List ℕ) × (out ≡ Some (old ++ text)) × KeepsTold before text (stored_after (AddsRoots more out ∷ acts)))
+  AllKeepTold before old (Remembers known out ∷ acts) =
+      AllKeepTold before old acts × ((text : List ℕ) × (out ≡ Some (old ++ text)) × KeepsTold before text (stored_after (Remembers known out ∷ acts)))
