@@ -12,6 +12,7 @@ ghost use Rattle.client.specs.Clients.{with_promise};
 ghost use Rattle.asking.specs.Runs.{IsSameAsker, StillKeeps};
 
 use crate::Asker;
+use client::Client;
 use hex::FromHexError;
 use memory::{Item, Mark, Memory, Promised, ReadFault, first_line, read_item, read_memory};
 use nodehash::NodeHash;
@@ -218,22 +219,31 @@ where
             Err(why) => Err(fault_of(&why, number)),
         }
     }
+}
 
-    /// The lines of the roots above an epoch.
-    pub(crate) fn lines_after(&self, epoch: u64) -> Result<Vec<u8>, AllocError> {
-        let mut text = Vec::new(self.alloc);
-        let mut last = epoch;
-        // Every loop of Rattle has an end: this one's is past any chain.
-        for _ in 0..u64::MAX {
-            let Some(root) = self.client.chain().after(last) else {
-                break;
-            };
-            push_hex(&mut text, root.write().bytes())?;
-            text.push(b'\n')?;
-            last = root.body.epoch;
-        }
-        Ok(text)
+/// The lines of the roots of a client's chain above an epoch.
+pub(crate) fn roots_text<H, V, S>(
+    alloc: Global,
+    client: &Client<H, V, S>,
+    epoch: u64,
+) -> Result<Vec<u8>, AllocError>
+where
+    H: NodeHash + Drop,
+    V: VufCheck + Drop,
+    S: Verifier + Drop,
+{
+    let mut text = Vec::new(alloc);
+    let mut last = epoch;
+    // Every loop of Rattle has an end: this one's is past any chain.
+    for _ in 0..u64::MAX {
+        let Some(root) = client.chain().after(last) else {
+            break;
+        };
+        push_hex(&mut text, root.write().bytes())?;
+        text.push(b'\n')?;
+        last = root.body.epoch;
     }
+    Ok(text)
 }
 
 /// Copies of marks.

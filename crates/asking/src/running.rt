@@ -8,9 +8,11 @@ ghost use Rattle.asking.specs.Exchanges.{ExchangesFrames};
 ghost use Rattle.asking.specs.RunFaults.{AsksInput, IsRunFault};
 ghost use Rattle.asking.specs.Runs.{Grows};
 
+use crate::keeper::Keeper;
 use crate::run::{Run, RunEnd};
 use crate::said::REFUSED;
 use crate::settling::{name_to_settle, settle};
+use crate::state_files::StateFiles;
 use crate::{AskKeys, AskOrder, Checks};
 use encoding::Hash32;
 use nodehash::NodeHash;
@@ -137,9 +139,10 @@ where
     let _set = stream.set_nodelay(true);
     let _set = stream.set_read_timeout(Some(Duration::from_secs(SECONDS)));
     let _set = stream.set_write_timeout(Some(Duration::from_secs(SECONDS)));
+    let mut keeper = StateFiles::new(alloc, system, order.state.unwrap_or(""))?;
     let ended = ask_over(
         alloc,
-        system,
+        &mut keeper,
         &mut stream,
         Checks::keyed(keys.signing_key),
         keys,
@@ -157,9 +160,9 @@ where
 /// # Errors
 ///
 /// Those of `ask`, but `BadHex`.
-pub fn ask_over<'a, F, T, R, W, E, H, V, S>(
+pub fn ask_over<'a, K, T, R, W, E, H, V, S>(
     alloc: Global,
-    files: &'a F,
+    keeper: &mut K,
     stream: &mut T,
     checks: Checks<H, V, S>,
     keys: AskKeys,
@@ -169,7 +172,7 @@ pub fn ask_over<'a, F, T, R, W, E, H, V, S>(
     errors: &mut E,
 ) -> Result<RunEnd, ProgramFault>
 where
-    F: Files<File = File>,
+    K: Keeper,
     T: Read + Write,
     R: BufRead,
     W: Write,
@@ -185,7 +188,7 @@ where
     ensures unread { ¬ AsksInput (ask_values order.entry).words → reader.new ≡ reader.old }
     ensures grows { Grows (W.contents writer.old) (W.contents writer.new) }
 {
-    let mut run = Run::new(alloc, files, order.state)?;
-    let outcome = run.ask(stream, checks, &keys, order, reader, writer, errors);
+    let mut run = Run::new(alloc, order.state.is_some());
+    let outcome = run.ask(keeper, stream, checks, &keys, order, reader, writer, errors);
     run.end(outcome, writer, errors)
 }
