@@ -87,3 +87,8 @@ module _ (hash : List ℕ → List ℕ) (accepted : List ℕ → List ℕ → Li
       AllKeepTold before old acts × ((text : List ℕ) × (out ≡ Some (old ++ text)) × KeepsTold before text (stored_after (AddsRoots more out ∷ acts)))
   AllKeepTold before old (Remembers known out ∷ acts) =
       AllKeepTold before old acts × ((text : List ℕ) × (out ≡ Some (old ++ text)) × KeepsTold before text (stored_after (Remembers known out ∷ acts)))
+
+-- What happened in a run to what is kept: nothing, or acts after each of which all that it had watched was told. Some lines
+-- were asked under this key, and the output had this text before.
+abbrev pub LeavesTold : (List ℕ → List ℕ) → (List ℕ → List ℕ → List ℕ → Type 0) → (List ℕ → List ℕ → List ℕ → Type 0) → Option (List (List ℕ)) → List ℕ → List ℕ → (List Act → Type 0) → Type 0
+LeavesTold hash accepted verified lines key old Happened = (acts : List Act) × Happened acts × ((acts ≡ []) ⊎ ((start : Stored) × AllKeepTold hash accepted (IsAsked lines) (IsSignedBy verified key) start old acts))

@@ -1,14 +1,17 @@
 -- Where a run stands to what it keeps.
 use Rattle.std.specs.Prelude.{◌≡◌, ◌⊎◌, ℕ, ◌≤◌, List, ◌++◌, Contains, Option, Some, None, ⊤}
+use Rattle.std.specs.List.{AllByRecursion}
 use Rattle.rootchain.specs.declared.signed_root.SignedRoot.{SignedRoot}
 use Rattle.rootchain.specs.Chains.{IsHead}
 use Rattle.client.specs.Clients.{Client}
-use Rattle.memory.specs.Memories.{Memory}
+use Rattle.memory.specs.Memories.{nothing, Memory}
 use Rattle.memory.specs.declared.mark.Mark.{Mark}
 use Rattle.monitor.specs.Monitors.{Monitor}
+use Rattle.play.specs.Scripts.{line_of, Watch}
 use Rattle.asking.specs.Owning.{Owns}
-use Rattle.asking.specs.Saves.{stored_after, Act, AllKeepTold, HasOneOfEachName, IsAsked, IsSignedBy, KeepsTold, Stored}
+use Rattle.asking.specs.Saves.{stored_after, stored_by, stored_nothing, Act, AllKeepTold, AreWithin, HasOneOfEachName, IsAsked, IsHeadEpoch, Loads, Remembers, IsSignedBy, KeepsTold, Stored}
 use Rattle.asking.specs.Scenes.{Scene}
+use Rattle.asking.specs.declared.asker.Asker.{Asker}
 use Rattle.asking.specs.declared.state.State.{State}
 
 -- each mark has nothing above this epoch, or nothing at all
@@ -58,3 +61,47 @@ module _ (hash : List ℕ → List ℕ) (accepted verified : List ℕ → List �
 -- the head of the client's chain is not above this epoch
 abbrev pub IsUpTo : Client → ℕ → Type 0
 IsUpTo client epoch = (head : SignedRoot) → IsHead client.chain head → head.body.epoch ≤ epoch
+
+-- the client follows the key of what asks, which signed each promise for a change of its own
+abbrev pub IsReady : {H V S : Type 0} → (List ℕ → List ℕ → List ℕ → Type 0) → Asker H V S → Type 0
+IsReady verified asker = (asker.client.chain.key ≡ asker.key) × AllByRecursion (IsSignedBy verified asker.key) (asker.earlier.items ++ asker.changes.items)
+
+-- a state in which nothing is kept yet
+abbrev pub IsFresh : Option State → Type 0
+IsFresh None = ⊤
+IsFresh (Some state) = (state.memory ≡ nothing) × (state.epoch ≡ 0) × (state.is_loaded ≡ false)
+
+module _ (hash : List ℕ → List ℕ) (accepted verified : List ℕ → List ℕ → List ℕ → Type 0) (lines : Option (List (List ℕ))) where
+  -- so a run stands that has a state, where the lines of what was said are not yet written
+  abbrev pub RunStands : {H V S : Type 0} → Stored → List ℕ → (List Act → Type 0) → Asker H V S → List ℕ → Option State → Option (List ℕ) → Type 0
+  RunStands start old Happened asker said None out = ⊤
+  RunStands start old Happened asker said (Some state) out = Stands hash accepted verified lines asker.key start old Happened state.epoch state.memory out (standing asker.client asker.monitors.items said)
+      × (start.known.marks ≡ asker.marks.items) × IsReady verified asker
+
+  -- what a run leaves: nothing was loaded, or all that was kept was told before
+  abbrev pub IsLeft : List ℕ → List ℕ → (List Act → Type 0) → Option State → Option (List ℕ) → Type 0
+  IsLeft key old Happened None out = Happened []
+  IsLeft key old Happened (Some state) out = ((state.is_loaded ≡ false) × Happened []) ⊎ ((start : Stored) × IsKept hash accepted verified lines key start old Happened state.epoch state.memory out)
+
+-- what is asked on a line, where it asks for a name to be watched, is among these lines
+abbrev pub AsksAmong : Option (List (List ℕ)) → List ℕ → Type 0
+AsksAmong lines line = (name : List ℕ) (given : Option (List ℕ)) → line_of line ≡ Some (Watch name given) → IsAsked lines name given
+
+-- what happens where a state is loaded, where nothing is stored, and where it cannot be loaded
+abbrev pub HasLoaded : {H V S : Type 0} → (List Act → Type 0) → (List Act → Type 0) → Asker H V S → Option State → Type 0
+HasLoaded Before After asker None = ⊥
+HasLoaded Before After asker (Some state) = ((acts : List Act) → Before acts → After (Loads (stored_by asker) ∷ acts))
+    × (state.memory ≡ asker.known) × (asker.marks.items ≡ asker.known.marks) × (asker.changes.items ≡ []) × AreWithin asker.client.chain asker.known × HasOneOfEachName asker.known × IsHeadEpoch asker.client.chain state.epoch
+
+abbrev pub HasBegun : (List Act → Type 0) → (List Act → Type 0) → Option State → Option State → Type 0
+HasBegun Before After None after = (after ≡ None) × ((acts : List Act) → Before acts → After acts)
+HasBegun Before After (Some before) after = (state : State) × (after ≡ Some state) × ((acts : List Act) → Before acts → After (Loads stored_nothing ∷ acts)) × (state.memory ≡ before.memory) × (state.epoch ≡ before.epoch)
+
+abbrev pub HasFailed : (List Act → Type 0) → (List Act → Type 0) → Option State → Option State → Type 0
+HasFailed Before After None after = ⊥
+HasFailed Before After (Some before) after = (state : State) × (after ≡ Some state) × ((acts : List Act) → Before acts → After acts) × (state.is_loaded ≡ before.is_loaded)
+
+-- what happens at the end: nothing, or all is handed on once more, if it was loaded
+abbrev pub LeavesState : (List Act → Type 0) → List Act → Option State → Option (List ℕ) → Type 0
+LeavesState After acts None out = After acts
+LeavesState After acts (Some state) out = After acts ⊎ ((state.is_loaded ≡ true) × ((known : Memory) × (known.marks ≡ state.memory.marks) × After (Remembers known out ∷ acts)))

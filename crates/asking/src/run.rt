@@ -18,7 +18,9 @@ ghost use Rattle.asking.specs.declared.ask_fault.RunFault.TheVariants.{Program};
 ghost use Rattle.asking.specs.declared.run.RunEnd.TheVariants.{Whole, Stopped};
 ghost use Rattle.asking.specs.declared.said.TheConstants.{ALARM};
 ghost use Rattle.asking.specs.Scenes.{scene, Scene, StartsAtHead};
+ghost use Rattle.asking.specs.Saves.{Act, LeavesTold, Stored};
 ghost use Rattle.asking.specs.Settling.{settled_text};
+ghost use Rattle.asking.specs.Standing.{standing, AsksAmong, HasBegun, HasFailed, HasLoaded, IsFresh, IsLeft, IsUpTo, LeavesState, RunStands, StateIsKept, StateStands};
 ghost use Rattle.memory.specs.Memories.{Memory};
 
 use crate::ask_fault::RunFault;
@@ -95,6 +97,7 @@ impl Run {
     pub(crate) fn new(alloc: Global, has_state: bool) -> Self
         ensures none { has_state ≡ false → result.state ≡ None }
         ensures some { result.state ≡ None → has_state ≡ false }
+        ensures fresh { IsFresh result.state }
         ensures said { report_of result.said ≡ emptied 0 }
     {
         let state = if has_state {
@@ -194,6 +197,8 @@ impl Run {
             (λ number. IfSome (lines_asked (ask_values order.entry).words (R.remaining reader.old)) (λ lines. IsFirstUnasked 1 lines number)))) }
         ensures part { OnErr result (report_of (self.old).said ≡ emptied 0 → EndsEarly H.digest_of V.accepted S.verified (ExchangesFrames T.contents T.remaining) keys.now.signing_key keys.now.token (ask_values order.entry)
             ((self.old).state ≡ None) stream.old (R.remaining reader.old) (W.contents writer.old) (HoldsBack (W.contents writer.new) (self.new).said)) }
+        ensures kept { IsFresh (self.old).state → (old : List ℕ) (acts : List Act) → W.contents writer.old ≡ Some old → K.has keeper.old acts
+            → LeavesTold H.digest_of V.accepted S.verified (lines_asked (ask_values order.entry).words (R.remaining reader.old)) keys.now.signing_key old (λ done. K.has keeper.new (done ++ acts)) }
         ensures unread { ¬ AsksInput (ask_values order.entry).words → reader.new ≡ reader.old }
         ensures grows { Grows (W.contents writer.old) (W.contents writer.new) }
         ensures rises { (self.old).said.status ≤ (self.new).said.status }
@@ -229,6 +234,8 @@ impl Run {
             (λ number. IfSome (lines_asked (ask_values order.entry).words (R.remaining reader.old)) (λ lines. IsFirstUnasked 1 lines number)))) }
         ensures part { report_of (self.old).said ≡ emptied 0 → EndsEarly H.digest_of V.accepted S.verified (ExchangesFrames T.contents T.remaining) keys.now.signing_key keys.now.token (ask_values order.entry)
             ((self.old).state ≡ None) stream.old (R.remaining reader.old) (W.contents writer.old) (HoldsBack (W.contents writer.new) (self.new).said) }
+        ensures kept { IsFresh (self.old).state → (old : List ℕ) (acts : List Act) → W.contents writer.old ≡ Some old → K.has keeper.old acts
+            → IsLeft H.digest_of V.accepted S.verified (lines_asked (ask_values order.entry).words (R.remaining reader.old)) keys.now.signing_key old (λ done. K.has keeper.new (done ++ acts)) (self.new).state (W.contents writer.new) }
         ensures unread { ¬ AsksInput (ask_values order.entry).words → reader.new ≡ reader.old }
         ensures grows { Grows (W.contents writer.old) (W.contents writer.new) }
         ensures rises { (self.old).said.status ≤ (self.new).said.status }
@@ -255,6 +262,7 @@ impl Run {
         ensures ok { OnOk result (asked ≡ Ok tt) }
         ensures err { IfErr result (λ fault. (asked ≡ Err fault) ⊎ ((asked ≡ Ok tt) × StopsOr IsFaultOfSaving fault)) }
         ensures said { (self.new).said ≡ (self.old).said }
+        ensures hands { (acts : List Act) → K.has keeper.old acts → LeavesState (K.has keeper.new) acts (self.old).state (W.contents writer.now) }
     {
         let Some(state) = self.state.as_mut() else {
             return asked;
@@ -285,6 +293,10 @@ impl Run {
         ensures said { IfOk result (λ asker. report_of (self.new).said ≡ told_after (report_of (self.old).said) (evidence_again asker.known)) }
         ensures none { OnErr result (BeginsNone S.verified (ExchangesFrames T.contents T.remaining) keys.now.signing_key stream.old (report_of (self.old).said) (report_of (self.new).said)) }
         ensures faults { IfErr result (StopsOr (λ fault. ((¬ ((self.old).state ≡ None)) × IsFaultOfState fault) ⊎ (fault ≡ OutOfMemory))) }
+        ensures stands { IfOk result (λ asker. IsFresh (self.old).state → (lines : Option (List (List ℕ))) (old : List ℕ) (acts : List Act) → K.has keeper.old acts
+            → (start : Stored) × RunStands H.digest_of V.accepted S.verified lines start old (λ done. K.has keeper.new (done ++ acts)) asker [] (self.new).state (Some old)) }
+        ensures left { OnErr result (IsFresh (self.old).state → (lines : Option (List (List ℕ))) (old : List ℕ) (acts : List Act) → K.has keeper.old acts
+            → IsLeft H.digest_of V.accepted S.verified lines keys.now.signing_key old (λ done. K.has keeper.new (done ++ acts)) (self.new).state (Some old)) }
         ensures still { ((self.new).state ≡ None) ↔ ((self.old).state ≡ None) }
         ensures rises { (self.old).said.status ≤ (self.new).said.status }
     {
@@ -323,6 +335,9 @@ impl Run {
         ensures knows { IfOk result (λ loaded. IfOk loaded (λ asker. (asker.key ≡ keys.now.signing_key) × (asker.token ≡ keys.now.token) × (asker.monitors.items ≡ []))) }
         ensures sound { IfOk result (λ loaded. IfOk loaded (λ asker. IsSoundFor H.digest_of V.accepted S.verified keys.now.signing_key asker.client)) }
         ensures kept { IfOk result (λ loaded. IfOk loaded (λ asker. KeepsAll asker.client asker.earlier.items)) }
+        ensures loads { IfOk result (λ loaded. IfOk loaded (λ asker. HasLoaded (K.has keeper.old) (K.has keeper.new) asker (self.new).state)) }
+        ensures fresh { IfOk result (λ loaded. IfErr loaded (λ unused. HasBegun (K.has keeper.old) (K.has keeper.new) (self.old).state (self.new).state)) }
+        ensures fails { OnErr result (HasFailed (K.has keeper.old) (K.has keeper.new) (self.old).state (self.new).state) }
         ensures err { IfErr result IsFaultOfState }
         ensures still { ((self.new).state ≡ None) ↔ ((self.old).state ≡ None) }
         ensures said { report_of (self.new).said ≡ report_of (self.old).said }
@@ -389,6 +404,9 @@ impl Run {
             (scene asker.old (self.old).said stream.old) (W.contents writer.old) (W.contents writer.new) (scene asker.new (self.new).said stream.new)) }
         ensures part { OnErr result ((reached : Scene T) × PreparesSome H.digest_of V.accepted S.verified (ExchangesFrames T.contents T.remaining) (background_of asker.old) ((self.old).state ≡ None) (scene asker.old (self.old).said stream.old) reached
             × HoldsBack (W.contents writer.new) (self.new).said reached.told (W.contents writer.old)) }
+        ensures stands { (lines : Option (List (List ℕ))) (start : Stored) (old : List ℕ) (acts : List Act) → RunStands H.digest_of V.accepted S.verified lines start old (λ done. K.has keeper.old (done ++ acts)) asker.old (self.old).said.text.items (self.old).state (W.contents writer.old)
+            → StateIsKept H.digest_of V.accepted S.verified lines (asker.old).key start old (λ done. K.has keeper.new (done ++ acts)) (self.new).state (W.contents writer.new)
+            × OnOk result (RunStands H.digest_of V.accepted S.verified lines start old (λ done. K.has keeper.new (done ++ acts)) asker.new (self.new).said.text.items (self.new).state (W.contents writer.new)) }
         ensures stays { background_of asker.new ≡ background_of asker.old }
         ensures faults { IfErr result (StopsOr IsFaultOfSaving) }
         ensures grows { Grows (W.contents writer.old) (W.contents writer.new) }
@@ -464,6 +482,8 @@ impl Run {
             (scene asker.old (self.old).said stream.old) (W.contents writer.old) (W.contents writer.new) (scene asker.new (self.new).said stream.new))) }
         ensures part { IfSome (R.remaining reader.old) (λ input. (told : Report) × (now : Option (List ℕ)) × AsksPart H.digest_of V.accepted S.verified (ExchangesFrames T.contents T.remaining) (background_of asker.old) (lines_of input)
             (scene asker.old (self.old).said stream.old) told (W.contents writer.old) now × HoldsBack (W.contents writer.new) (self.new).said told now) }
+        ensures stands { (start : Stored) (old : List ℕ) (acts : List Act) → RunStands H.digest_of V.accepted S.verified (option_map lines_of (R.remaining reader.old)) start old (λ done. K.has keeper.old (done ++ acts)) asker.old (self.old).said.text.items (self.old).state (W.contents writer.old)
+            → StateIsKept H.digest_of V.accepted S.verified (option_map lines_of (R.remaining reader.old)) (asker.old).key start old (λ done. K.has keeper.new (done ++ acts)) (self.new).state (W.contents writer.new) }
         ensures faults { IfErr result (StopsOr (IsFaultWith ⊥ ⊤ (λ number. IfSome (R.remaining reader.old) (λ input. IsFirstUnasked 1 (lines_of input) number)))) }
         ensures grows { Grows (W.contents writer.old) (W.contents writer.new) }
         ensures rises { (self.old).said.status ≤ (self.new).said.status }
@@ -502,6 +522,10 @@ impl Run {
             (scene asker.old (self.old).said stream.old) (W.contents writer.old) (W.contents writer.new) (scene asker.new (self.new).said stream.new)) }
         ensures part { (reached : Scene T) × AsksSomeLine H.digest_of V.accepted S.verified (ExchangesFrames T.contents T.remaining) (background_of asker.old) line.now (scene asker.old (self.old).said stream.old) reached
             × HoldsBack (W.contents writer.new) (self.new).said reached.told (W.contents writer.old) }
+        ensures stands { (lines : Option (List (List ℕ))) (start : Stored) (old : List ℕ) (acts : List Act) → AsksAmong lines line.now
+            → RunStands H.digest_of V.accepted S.verified lines start old (λ done. K.has keeper.old (done ++ acts)) asker.old (self.old).said.text.items (self.old).state (W.contents writer.old)
+            → StateIsKept H.digest_of V.accepted S.verified lines (asker.old).key start old (λ done. K.has keeper.new (done ++ acts)) (self.new).state (W.contents writer.new)
+            × OnOk result (RunStands H.digest_of V.accepted S.verified lines start old (λ done. K.has keeper.new (done ++ acts)) asker.new (self.new).said.text.items (self.new).state (W.contents writer.new)) }
         ensures stays { background_of asker.new ≡ background_of asker.old }
         ensures faults { IfErr result (StopsOr (λ fault. IsFaultOfSaving fault ⊎ ((fault ≡ NotACommand number) × CannotBeAsked (line_of line.now)))) }
         ensures grows { Grows (W.contents writer.old) (W.contents writer.new) }
@@ -539,6 +563,12 @@ impl Run {
         ensures writes { OnOk result (Appends (W.contents writer.old) (W.contents writer.new) (self.old).said.text.items × (report_of (self.new).said ≡ emptied (self.old).said.status)) }
         ensures leaves { HoldsBack (W.contents writer.new) (self.new).said (report_of (self.old).said) (W.contents writer.old) }
         ensures keeps { IsSettled result → KeepsUp asker.now (self.old).said.text.items (self.old).state (self.new).state }
+        ensures kept { (lines : Option (List (List ℕ))) (key : List ℕ) (start : Stored) (old : List ℕ) (acts : List Act) → StateIsKept H.digest_of V.accepted S.verified lines key start old (λ done. K.has keeper.old (done ++ acts)) (self.old).state (W.contents writer.old)
+            → (asked ≢ Err NoMemory → StateStands H.digest_of V.accepted S.verified lines key start old (λ done. K.has keeper.old (done ++ acts)) (self.old).state (W.contents writer.old) (standing asker.now.client asker.now.monitors.items (self.old).said.text.items))
+            → StateIsKept H.digest_of V.accepted S.verified lines key start old (λ done. K.has keeper.new (done ++ acts)) (self.new).state (W.contents writer.new) }
+        ensures stands { OnOk result ((lines : Option (List (List ℕ))) (key : List ℕ) (start : Stored) (old : List ℕ) (acts : List Act)
+            → StateStands H.digest_of V.accepted S.verified lines key start old (λ done. K.has keeper.old (done ++ acts)) (self.old).state (W.contents writer.old) (standing asker.now.client asker.now.monitors.items (self.old).said.text.items)
+            → StateStands H.digest_of V.accepted S.verified lines key start old (λ done. K.has keeper.new (done ++ acts)) (self.new).state (W.contents writer.new) (standing asker.now.client asker.now.monitors.items [])) }
         ensures faults { IfErr result (StopsOr IsFaultOfSaving) }
         ensures grows { Grows (W.contents writer.old) (W.contents writer.new) }
         ensures status { (self.new).said.status ≡ (self.old).said.status }
@@ -578,6 +608,12 @@ impl Run {
         V: VufCheck + Drop,
         S: Verifier + Drop,
         ensures adds { OnOk result (AddsTo asker.now told.now (self.old).state (self.new).state) }
+        ensures kept { (lines : Option (List (List ℕ))) (key : List ℕ) (start : Stored) (old : List ℕ) (acts : List Act) → StateIsKept H.digest_of V.accepted S.verified lines key start old (λ done. K.has keeper.old (done ++ acts)) (self.old).state (W.contents writer.now)
+            → StateIsKept H.digest_of V.accepted S.verified lines key start old (λ done. K.has keeper.new (done ++ acts)) (self.new).state (W.contents writer.now) }
+        ensures stands { OnOk result ((lines : Option (List (List ℕ))) (key : List ℕ) (start : Stored) (old : List ℕ) (acts : List Act) (said : List ℕ)
+            → StateStands H.digest_of V.accepted S.verified lines key start old (λ done. K.has keeper.old (done ++ acts)) (self.old).state (W.contents writer.now) (standing asker.now.client asker.now.monitors.items said)
+            → StateStands H.digest_of V.accepted S.verified lines key start old (λ done. K.has keeper.new (done ++ acts)) (self.new).state (W.contents writer.now) (standing asker.now.client asker.now.monitors.items said)) }
+        ensures up_to { OnOk result (IfSome (self.new).state (λ state. IsUpTo asker.now.client state.epoch)) }
         ensures said { (self.new).said ≡ (self.old).said }
         ensures err { IfErr result IsFaultOfSaving }
     {
@@ -604,6 +640,10 @@ impl Run {
         V: VufCheck + Drop,
         S: Verifier + Drop,
         ensures saves { OnOk result (asked.now ≢ Err NoMemory → SavesTo asker.now told.now (self.old).state (self.new).state) }
+        ensures kept { (lines : Option (List (List ℕ))) (key : List ℕ) (start : Stored) (old : List ℕ) (acts : List Act) → IfSome (self.old).state (λ state. IsUpTo asker.now.client state.epoch)
+            → StateStands H.digest_of V.accepted S.verified lines key start old (λ done. K.has keeper.old (done ++ acts)) (self.old).state (W.contents writer.now) (standing asker.now.client asker.now.monitors.items [])
+            → StateStands H.digest_of V.accepted S.verified lines key start old (λ done. K.has keeper.new (done ++ acts)) (self.new).state (W.contents writer.now) (standing asker.now.client asker.now.monitors.items []) }
+        ensures none { asked.now ≡ Err NoMemory → ((self.new).state ≡ (self.old).state) × (keeper.new ≡ keeper.old) }
         ensures said { (self.new).said ≡ (self.old).said }
         ensures err { IfErr result IsFaultOfSaving }
     {

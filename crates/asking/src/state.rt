@@ -1,6 +1,6 @@
 // The state of a run: what is remembered, and what of it was handed on to be kept. Each line is handed on before more is
 // told.
-ghost use Rattle.std.specs.Prelude.{◌≡◌, ◌⊎◌, ◌+◌, ◌≤◌, ◌++◌, ◌∷◌, ℕ, [], false, List, Option, Contains, drop, length, IfErr, IfOk, OnErr, OnOk};
+ghost use Rattle.std.specs.Prelude.{◌≡◌, ◌⊎◌, ◌+◌, ◌≤◌, ◌++◌, ◌∷◌, ℕ, [], false, true, List, Option, Contains, drop, length, IfErr, IfOk, OnErr, OnOk};
 ghost use Rattle.std.specs.List.{AllByRecursion};
 ghost use Rattle.memory.specs.Leaving.{Leaves, Settles};
 ghost use Rattle.memory.specs.Learning.{AreGone, Each, MarksOne};
@@ -59,7 +59,7 @@ fn behind<A>(elements: &[A], count: usize) -> &[A]
 impl State {
     /// A state that is not loaded.
     pub(crate) fn new(alloc: Global) -> Self
-        ensures { (result.memory ≡ nothing) × (result.epoch ≡ 0) }
+        ensures { (result.memory ≡ nothing) × (result.epoch ≡ 0) × (result.is_loaded ≡ false) }
     {
         State {
             alloc,
@@ -95,7 +95,7 @@ impl State {
         S: Verifier + Drop,
         ensures loads { IfOk result (λ loaded. IfOk loaded (λ asker. (acts : List Act) → K.has keeper.old acts → K.has keeper.new (Loads (stored_by asker) ∷ acts))) }
         ensures fresh { IfOk result (λ loaded. IfErr loaded (λ unused. (acts : List Act) → K.has keeper.old acts → K.has keeper.new (Loads stored_nothing ∷ acts))) }
-        ensures fails { OnErr result ((acts : List Act) → K.has keeper.old acts → K.has keeper.new acts) }
+        ensures fails { OnErr result (((acts : List Act) → K.has keeper.old acts → K.has keeper.new acts) × ((self.new).is_loaded ≡ (self.old).is_loaded)) }
         ensures knows { IfOk result (λ loaded. IfOk loaded (λ asker. (asker.key ≡ key) × (asker.token ≡ token) × (asker.monitors.items ≡ []) × (asker.changes.items ≡ []))) }
         ensures memory { IfOk result (λ loaded. IfOk loaded (λ asker. ((self.new).memory ≡ asker.known) × (asker.marks.items ≡ asker.known.marks))) }
         ensures marks { IfOk result (λ loaded. IfOk loaded (λ asker. AreWithin asker.client.chain asker.known × HasOneOfEachName asker.known × IsHeadEpoch asker.client.chain (self.new).epoch)) }
@@ -324,7 +324,8 @@ impl State {
         ensures err { IfErr result IsFaultOfSaving }
         ensures leaves { OnOk result (((self.old).is_loaded ≡ false) ⊎ Leaves (self.old).tested.items (self.old).memory (self.new).memory) }
         ensures marks { (self.new).memory.marks ≡ (self.old).memory.marks }
-        ensures hands { (acts : List Act) → K.has keeper.old acts → K.has keeper.new acts ⊎ K.has keeper.new (Remembers (self.new).memory (W.contents writer.now) ∷ acts) }
+        ensures hands { (acts : List Act) → K.has keeper.old acts → K.has keeper.new acts ⊎ (((self.old).is_loaded ≡ true) × K.has keeper.new (Remembers (self.new).memory (W.contents writer.now) ∷ acts)) }
+        ensures same { ((self.new).is_loaded ≡ (self.old).is_loaded) × ((self.new).epoch ≡ (self.old).epoch) }
     {
         if !self.is_loaded {
             return Ok(());
