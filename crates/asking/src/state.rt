@@ -3,14 +3,17 @@
 // while a run goes on, the first one ahead of the second, and each line is on the disk before more is told. At the end
 // of a run a new second file, without the lines that no longer hold, takes the place of the old one. A line without its
 // LF was cut short, and is dropped. Contracts do not know what a file holds: `scripts/states.py` shows it.
-ghost use Rattle.std.specs.Prelude.{◌≡◌, ◌⊎◌, ◌+◌, ◌≤◌, ◌++◌, [], List, None, drop, length, IfErr, IfOk, OnOk};
+ghost use Rattle.std.specs.Prelude.{◌≡◌, ◌⊎◌, ◌+◌, ◌≤◌, ◌++◌, [], List, None, drop, length, map, IfErr, IfOk, OnOk};
 ghost use Rattle.textio.specs.declared.program_fault.ProgramFault.TheVariants.{OutOfMemory};
 ghost use Rattle.memory.specs.Leaving.{Leaves, Settles};
 ghost use Rattle.memory.specs.Learning.{AreGone, Each, MarksOne};
+ghost use Rattle.memory.specs.Lists.{HasNoRepeat};
+ghost use Rattle.memory.specs.Memories.{name_of, nothing};
 ghost use Rattle.memory.specs.Texts.{items_text};
 ghost use Rattle.memory.specs.declared.item.Item.{Item as Remembered};
 ghost use Rattle.monitor.specs.Monitors.{Monitor as Watcher};
 ghost use Rattle.asking.specs.Keeping.{LearnsAfter, LearnsBefore, LearnsPromises, MayMove};
+ghost use Rattle.asking.specs.Remembering.{AreWithin};
 ghost use Rattle.asking.specs.Reports.{report_of};
 ghost use Rattle.asking.specs.RunFaults.{IsFaultOfSaving, IsFaultOfState};
 ghost use Rattle.asking.specs.Runs.{IsSameAsker, IsSoundFor, KeepsAll, StillKeeps};
@@ -192,6 +195,9 @@ where
     ensures knows { IfOk result (λ asker. (asker.key ≡ key) × (asker.token ≡ token) × (asker.monitors.items ≡ [])) }
     ensures chain { IfOk result (λ asker. asker.client.chain.key ≡ key) }
     ensures none { IfOk result (λ asker. asker.earlier.items ≡ []) }
+    ensures known { IfOk result (λ asker. asker.known ≡ nothing) }
+    ensures marks { IfOk result (λ asker. asker.marks.items ≡ []) }
+    ensures changes { IfOk result (λ asker. asker.changes.items ≡ []) }
     ensures err { IfErr result IsFaultOfState }
 {
     let line = lines.split(|byte| *byte == b'\n').next().unwrap_or(b"");
@@ -315,6 +321,9 @@ impl<'a> State<'a> {
         ensures same { IsSameAsker asker.old asker.new }
         ensures kept { OnOk result (StillKeeps asker.old asker.new) }
         ensures knows { OnOk result ((self.new).memory ≡ asker.new.known) }
+        ensures chain { asker.new.client.chain ≡ asker.old.client.chain }
+        ensures within { OnOk result (AreWithin asker.old.client.chain asker.new.known) }
+        ensures once { OnOk result (HasNoRepeat (map name_of asker.new.known.marks)) }
         ensures said { report_of said.new ≡ report_of said.old }
         ensures err { IfErr result IsFaultOfState }
     {
