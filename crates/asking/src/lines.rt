@@ -92,6 +92,7 @@ where
         ensures earlier { OnOk result ((own : List Signed) × AreOwnOf (lines_of text.now) own × ((self.new).earlier.items ≡ (self.old).earlier.items ++ own)) }
         ensures formed { OnOk result (AllByRecursion IsSignedPromise (self.old).earlier.items → AllByRecursion IsSignedPromise (self.new).earlier.items) }
         ensures chain { (self.new).client.chain ≡ (self.old).client.chain }
+        ensures changes { (self.new).changes ≡ (self.old).changes }
         ensures within { OnOk result (AreWithin (self.old).client.chain (self.new).known) }
         ensures once { OnOk result (HasNoRepeat (map name_of (self.new).known.marks)) }
         ensures err { IfErr result IsFaultOfState }
@@ -109,6 +110,7 @@ where
         ensures spells { IfOk result (λ memory. Spells text.now (Ok memory)) }
         ensures earlier { OnOk result ((own : List Signed) × AreOwnOf (lines_of text.now) own × ((self.new).earlier.items ≡ (self.old).earlier.items ++ own)) }
         ensures chain { (self.new).client.chain ≡ (self.old).client.chain }
+        ensures changes { (self.new).changes ≡ (self.old).changes }
         ensures within { IfOk result (λ memory. AreWithin (self.old).client.chain memory) }
         ensures err { IfErr result IsFaultOfState }
     {
@@ -157,6 +159,7 @@ where
         ensures takes { OnOk result (TakesLine line.now number memory.old memory.new (Ok tt)) }
         ensures earlier { OnOk result ((own : List Signed) × IsOwnOf line.now own × ((self.new).earlier.items ≡ (self.old).earlier.items ++ own)) }
         ensures chain { (self.new).client.chain ≡ (self.old).client.chain }
+        ensures changes { (self.new).changes ≡ (self.old).changes }
         ensures within { OnOk result (AreWithin (self.old).client.chain memory.old → AreWithin (self.old).client.chain memory.new) }
         ensures err { IfErr result IsFaultOfState }
     {
@@ -178,6 +181,7 @@ where
         ensures earlier { OnOk result (IsSound item.now → (self.new).earlier.items ≡ (self.old).earlier.items ++ own_of item.now) }
         ensures marks { OnOk result (IsWithin (self.old).client.chain item.now) }
         ensures chain { (self.new).client.chain ≡ (self.old).client.chain }
+        ensures changes { (self.new).changes ≡ (self.old).changes }
         ensures err { IfErr result IsFaultOfState }
     {
         match item {
@@ -195,6 +199,7 @@ where
         ensures kept { OnOk result (StillKeeps self.old self.new) }
         ensures earlier { OnOk result (IsSignedPromise promised.now.signed → (self.new).earlier.items ≡ (self.old).earlier.items ++ own_of (items.Promised promised.now)) }
         ensures chain { (self.new).client.chain ≡ (self.old).client.chain }
+        ensures changes { (self.new).changes ≡ (self.old).changes }
         ensures err { IfErr result IsFaultOfState }
     {
         let signed = self.keep_again(&promised.signed, number)?;
@@ -216,6 +221,7 @@ where
         ensures one { IfOk result (λ signed. IsSignedPromise promise.now → signed ≡ promise.now) }
         ensures earlier { (self.new).earlier ≡ (self.old).earlier }
         ensures chain { (self.new).client.chain ≡ (self.old).client.chain }
+        ensures changes { (self.new).changes ≡ (self.old).changes }
         ensures err { IfErr result IsFaultOfState }
     {
         let checks = &mut self.checks;

@@ -324,6 +324,8 @@ impl<'a> State<'a> {
         ensures chain { asker.new.client.chain ≡ asker.old.client.chain }
         ensures within { OnOk result (AreWithin asker.old.client.chain asker.new.known) }
         ensures once { OnOk result (HasNoRepeat (map name_of asker.new.known.marks)) }
+        ensures marks { OnOk result (asker.new.marks.items ≡ asker.new.known.marks) }
+        ensures changes { asker.new.changes ≡ asker.old.changes }
         ensures said { report_of said.new ≡ report_of said.old }
         ensures err { IfErr result IsFaultOfState }
     {

@@ -19,6 +19,7 @@ loop-rest-preserved g c =
       own = own_on (lines_of c.args.text.now) (lines_of c.loop-rest.rest.now) line behind c.args.self.now.earlier.items c.loop-rest.self.earlier.items c.remember_line.new.self.earlier.items one
           c.first_line.ensures.lines is grown c.loop-rest.invariant.own;
       chain = c.remember_line.ensures.chain ∙ c.loop-rest.invariant.chain;
+      changes = c.remember_line.ensures.changes ∙ c.loop-rest.invariant.changes;
       within = within_on c.args.self.now.client.chain c.loop-rest.self.client.chain c.loop-rest.memory c.remember_line.new.memory c.loop-rest.invariant.chain
           c.in_ok-remember_line.ensures.within c.loop-rest.invariant.within;
     }

@@ -17,6 +17,7 @@ invariant-loop-rest g l = record {
   few : l.number + length l.rest ≤ length l.fn.text;
   own : OwnSoFar (lines_of l.fn.text) (lines_of l.rest) l.fn.self.earlier.items l.self.earlier.items;
   chain : l.self.client.chain ≡ l.fn.self.client.chain;
+  changes : l.self.changes ≡ l.fn.self.changes;
   within : AreWithin l.fn.self.client.chain l.memory;
 }
 
