@@ -54,10 +54,7 @@ roots_above epoch roots = filter (λ (root : SignedRoot). nat_lt epoch root.body
 abbrev pub IsHeadEpoch : KeyedRoots → ℕ → Type 0
 IsHeadEpoch chain epoch = (head : SignedRoot) × IsHead chain head × (epoch ≡ head.body.epoch)
 
--- no mark is above the chain's head, and no name has two
-abbrev pub AreWithin : KeyedRoots → Memory → Type 0
-AreWithin chain memory = (mark : Mark) → Contains memory.marks mark → (head : SignedRoot) × IsHead chain head × (mark.epoch ≤ head.body.epoch)
-
+-- no name has two marks
 abbrev pub HasOneOfEachName : Memory → Type 0
 HasOneOfEachName memory = HasNoRepeat (map name_of memory.marks)
 

@@ -1,5 +1,5 @@
 -- Where a run stands to what it keeps.
-use Rattle.std.specs.Prelude.{◌≡◌, ◌⊎◌, ℕ, ◌≤◌, List, ◌++◌, Contains, Option, Some, None, ⊤}
+use Rattle.std.specs.Prelude.{◌≡◌, ◌⊎◌, ℕ, ◌<◌, ◌≤◌, List, [], ◌∷◌, ◌++◌, false, true, Contains, Option, Some, None, ⊤}
 use Rattle.std.specs.List.{AllByRecursion}
 use Rattle.rootchain.specs.declared.signed_root.SignedRoot.{SignedRoot}
 use Rattle.rootchain.specs.Chains.{IsHead}
@@ -9,7 +9,8 @@ use Rattle.memory.specs.declared.mark.Mark.{Mark}
 use Rattle.monitor.specs.Monitors.{Monitor}
 use Rattle.play.specs.Scripts.{line_of, Watch}
 use Rattle.asking.specs.Owning.{Owns}
-use Rattle.asking.specs.Saves.{stored_after, stored_by, stored_nothing, Act, AllKeepTold, AreWithin, HasOneOfEachName, IsAsked, IsHeadEpoch, Loads, Remembers, IsSignedBy, KeepsTold, Stored}
+use Rattle.asking.specs.Remembering.{AreWithin}
+use Rattle.asking.specs.Saves.{stored_after, stored_by, stored_nothing, Act, AllKeepTold, HasOneOfEachName, IsAsked, IsHeadEpoch, Loads, Remembers, IsSignedBy, KeepsTold, Stored}
 use Rattle.asking.specs.Scenes.{Scene}
 use Rattle.asking.specs.declared.asker.Asker.{Asker}
 use Rattle.asking.specs.declared.state.State.{State}
@@ -39,6 +40,8 @@ module _ (hash : List ℕ → List ℕ) (accepted verified : List ℕ → List �
     pub all : AllKeepTold hash accepted (IsAsked lines) (IsSignedBy verified key) start old acts
     pub now : KeepsTold hash accepted (IsAsked lines) (IsSignedBy verified key) start text (stored_after acts)
     pub next : KeepsTold hash accepted (IsAsked lines) (IsSignedBy verified key) start text (record { roots = (stored_after acts).roots; known = known })
+    pub early : (mark : Mark) → Contains start.known.marks mark → (root : SignedRoot) → Contains (stored_after acts).roots root → mark.since < root.body.epoch → root.body.epoch ≤ mark.epoch → Contains start.roots root
+    pub low-start : Fits epoch start.known
     pub low : Fits epoch (stored_after acts).known
     pub low-next : Fits epoch known
     pub begun : HasOneOfEachName start.known

@@ -1,10 +1,11 @@
 // Where a run keeps its state. Contracts know what is handed to it, and what was written to the output before that.
 ghost use Rattle.std.specs.Prelude.{◌≡◌, ◌∷◌, [], List, IfErr, IfOk, OnErr};
 ghost use Rattle.asking.specs.Askers.{asker_changes, asker_client, asker_earlier, asker_key, asker_known, asker_marks, asker_monitors, asker_token};
+ghost use Rattle.asking.specs.Remembering.{AreWithin};
 ghost use Rattle.asking.specs.Reports.{report_of};
 ghost use Rattle.asking.specs.RunFaults.{IsFaultOfSaving, IsFaultOfState};
 ghost use Rattle.asking.specs.Runs.{IsSoundFor, KeepsAll};
-ghost use Rattle.asking.specs.Saves.{roots_above, stored_by, stored_nothing, Act, AddsRoots, AreWithin, HasOneOfEachName, Loads, Remembers};
+ghost use Rattle.asking.specs.Saves.{roots_above, stored_by, stored_nothing, Act, AddsRoots, HasOneOfEachName, Loads, Remembers};
 
 use crate::{Asker, Checks, Said};
 use client::Client;

@@ -9,10 +9,11 @@ ghost use Rattle.memory.specs.Texts.{items_text};
 ghost use Rattle.memory.specs.declared.item.Item.{Item as Remembered};
 ghost use Rattle.monitor.specs.Monitors.{Monitor as Watcher};
 ghost use Rattle.asking.specs.Keeping.{LearnsAfter, LearnsBefore, LearnsPromises, MayMove};
+ghost use Rattle.asking.specs.Remembering.{AreWithin};
 ghost use Rattle.asking.specs.Reports.{report_of};
 ghost use Rattle.asking.specs.RunFaults.{IsFaultOfSaving, IsFaultOfState};
 ghost use Rattle.asking.specs.Runs.{IsSoundFor, KeepsAll};
-ghost use Rattle.asking.specs.Saves.{roots_above, stored_by, stored_nothing, Act, AddsRoots, AreWithin, HasOneOfEachName, IsHeadEpoch, Loads, Remembers, Stored};
+ghost use Rattle.asking.specs.Saves.{roots_above, stored_by, stored_nothing, Act, AddsRoots, HasOneOfEachName, IsHeadEpoch, Loads, Remembers, Stored};
 ghost use Rattle.asking.specs.Standing.{standing, IsKept, IsUpTo, KeepsMarks, Stands};
 
 use crate::keeper::{Keeper, Loaded};

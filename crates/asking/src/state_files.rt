@@ -6,10 +6,11 @@
 ghost use Rattle.std.specs.Prelude.{◌≡◌, ◌⊎◌, ◌≤◌, [], length, IfErr, IfOk, OnOk};
 ghost use Rattle.textio.specs.declared.program_fault.ProgramFault.TheVariants.{OutOfMemory};
 ghost use Rattle.memory.specs.Memories.{nothing};
+ghost use Rattle.asking.specs.Remembering.{AreWithin};
 ghost use Rattle.asking.specs.Reports.{report_of};
 ghost use Rattle.asking.specs.RunFaults.{IsFaultOfSaving, IsFaultOfState};
 ghost use Rattle.asking.specs.Runs.{IsSoundFor, KeepsAll};
-ghost use Rattle.asking.specs.Saves.{AreWithin, HasOneOfEachName};
+ghost use Rattle.asking.specs.Saves.{HasOneOfEachName};
 
 use crate::keeper::{Keeper, Loaded};
 use crate::lines::{fault_of, line_bytes, roots_text};
@@ -176,6 +177,9 @@ where
     ensures knows { IfOk result (λ asker. (asker.key ≡ key) × (asker.token ≡ token) × (asker.monitors.items ≡ [])) }
     ensures chain { IfOk result (λ asker. asker.client.chain.key ≡ key) }
     ensures none { IfOk result (λ asker. asker.earlier.items ≡ []) }
+    ensures known { IfOk result (λ asker. asker.known ≡ nothing) }
+    ensures marks { IfOk result (λ asker. asker.marks.items ≡ []) }
+    ensures changes { IfOk result (λ asker. asker.changes.items ≡ []) }
     ensures err { IfErr result IsFaultOfState }
 {
     let line = lines.split(|byte| *byte == b'\n').next().unwrap_or(b"");
