@@ -20,6 +20,7 @@ pub mod Keeping
 pub mod Owning
 pub mod Runs
 pub mod Saves
+pub mod StateRuns
 pub mod Visiting
 pub mod Watching
 pub mod Told
