@@ -19,6 +19,10 @@ pub mod Rising
 pub mod Told
 pub mod ToldScenes
 pub mod OwnRoots
+pub mod PutMarks
+pub mod KeptTold
+pub mod HeldMarks
+pub mod StateRuns
 pub mod Settled
 pub mod Stepped
 pub mod Stopped

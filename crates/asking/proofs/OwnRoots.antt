@@ -1,5 +1,5 @@
 -- The roots of a monitor's chain are those of the client's, by their bodies.
-use Rattle.std.proofs.Common.{◌≡◌, ◌∙◌, ◌+◌, ◌-◌, ◌<◌, ◌≤◌, ◌⊎◌, ℕ, suc, List, [], ◌∷◌, ◌++◌, length, Contains, Option, Some, ap, arith, get_or, inl, inr, refl, subst, sym}
+use Rattle.std.proofs.Common.{◌≡◌, ◌∙◌, ◌+◌, ◌-◌, ◌<◌, ◌≤◌, ◌⊎◌, ℕ, suc, List, [], ◌∷◌, length, Contains, Option, Some, ap, arith, get_or, inl, inr, refl, subst, sym}
 use Rattle.std.proofs.lemmas.Bool.{cases_lt}
 use Rattle.std.proofs.lemmas.List.Elements.{Contains-append_cases, Contains-append_left, Contains-push}
 use Rattle.std.specs.Prelude.{slice_get}
@@ -9,9 +9,9 @@ use Rattle.client.proofs.Unlikes.{at-place}
 use Rattle.rootchain.proofs.Agreement.{unique}
 use Rattle.rootchain.proofs.Chains.{ascend-linked}
 use Rattle.rootchain.proofs.Walks.{up-to}
-use Rattle.rootchain.specs.Chains.{Ascend, IsAt, IsChain, IsHead, KeyedRoots, Links, Names}
+use Rattle.rootchain.specs.Chains.{Ascend, IsChain, IsHead, KeyedRoots, Links, Names}
 use Rattle.rootchain.specs.Places.{IsFirst, IsPlace}
-use Rattle.rootchain.specs.TakingLists.{PassesOrAdds, Takes, with_roots}
+use Rattle.rootchain.specs.TakingLists.{Takes, with_roots}
 use Rattle.rootchain.specs.declared.chain.placing.Place.TheVariants as place
 use Rattle.rootchain.specs.declared.signed_root.SignedRoot.{SignedRoot}
 use Rattle.rootchain.proofs.Places.{ends}
@@ -92,22 +92,27 @@ module _ (hash : List ℕ → List ℕ) (verified : List ℕ → List ℕ → Li
     unfolding Names
     named earlier later links = links.0.0
 
-    none-between : (low high : SignedRoot) (c : SignedRoot) → Contains chain.roots low → Contains chain.roots high → Contains chain.roots c → high.body.previous_epoch ≡ low.body.epoch → low.body.epoch < high.body.epoch
+    -- a root is the next in the chain behind the epoch that it names
+    named-below : (root c : SignedRoot) → Contains chain.roots root → Contains chain.roots c → root.body.previous_epoch < c.body.epoch → root.body.epoch ≤ c.body.epoch
+    named-below root c has-root has-c above = elim (cases_lt c.body.epoch root.body.epoch) [
+      | inr not-below ↦ not-below
+      | inl below ↦
+          let at-root = at-place chain.roots root has-root in
+          let at-c = at-place chain.roots c has-c in
+          let first : has-c.0 < has-root.0 = in-order c root has-c.0 has-root.0 at-c at-root below in
+          let before = has-root.0 - 1 in
+          let next : before + 1 ≡ has-root.0 = omega (arith, first) in
+          let own = get_or chain.roots before root in
+          let at-own : slice_get chain.roots before ≡ Some own = slice_get-get_or chain.roots before root (omega (arith, next, has-root.1)) in
+          let links : Links hash own (get_or chain.roots (before + 1) root) = is.linked before root (omega (arith, next, has-root.1)) in
+          let same : get_or chain.roots (before + 1) root ≡ root = ap (λ (k : ℕ). get_or chain.roots k root) next ∙ has-root.2 in
+          let epoch : root.body.previous_epoch ≡ own.body.epoch = ap (λ (r : SignedRoot). r.body.previous_epoch) (sym same) ∙ named own (get_or chain.roots (before + 1) root) links in
+          absurd (omega (arith, epoch, above, up-to chain.roots up has-c.0 before c own at-c at-own (omega (arith, first, next))))
+    ]
+
+    none-between : (low high : SignedRoot) (c : SignedRoot) → Contains chain.roots high → Contains chain.roots c → high.body.previous_epoch ≡ low.body.epoch
         → low.body.epoch < c.body.epoch → c.body.epoch < high.body.epoch → ⊥
-    none-between low high c has-low has-high has-c names less above below =
-        let at-low = at-place chain.roots low has-low in
-        let at-high = at-place chain.roots high has-high in
-        let at-c = at-place chain.roots c has-c in
-        let some : has-low.0 < has-high.0 = in-order low high has-low.0 has-high.0 at-low at-high less in
-        let before = has-high.0 - 1 in
-        let next : before + 1 ≡ has-high.0 = omega (arith, some) in
-        let own = get_or chain.roots before high in
-        let at-own : slice_get chain.roots before ≡ Some own = slice_get-get_or chain.roots before high (omega (arith, some, has-high.1)) in
-        let links : Links hash own (get_or chain.roots (before + 1) high) = is.linked before high (omega (arith, next, has-high.1)) in
-        let same : get_or chain.roots (before + 1) high ≡ high = ap (λ (k : ℕ). get_or chain.roots k high) next ∙ has-high.2 in
-        let epoch : own.body.epoch ≡ low.body.epoch = sym (named own (get_or chain.roots (before + 1) high) links) ∙ ap (λ (r : SignedRoot). r.body.previous_epoch) same ∙ names in
-        let first : has-c.0 < has-high.0 = in-order c high has-c.0 has-high.0 at-c at-high below in
-        omega (arith, epoch, above, up-to chain.roots up has-c.0 before c own at-c at-own (omega (arith, first, next)))
+    none-between low high c has-high has-c names above below = omega (arith, below, named-below high c has-high has-c (omega (arith, names, above)))
 
     at-root : (root : SignedRoot) (more : List SignedRoot) (c : SignedRoot) → HasBody chain root → Contains chain.roots c → c.body.epoch ≡ root.body.epoch → (own : SignedRoot) × Contains (root ∷ more) own × (own.body ≡ c.body)
     at-root root more c (copy, there, same) has e =
@@ -119,7 +124,7 @@ module _ (hash : List ℕ → List ℕ) (verified : List ℕ → List ℕ → Li
         let e = ap (λ b. b.epoch) same in
         let e' = ap (λ b. b.epoch) same' in
         let names = ap (λ b. b.previous_epoch) same' ∙ named root next links ∙ sym e in
-        none-between copy copy' c there there' has names (omega (arith, e, e', links.1)) (omega (arith, e, above)) (omega (arith, e', below))
+        none-between copy copy' c there' has names (omega (arith, e, above)) (omega (arith, e', below))
 
     -- so a chain whose roots it has covers all of it from its first root to its last
     covers : (root : SignedRoot) (more : List SignedRoot) (c : SignedRoot) → AllAdjacentBelow (Links hash) (root ∷ more) (length (root ∷ more)) → AllByRecursion (HasBody chain) (root ∷ more) → Contains chain.roots c
@@ -148,3 +153,9 @@ module _ (hash : List ℕ → List ℕ) (verified : List ℕ → List ℕ → Li
             let last : slice_get (root ∷ more) (length more) ≡ Some head = ap (λ (k : ℕ). slice_get (root ∷ more) k) (omega arith) ∙ at' in
             covers root more c linked own' has (omega (arith, ap (λ (r : SignedRoot). r.body.epoch) one, low))
             (λ found is-found. omega (arith, ap (λ (r : SignedRoot). r.body.epoch) (some-same found head (sym is-found ∙ last)), high))
+
+    -- the same of a root of which the chain has the body
+    pub not-between : (root c : SignedRoot) → HasBody chain root → Contains chain.roots c → root.body.previous_epoch < c.body.epoch → root.body.epoch ≤ c.body.epoch
+    not-between root c (copy, there, same) has above =
+        let low = named-below copy c there has (omega (arith, above, ap (λ b. b.previous_epoch) same)) in
+        omega (arith, low, ap (λ b. b.epoch) same)

@@ -48,18 +48,18 @@ tells-same : (one other : Watch) (epoch : ℕ) (statement : Option (List ℕ)) (
 tells-same one other epoch statement Kept same tells = tells ∙ sym same
 tells-same one other epoch statement (Alarm at found) same (differs, is, states) = (λ e. differs (e ∙ same), is, states)
 
+pub told-at_more : (hash : List ℕ → List ℕ) (accepted : List ℕ → List ℕ → List ℕ → Type 0) (text more name : List ℕ) (watch : Watch) (root : SignedRoot) → IsToldAt hash accepted text name watch root → IsToldAt hash accepted (text ++ more) name watch root
+told-at_more hash accepted text more name watch root (bytes, reply, step, is, tells, has) = (bytes, reply, step, is, tells, lines-more text more (step_told name root.body.epoch step).lines has)
+
 module _ (hash : List ℕ → List ℕ) (accepted verified : List ℕ → List ℕ → List ℕ → Type 0) where
   abbrev Told : List ℕ → Monitor → Type 0
   Told = IsTold hash accepted verified
-
-  told-at_more : (text more name : List ℕ) (watch : Watch) (root : SignedRoot) → IsToldAt hash accepted text name watch root → IsToldAt hash accepted (text ++ more) name watch root
-  told-at_more text more name watch root (bytes, reply, step, is, tells, has) = (bytes, reply, step, is, tells, lines-more text more (step_told name root.body.epoch step).lines has)
 
   pub told-more : (text more : List ℕ) (monitor : Monitor) → Told text monitor → Told (text ++ more) monitor
   told-more text more monitor told = record {
     chain = told.chain;
     is = told.is;
-    tells = λ root watched. told-at_more text more monitor.name monitor.watch root (told.tells root watched);
+    tells = λ root watched. told-at_more hash accepted text more monitor.name monitor.watch root (told.tells root watched);
   }
 
   -- a monitor that begins has watched nothing
@@ -114,7 +114,7 @@ module _ (hash : List ℕ → List ℕ) (accepted verified : List ℕ → List �
           let same : own.body.epoch ≡ root.body.epoch = omega (arith, least, watched.2) in
           let one : own ≡ root = unique before.client.chain (ascend-linked hash before.client.chain.roots told.chain.linked) root.body.epoch own root (watched.0, same) (next.0, refl) in
           subst (IsToldAt hash accepted (text ++ (step_told before.name epoch step).lines) before.name before.watch) (sym one) at
-      | inr old ↦ told-at_more text (step_told before.name epoch step).lines before.name before.watch own (told.tells own (watched.0, watched.1, old))
+      | inr old ↦ told-at_more hash accepted text (step_told before.name epoch step).lines before.name before.watch own (told.tells own (watched.0, watched.1, old))
     ]
 
   pub told-stepped : (text : List ℕ) (before : Monitor) (epoch : ℕ) (bytes : List ℕ) (step : Step) (after : Monitor) → IsNextEpoch before (Some epoch) → Steps hash accepted before bytes (Ok step) after

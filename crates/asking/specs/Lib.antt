@@ -21,6 +21,7 @@ pub mod Owning
 pub mod Runs
 pub mod Saves
 pub mod Standing
+pub mod StateRuns
 pub mod Visiting
 pub mod Watching
 pub mod Told

@@ -1,4 +1,3 @@
-use Rattle.asking.proofs.OwnRoots.{taken-from, taken-there}
 use Rattle.std.proofs.Common.{◌≡◌, None}
 use Rattle.asking.specs.Exchanges.{ExchangesFrames}
 use Rattle.asking.proofs.ToldScenes.{whole-keeps}
