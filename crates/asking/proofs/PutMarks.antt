@@ -4,11 +4,11 @@ use Rattle.std.specs.Prelude.{nat_lt, if◌then◌else◌, ⊤}
 use Rattle.std.specs.List.{AllByRecursion}
 use Rattle.std.proofs.lemmas.Bool.{ltb-false, ltb-true}
 use Rattle.std.proofs.lemmas.List.{map-append}
-use Rattle.std.proofs.lemmas.List.Elements.{All-contains, Contains-append_cases, Contains-append_left, Contains-append_right}
+use Rattle.std.proofs.lemmas.List.Elements.{All-contains, All-from_recursion, Contains-append_cases, Contains-append_left, Contains-append_right}
 use Rattle.textio.specs.Lines.{lines_of}
 use Rattle.rootchain.specs.declared.signed_promise.SignedPromise.{SignedPromise}
 use Rattle.monitor.specs.Monitors.{Monitor}
-use Rattle.memory.specs.Learning.{promised_item, BeginsBehind, BeginsOne, Each, IsMarkFor, IsOfKind, IsSince, LearnsLine, LearnsOne, MarksOne}
+use Rattle.memory.specs.Learning.{promised_item, BeginsBehind, BeginsOne, Each, IsMarkFor, IsOfKind, LearnsLine, LearnsOne, MarksOne}
 use Rattle.memory.specs.Lists.{HasNoRepeat}
 use Rattle.memory.specs.Memories.{name_of, Memory}
 use Rattle.memory.specs.Taking.{PutsMark, Takes}
@@ -29,6 +29,9 @@ cons-cases x y xs (suc place, within, at) = inr (place, omega (arith, within), a
 
 cons-front : {A : Type 0} (x y : A) (xs : List A) → Contains xs y → Contains (x ∷ xs) y
 cons-front x y xs (place, within, at) = (suc place, omega (arith, within), at)
+
+pub all-in : {A : Type 0} (P : A → Type 0) (xs : List A) (x : A) → AllByRecursion P xs → Contains xs x → P x
+all-in P xs x all has = All-contains P xs x (All-from_recursion P xs all) has
 
 pub all-any : {A : Type 0} (xs : List A) → AllByRecursion (λ (x : A). ⊤) xs
 all-any [] = tt
