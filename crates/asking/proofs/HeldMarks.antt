@@ -1,9 +1,9 @@
 -- The marks that a memory learns in a run are held: all that they say was watched is told.
-use Rattle.std.proofs.Common.{◌≡◌, ◌∙◌, ◌⊎◌, ℕ, suc, ◌-◌, ◌<◌, ◌≤◌, List, [], ◌∷◌, ◌++◌, length, All, Contains, Option, Some, ap, arith, get_or, inl, inr, refl, slice_get, subst, sym}
+use Rattle.std.proofs.Common.{◌≡◌, ◌∙◌, ◌⊎◌, ℕ, suc, ◌-◌, ◌<◌, ◌≤◌, List, [], ◌∷◌, length, All, Contains, Option, Some, ap, arith, get_or, inl, inr, refl, slice_get, subst, sym}
 use Rattle.std.specs.Prelude.{nat_lt, if◌then◌else◌}
 use Rattle.std.specs.List.{AllByRecursion}
 use Rattle.std.proofs.lemmas.Bool.{cases_lt}
-use Rattle.std.proofs.lemmas.List.Elements.{All-cons, All-contains, All-weaker, Contains-get_or}
+use Rattle.std.proofs.lemmas.List.Elements.{All-cons, All-contains, All-from_recursion, All-weaker, Contains-get_or}
 use Rattle.client.proofs.Unlikes.{at-place, is-among}
 use Rattle.rootchain.proofs.Chains.{ascend-linked}
 use Rattle.rootchain.proofs.Places.{ends}
@@ -20,19 +20,19 @@ use Rattle.proofs.specs.Watches.{Watch}
 use Rattle.monitor.specs.Monitors.{Monitor}
 use Rattle.monitor.specs.Stepping.{StepTells}
 use Rattle.memory.specs.Learning.{BeginsBehind, IsSince}
-use Rattle.memory.specs.Memories.{Memory}
 use Rattle.memory.specs.Taking.{PutsMark}
 use Rattle.memory.specs.Watching.{IsWatchedUpTo}
 use Rattle.memory.specs.declared.mark.Mark.{Mark}
-use Rattle.asking.specs.Keeping.{LearnsAfter, LearnsBefore}
 use Rattle.asking.specs.Owning.{HasJoined, IsHeld, IsLeastAbove, IsOwn, WasWatched}
 use Rattle.asking.specs.Told.{HasBody, HasLines, IsToldAt, TellsEpoch}
 use Rattle.asking.specs.Watching.{step_told}
 use Rattle.asking.proofs.OwnRoots.{covers-chain, not-between}
-use Rattle.asking.proofs.Told.{told-at_more}
-use Rattle.asking.proofs.PutMarks.{after-puts, all-in, before-puts, each-keeps, earlier-of, puts-from, IsBegun, IsMoved}
+use Rattle.asking.proofs.PutMarks.{each-keeps, earlier-of, puts-from, EachPuts, IsBegun, IsMoved}
 
 -- ---- roots
+
+all-in : {A : Type 0} (P : A → Type 0) (xs : List A) (x : A) → AllByRecursion P xs → Contains xs x → P x
+all-in P xs x all has = All-contains P xs x (All-from_recursion P xs all) has
 
 -- no root is of an earlier epoch than the first, nor of a later one than the head
 first-least : (roots : List SignedRoot) (first root : SignedRoot) → Ascend roots → slice_get roots 0 ≡ Some first → Contains roots root → first.body.epoch ≤ root.body.epoch
@@ -92,28 +92,24 @@ module _ (hash : List ℕ → List ℕ) (accepted verified : List ℕ → List �
       own-body : (root : SignedRoot) → Contains monitor.client.chain.roots root → HasBody chain root
       own-body root has = all-in (HasBody chain) monitor.client.chain.roots root owns.own has
 
-      -- it begins no later than behind an epoch that one of its roots names
-      begins-named : (root : SignedRoot) (epoch : ℕ) → Contains monitor.client.chain.roots root → root.body.previous_epoch ≡ epoch → (first : SignedRoot) → IsFirst monitor.client.chain first → IsLeastAbove chain epoch first
-      begins-named root epoch among before first at c has above =
-          let least = not-between hash verified chain is root c (own-body root among) has (omega (arith, before, above)) in
-          omega (arith, least, first-least monitor.client.chain.roots first root own-up at among)
-
-      -- so it does behind the epoch before its first root
+      -- it begins no later than behind the epoch before its first root
       begins-behind : (epoch : ℕ) → BeginsBehind monitor epoch → (first : SignedRoot) → IsFirst monitor.client.chain first → IsLeastAbove chain epoch first
-      begins-behind epoch (inl (root, next, before)) = begins-named root epoch next.0 (sym before)
-      begins-behind epoch (inr (none, before)) = λ first at c has above. elim (cases_lt 0 first.body.epoch) [
-        | inl some ↦
-            let least = λ (k : ℕ) (d : SignedRoot) (within : k < length monitor.client.chain.roots) (late : 0 < (get_or monitor.client.chain.roots k d).body.epoch).
-            first-least monitor.client.chain.roots first (get_or monitor.client.chain.roots k d) own-up at (Contains-get_or monitor.client.chain.roots k d within) in
-            absurd (none first (is-among monitor.client.chain.roots 0 first at, some, least))
-        | inr zeroth ↦ omega (arith, zeroth)
+      begins-behind epoch (inl (root, next, before)) first at c has above =
+          let least = not-between hash verified chain is root c (own-body root next.0) has (omega (arith, before, above)) in
+          omega (arith, least, first-least monitor.client.chain.roots first root own-up at next.0)
+      begins-behind epoch (inr (none, before)) first at c has above = elim (cases_lt 0 first.body.epoch) [
+        | inl some ↦ absurd (none first (is-among monitor.client.chain.roots 0 first at, some, λ k d within late. first-least monitor.client.chain.roots first (get_or monitor.client.chain.roots k d) own-up at (Contains-get_or monitor.client.chain.roots k d within)))
+        | inr none ↦ omega (arith, none)
       ]
 
-      -- and behind that up to which it watched
+      -- or behind that up to which it watched
       begins-watched : (epoch : ℕ) → IsWatchedUpTo monitor epoch → (first : SignedRoot) → IsFirst monitor.client.chain first → IsLeastAbove chain epoch first
-      begins-watched epoch (inl (root, next, before)) = begins-named root epoch next.0 before
-      begins-watched epoch (inr (none, (head, last, same))) = λ first at c has above.
-          omega (arith, first-least monitor.client.chain.roots first head own-up at (is-among monitor.client.chain.roots (length monitor.client.chain.roots - 1) head last), same, above)
+      begins-watched epoch (inl (root, next, before)) first at c has above =
+          let least = not-between hash verified chain is root c (own-body root next.0) has (omega (arith, before, above)) in
+          omega (arith, least, first-least monitor.client.chain.roots first root own-up at next.0)
+      begins-watched epoch (inr (none, (head, last, same))) first at c has above =
+          let low = first-least monitor.client.chain.roots first head own-up at (is-among monitor.client.chain.roots (length monitor.client.chain.roots - 1) head last) in
+          omega (arith, low, same, above)
 
       module _ (formed : AllByRecursion IsSignedRoot chain.roots) where
         -- each root is above the one that it names
@@ -168,26 +164,13 @@ module _ (hash : List ℕ → List ℕ) (accepted verified : List ℕ → List �
 
   -- ---- marks
 
-  -- a mark is held where more is told
-  pub held-more : (text more : List ℕ) (marks : List Mark) (chain : KeyedRoots) (monitors : List Monitor) (mark : Mark) → IsHeld hash accepted verified Given Own text marks chain monitors mark
-      → IsHeld hash accepted verified Given Own (text ++ more) marks chain monitors mark
-  held-more text more marks chain monitors mark held = record {
-    low = held.low;
-    told = λ root has above below. elim (held.told root has above below) [
-      | inl (watch, owners, told) ↦ inl (watch, owners, told-at_more hash accepted text more mark.name watch root told)
-      | inr watched ↦ inr watched
-    ];
-    link = held.link;
-  }
-
   -- those that new monitors begin
-  pub begun-held : (text text' : List ℕ) (chain : KeyedRoots) (marks : List Mark) (monitors : List Monitor) (own kept : List SignedPromise) (told : List ℕ) (begun : List Monitor) (before after : Memory)
-      → IsChain hash verified chain → AllByRecursion (IsOwn hash accepted verified Given Own text' chain marks) monitors → AllByRecursion (Contains monitors) begun → LearnsBefore own kept told begun before after
-      → ((mark : Mark) → Contains before.marks mark → IsHeld hash accepted verified Given Own text marks chain monitors mark)
-      → (mark : Mark) → Contains after.marks mark → IsHeld hash accepted verified Given Own text marks chain monitors mark
-  begun-held text text' chain marks monitors own kept told begun before after is owns among learns =
-      each-keeps IsBegun (Contains monitors) (λ known. (mark : Mark) → Contains known mark → IsHeld hash accepted verified Given Own text marks chain monitors mark) keeps
-      begun before.marks after.marks among (before-puts own kept told begun before after learns)
+  pub begun-held : (text text' : List ℕ) (chain : KeyedRoots) (marks : List Mark) (monitors : List Monitor) (begun : List Monitor) (before after : List Mark)
+      → IsChain hash verified chain → AllByRecursion (IsOwn hash accepted verified Given Own text' chain marks) monitors → AllByRecursion (Contains monitors) begun → EachPuts IsBegun begun before after
+      → ((mark : Mark) → Contains before mark → IsHeld hash accepted verified Given Own text marks chain monitors mark)
+      → (mark : Mark) → Contains after mark → IsHeld hash accepted verified Given Own text marks chain monitors mark
+  begun-held text text' chain marks monitors begun before after is owns among puts =
+      each-keeps IsBegun (Contains monitors) (λ known. (mark : Mark) → Contains known mark → IsHeld hash accepted verified Given Own text marks chain monitors mark) keeps begun before after among puts
     where
       new-held : (monitor : Monitor) → Contains monitors monitor → (old : List Mark) (new : Mark) → IsBegun monitor old new → IsHeld hash accepted verified Given Own text marks chain monitors new
       new-held monitor has old new begins = record {
@@ -260,8 +243,8 @@ module _ (hash : List ℕ → List ℕ) (accepted verified : List ℕ → List �
       | inr same ↦ subst (IsHeld hash accepted verified Given Own text marks chain monitors) (sym same) (moved-one monitor among old held new moves)
     ]
 
-    pub moved-held : (told : List ℕ) (some : List Monitor) (before after : Memory) → AllByRecursion (Contains monitors) some → LearnsAfter told monitors some before after
-        → ((mark : Mark) → Contains before.marks mark → IsHeld hash accepted verified Given Own text marks chain monitors mark)
-        → (mark : Mark) → Contains after.marks mark → IsHeld hash accepted verified Given Own text marks chain monitors mark
-    moved-held told some before after among learns =
-        each-keeps (IsMoved monitors) (Contains monitors) (λ known. (mark : Mark) → Contains known mark → Held mark) keeps-held some before.marks after.marks among (after-puts told monitors some before after learns)
+    pub moved-held : (some : List Monitor) (before after : List Mark) → AllByRecursion (Contains monitors) some → EachPuts (IsMoved monitors) some before after
+        → ((mark : Mark) → Contains before mark → IsHeld hash accepted verified Given Own text marks chain monitors mark)
+        → (mark : Mark) → Contains after mark → IsHeld hash accepted verified Given Own text marks chain monitors mark
+    moved-held some before after among puts =
+        each-keeps (IsMoved monitors) (Contains monitors) (λ known. (mark : Mark) → Contains known mark → Held mark) keeps-held some before after among puts

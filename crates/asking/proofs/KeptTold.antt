@@ -1,18 +1,13 @@
 -- What files keep told stays so when roots are added, when more is remembered, and when more is written.
-use Rattle.std.proofs.Common.{◌≡◌, ◌∙◌, ◌⊎◌, ℕ, ◌<◌, ◌≤◌, List, [], ◌++◌, Contains, Option, ap, append-nil, append_assoc, arith, inl, inr, refl, subst, sym}
+use Rattle.std.proofs.Common.{◌≡◌, ◌∙◌, ◌⊎◌, ℕ, ◌<◌, ◌≤◌, List, [], ◌++◌, Contains, Option, ap, append-nil, append_assoc, arith, inl, inr, refl, sym}
 use Rattle.std.specs.List.{AllByRecursion}
-use Rattle.std.proofs.lemmas.List.Elements.{Contains-append_cases}
+use Rattle.std.proofs.lemmas.List.Elements.{All-contains, All-from_recursion, Contains-append_cases}
 use Rattle.rootchain.specs.declared.signed_promise.SignedPromise.{SignedPromise}
 use Rattle.rootchain.specs.declared.signed_root.SignedRoot.{SignedRoot}
-use Rattle.rootchain.specs.Chains.{KeyedRoots}
-use Rattle.monitor.specs.Monitors.{Monitor}
 use Rattle.memory.specs.Memories.{Memory}
 use Rattle.memory.specs.declared.mark.Mark.{Mark}
-use Rattle.asking.specs.Keeping.{LearnsBefore}
-use Rattle.asking.specs.Owning.{IsHeld}
 use Rattle.asking.specs.Saves.{HasMark, KeepsTold, Stored, WasStored}
 use Rattle.asking.specs.Told.{TellsEpoch}
-use Rattle.asking.proofs.PutMarks.{all-in, begun-or-old, stays-before}
 use Rattle.asking.proofs.Told.{told-at_more}
 
 -- a mark of which nothing was watched, or nothing above an epoch, has none of these roots
@@ -46,26 +41,6 @@ module _ (hash : List ℕ → List ℕ) (accepted : List ℕ → List ℕ → Li
     told = λ mark has root among above below. inr (among, (mark, has, refl, above, below));
   }
 
-  -- what is held in a run is kept told in its files, where new roots are of later epochs than the marks of earlier runs
-  pub held-kept : (verified : List ℕ → List ℕ → List ℕ → Type 0) (start : Stored) (text : List ℕ) (roots more : List SignedRoot) (known : Memory) (chain : KeyedRoots) (monitors : List Monitor) (bound : ℕ)
-      → roots ≡ start.roots ++ more → AllByRecursion (λ (root : SignedRoot). bound < root.body.epoch) more → AllByRecursion (Contains chain.roots) roots
-      → ((mark : Mark) → Contains start.known.marks mark → (mark.epoch ≤ mark.since) ⊎ (mark.epoch ≤ bound))
-      → ((mark : Mark) → Contains known.marks mark → IsHeld hash accepted verified Given Own text start.known.marks chain monitors mark)
-      → ((old : Mark) → Contains start.known.marks old → HasMark known.marks old)
-      → KeepsTold hash accepted Given Own start text (record { roots = roots; known = known })
-  held-kept verified start text roots more known chain monitors bound grown new among low held stays = record {
-    grows = (more, grown);
-    stays = stays;
-    told = λ mark has root there above below. elim ((held mark has).told root (all-in (Contains chain.roots) roots root among there) above below) [
-      | inl tells ↦ inl tells
-      | inr (known', has', same, above', below') ↦
-          elim (Contains-append_cases start.roots more root (subst (λ (rs : List SignedRoot). Contains rs root) grown there)) [
-            | inl old ↦ inr (old, (known', has', same, above', below'))
-            | inr late ↦ absurd (none-new known' bound root.body.epoch (low known' has') (all-in (λ (r : SignedRoot). bound < r.body.epoch) more root new late) above' below')
-          ]
-    ];
-  }
-
   module _ (start : Stored) (text : List ℕ) (stored : Stored) (keeps : KeepsTold hash accepted Given Own start text stored) where
     -- new roots are of later epochs than the marks
     pub adds-roots-kept : (more : List SignedRoot) (bound : ℕ) → AllByRecursion (λ (root : SignedRoot). bound < root.body.epoch) more
@@ -76,7 +51,9 @@ module _ (hash : List ℕ → List ℕ) (accepted : List ℕ → List ℕ → Li
       stays = keeps.stays;
       told = λ mark has root among above below. elim (Contains-append_cases stored.roots more root among) [
         | inl old ↦ keeps.told mark has root old above below
-        | inr late ↦ absurd (none-new mark bound root.body.epoch (low mark has) (all-in (λ (r : SignedRoot). bound < r.body.epoch) more root new late) above below)
+        | inr late ↦
+            let later = All-contains (λ (r : SignedRoot). bound < r.body.epoch) more root (All-from_recursion (λ (r : SignedRoot). bound < r.body.epoch) more new) late in
+            absurd (none-new mark bound root.body.epoch (low mark has) later above below)
       ];
     }
 
@@ -92,12 +69,6 @@ module _ (hash : List ℕ → List ℕ) (accepted : List ℕ → List ℕ → Li
         | inr empty ↦ absurd (omega (arith, empty, above, below))
       ];
     }
-
-    -- so are those that a run learns before all is told
-    pub learned-kept : (own kept : List SignedPromise) (told : List ℕ) (begun : List Monitor) (known : Memory) → LearnsBefore own kept told begun stored.known known
-        → KeepsTold hash accepted Given Own start text (record { roots = stored.roots; known = known })
-    learned-kept own kept told begun known learns =
-        remembers-kept known (begun-or-old own kept told begun stored.known known learns) (stays-before own kept told begun start.known.marks stored.known known learns keeps.stays)
 
     -- more is written
     pub text-kept : (more : List ℕ) → KeepsTold hash accepted Given Own start (text ++ more) stored

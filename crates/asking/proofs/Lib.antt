@@ -11,6 +11,7 @@ pub mod Heard
 pub mod Joined
 pub mod Left
 pub mod Listed
+pub mod Marks
 pub mod Placed
 pub mod Ran
 pub mod Recalling

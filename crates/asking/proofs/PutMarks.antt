@@ -1,14 +1,13 @@
 -- How the marks of a memory change in a run: one after another is put among them.
-use Rattle.std.proofs.Common.{◌≡◌, ◌≢◌, ◌∙◌, ◌⊎◌, ℕ, zero, suc, ◌<◌, ◌≤◌, Bool, true, false, List, [], ◌∷◌, ◌++◌, map, All, Contains, ap, arith, inl, inr, refl, subst, sym}
+use Rattle.std.proofs.Common.{◌≡◌, ◌≢◌, ◌∙◌, ◌⊎◌, ℕ, zero, suc, ◌<◌, ◌≤◌, Bool, true, false, List, [], ◌∷◌, ◌++◌, map, All, Contains, ap, append-nil, arith, inl, inr, refl, subst, sym}
 use Rattle.std.specs.Prelude.{nat_lt, if◌then◌else◌, ⊤}
 use Rattle.std.specs.List.{AllByRecursion}
 use Rattle.std.proofs.lemmas.Bool.{ltb-false, ltb-true}
 use Rattle.std.proofs.lemmas.List.{map-append}
-use Rattle.std.proofs.lemmas.List.Elements.{All-contains, All-from_recursion, Contains-append_cases, Contains-append_left, Contains-append_right}
-use Rattle.textio.specs.Lines.{lines_of}
+use Rattle.std.proofs.lemmas.List.Elements.{All-contains, Contains-append_cases, Contains-append_left, Contains-append_right}
 use Rattle.rootchain.specs.declared.signed_promise.SignedPromise.{SignedPromise}
 use Rattle.monitor.specs.Monitors.{Monitor}
-use Rattle.memory.specs.Learning.{promised_item, BeginsBehind, BeginsOne, Each, IsMarkFor, IsOfKind, LearnsLine, LearnsOne, MarksOne}
+use Rattle.memory.specs.Learning.{promised_item, BeginsBehind, BeginsOne, Each, EachOfSome, IsMarkFor, IsOfKind, LearnsLine, LearnsOne, MarksOne}
 use Rattle.memory.specs.Lists.{HasNoRepeat}
 use Rattle.memory.specs.Memories.{name_of, Memory}
 use Rattle.memory.specs.Taking.{PutsMark, Takes}
@@ -18,8 +17,8 @@ use Rattle.memory.specs.declared.kind.Kind.{Kind}
 use Rattle.memory.specs.declared.kind.Kind.TheVariants.{Alarms, EvidenceLines}
 use Rattle.memory.specs.declared.mark.Mark.{Mark}
 use Rattle.memory.proofs.Joined.{push-no_repeat}
-use Rattle.asking.specs.Keeping.{LearnsAfter, LearnsBefore}
 use Rattle.asking.specs.Saves.{HasMark}
+use Rattle.asking.specs.Standing.{KeepsMarks}
 
 -- ---- lists
 
@@ -29,9 +28,6 @@ cons-cases x y xs (suc place, within, at) = inr (place, omega (arith, within), a
 
 cons-front : {A : Type 0} (x y : A) (xs : List A) → Contains xs y → Contains (x ∷ xs) y
 cons-front x y xs (place, within, at) = (suc place, omega (arith, within), at)
-
-pub all-in : {A : Type 0} (P : A → Type 0) (xs : List A) (x : A) → AllByRecursion P xs → Contains xs x → P x
-all-in P xs x all has = All-contains P xs x (All-from_recursion P xs all) has
 
 pub all-any : {A : Type 0} (xs : List A) → AllByRecursion (λ (x : A). ⊤) xs
 all-any [] = tt
@@ -136,7 +132,7 @@ pub record IsBegun (monitor : Monitor) (before : List Mark) (new : Mark) : Type 
   pub behind : BeginsBehind monitor new.epoch
   pub empty : new.since ≡ new.epoch
 
-begins-puts : (monitor : Monitor) (before after : Memory) (news : List Item) → BeginsOne monitor before news after → MayPut (IsBegun monitor) before.marks after.marks
+pub begins-puts : (monitor : Monitor) (before after : Memory) (news : List Item) → BeginsOne monitor before news after → MayPut (IsBegun monitor) before.marks after.marks
 begins-puts monitor before after news (inl (none, (epoch, behind, ((puts, is), changes)))) =
     inr (record { name = monitor.name; since = epoch; epoch = epoch }, record { named = refl; none = none; behind = behind; empty = refl }, puts)
 begins-puts monitor before after news (inr (has, none, same)) = inl (ap (λ (m : Memory). m.marks) same)
@@ -145,11 +141,11 @@ begins-puts monitor before after news (inr (has, none, same)) = inl (ap (λ (m :
 abbrev pub IsMoved : List Monitor → Monitor → List Mark → Mark → Type 0
 IsMoved monitors monitor before new = IsMarkFor monitors before monitor new
 
-marks-puts : (monitors : List Monitor) (monitor : Monitor) (before after : Memory) (news : List Item) → MarksOne monitors monitor before news after → MayPut (IsMoved monitors monitor) before.marks after.marks
+pub marks-puts : (monitors : List Monitor) (monitor : Monitor) (before after : Memory) (news : List Item) → MarksOne monitors monitor before news after → MayPut (IsMoved monitors monitor) before.marks after.marks
 marks-puts monitors monitor before after news (inl (mark, is, ((puts, same), changes))) = inr (mark, is, puts)
 marks-puts monitors monitor before after news (inr (none, nothing, same)) = inl (ap (λ (m : Memory). m.marks) same)
 
-each-puts : {X : Type 0} (Does : X → Memory → List Item → Memory → Type 0) (New : X → List Mark → Mark → Type 0)
+pub each-puts : {X : Type 0} (Does : X → Memory → List Item → Memory → Type 0) (New : X → List Mark → Mark → Type 0)
     → ((x : X) (before after : Memory) (news : List Item) → Does x before news after → MayPut (New x) before.marks after.marks)
     → (xs : List X) (before after : Memory) (news : List Item) → Each Does xs before news after → EachPuts New xs before.marks after.marks
 each-puts Does New puts [] before after news (none, same) = ap (λ (m : Memory). m.marks) same
@@ -171,50 +167,47 @@ line-stays : (kind : Kind) (line : List ℕ) (before after : Memory) (news : Lis
 line-stays kind line before after news (inl (item, is, of, (takes, changes))) = item-stays kind item before after of takes
 line-stays kind line before after news (inr (none, nothing, same)) = ap (λ (m : Memory). m.marks) same
 
-lines-stay : (kind : Kind) (lines : List (List ℕ)) (before after : Memory) (news : List Item) → Each (LearnsLine kind) lines before news after → after.marks ≡ before.marks
+pub lines-stay : (kind : Kind) (lines : List (List ℕ)) (before after : Memory) (news : List Item) → Each (LearnsLine kind) lines before news after → after.marks ≡ before.marks
 lines-stay kind [] before after news (none, same) = ap (λ (m : Memory). m.marks) same
 lines-stay kind (line ∷ lines) before after news (first, middle, rest, learns, each, is) =
     lines-stay kind lines middle after rest each ∙ line-stays kind line before middle first learns
 
-promises-stay : (own : Bool) (signed : List SignedPromise) (before after : Memory) (news : List Item) → Each LearnsOne (map (promised_item own) signed) before news after → after.marks ≡ before.marks
+pub promises-stay : (own : Bool) (signed : List SignedPromise) (before after : Memory) (news : List Item) → Each LearnsOne (map (promised_item own) signed) before news after → after.marks ≡ before.marks
 promises-stay own [] before after news (none, same) = ap (λ (m : Memory). m.marks) same
 promises-stay own (one ∷ signed) before after news (first, middle, rest, ((puts, same), changes), each, is) =
     promises-stay own signed middle after rest each ∙ ap (λ (m : Memory). m.marks) same
 
--- ---- a run
-
-pub before-puts : (own kept : List SignedPromise) (told : List ℕ) (begun : List Monitor) (before after : Memory) → LearnsBefore own kept told begun before after → EachPuts IsBegun begun before.marks after.marks
-before-puts own kept told begun before after (shown, promised, marked, one, two, shows, (fresh, is, (first, middle, rest, owns, others, news)), begins) =
-    let stays : two.marks ≡ before.marks =
-    promises-stay false fresh middle two rest others ∙ promises-stay true own one middle first owns ∙ lines-stay EvidenceLines (lines_of told) before one shown shows in
-    subst (λ (ms : List Mark). EachPuts IsBegun begun ms after.marks) stays (each-puts BeginsOne IsBegun begins-puts begun two after marked begins)
-
-pub after-puts : (told : List ℕ) (monitors some : List Monitor) (before after : Memory) → LearnsAfter told monitors some before after → EachPuts (IsMoved monitors) some before.marks after.marks
-after-puts told monitors some before after (alarms, marked, middle, tells, moves) =
-    subst (λ (ms : List Mark). EachPuts (IsMoved monitors) some ms after.marks) (lines-stay Alarms (lines_of told) before middle alarms tells)
-    (each-puts (MarksOne monitors) (IsMoved monitors) (marks-puts monitors) some middle after marked moves)
+-- ---- all that are put
 
 -- no name is there twice
-pub once-before : (own kept : List SignedPromise) (told : List ℕ) (begun : List Monitor) (before after : Memory) → LearnsBefore own kept told begun before after
-    → HasNoRepeat (map name_of before.marks) → HasNoRepeat (map name_of after.marks)
-once-before own kept told begun before after learns =
-    each-keeps IsBegun (λ _. ⊤) (λ marks. HasNoRepeat (map name_of marks)) (λ monitor _ old now new is. puts-once new old now) begun before.marks after.marks (all-any begun)
-    (before-puts own kept told begun before after learns)
+pub begun-once : (begun : List Monitor) (before after : List Mark) → EachPuts IsBegun begun before after → HasNoRepeat (map name_of before) → HasNoRepeat (map name_of after)
+begun-once begun before after puts = each-keeps IsBegun (λ _. ⊤) (λ marks. HasNoRepeat (map name_of marks)) (λ monitor _ old now new is. puts-once new old now) begun before after (all-any begun) puts
 
-pub once-after : (told : List ℕ) (monitors some : List Monitor) (before after : Memory) → LearnsAfter told monitors some before after
-    → HasNoRepeat (map name_of before.marks) → HasNoRepeat (map name_of after.marks)
-once-after told monitors some before after learns =
-    each-keeps (IsMoved monitors) (λ _. ⊤) (λ marks. HasNoRepeat (map name_of marks)) (λ monitor _ old now new is. puts-once new old now) some before.marks after.marks (all-any some)
-    (after-puts told monitors some before after learns)
+pub moved-once : (monitors some : List Monitor) (before after : List Mark) → EachPuts (IsMoved monitors) some before after → HasNoRepeat (map name_of before) → HasNoRepeat (map name_of after)
+moved-once monitors some before after puts = each-keeps (IsMoved monitors) (λ _. ⊤) (λ marks. HasNoRepeat (map name_of marks)) (λ monitor _ old now new is. puts-once new old now) some before after (all-any some) puts
 
--- no mark is lost
-pub stays-before : (own kept : List SignedPromise) (told : List ℕ) (begun : List Monitor) (marks : List Mark) (before after : Memory) → LearnsBefore own kept told begun before after
-    → ((old : Mark) → Contains marks old → HasMark before.marks old) → (old : Mark) → Contains marks old → HasMark after.marks old
-stays-before own kept told begun marks before after learns =
-    each-keeps IsBegun (λ _. ⊤) (λ now. (old : Mark) → Contains marks old → HasMark now old)
-    (λ monitor _ old now new is puts stays mark has. puts-stays new old now puts
-        (λ (other : Mark) there same. absurd (All-contains (λ (m : Mark). m.name ≢ monitor.name) old other is.none there (same ∙ is.named))) mark (stays mark has))
-    begun before.marks after.marks (all-any begun) (before-puts own kept told begun before after learns)
+-- a mark that is new before all is told is of nothing watched, whatever the monitors are, and no mark changes
+pub begun-known : (begun : List Monitor) (before after : List Mark) → EachPuts IsBegun begun before after → (mark : Mark) → Contains after mark → Contains before mark ⊎ (mark.since ≡ mark.epoch)
+begun-known begun before after puts =
+    each-keeps IsBegun (λ _. ⊤) (λ now. (mark : Mark) → Contains now mark → Contains before mark ⊎ (mark.since ≡ mark.epoch))
+    (λ monitor _ old now new is puts holds mark has. from-new old now new (is.empty) puts holds mark has) begun before after (all-any begun) puts (λ mark has. inl has)
+  where
+    from-new : (old now : List Mark) (new : Mark) → new.since ≡ new.epoch → PutsMark new old now → ((mark : Mark) → Contains old mark → Contains before mark ⊎ (mark.since ≡ mark.epoch))
+        → (mark : Mark) → Contains now mark → Contains before mark ⊎ (mark.since ≡ mark.epoch)
+    from-new old now new empty puts holds mark has = elim (puts-from new old now puts mark has) [
+      | inl there ↦ holds mark there
+      | inr same ↦ inr (subst (λ (m : Mark). m.since ≡ m.epoch) (sym same) empty)
+    ]
+
+pub begun-still : (begun : List Monitor) (before after : List Mark) → EachPuts IsBegun begun before after → (mark : Mark) → Contains before mark → Contains after mark
+begun-still begun before after puts mark has =
+    each-keeps IsBegun (λ _. ⊤) (λ now. Contains now mark) (λ monitor _ old now new is puts there. still monitor old now new is puts there) begun before after (all-any begun) puts has
+  where
+    still : (monitor : Monitor) (old now : List Mark) (new : Mark) → IsBegun monitor old new → PutsMark new old now → Contains old mark → Contains now mark
+    still monitor old now new is puts there = elim (puts-there new old now puts mark there) [
+      | inl stays ↦ stays
+      | inr gone ↦ absurd (All-contains (λ (m : Mark). m.name ≢ monitor.name) old mark is.none there (gone.0 ∙ is.named))
+    ]
 
 -- of two epochs the earlier
 pub earlier-of : (epoch since : ℕ) → ((epoch < since) × ((if nat_lt epoch since then epoch else since) ≡ epoch)) ⊎ ((since ≤ epoch) × ((if nat_lt epoch since then epoch else since) ≡ since))
@@ -231,7 +224,7 @@ not-later mark since is = elim (earlier-of mark.epoch since) [
 ]
 
 -- the watching of the name begins no later
-moved-earlier : (monitors : List Monitor) (monitor : Monitor) (before : List Mark) (new : Mark) → HasNoRepeat (map name_of before) → IsMoved monitors monitor before new
+pub moved-earlier : (monitors : List Monitor) (monitor : Monitor) (before : List Mark) (new : Mark) → HasNoRepeat (map name_of before) → IsMoved monitors monitor before new
     → (mark : Mark) → Contains before mark → mark.name ≡ new.name → new.since ≤ mark.since
 moved-earlier monitors monitor before new once (named, up, (since, inl (known, there, also, from), is)) mark has same =
     let one : known ≡ mark = one-mark before known mark once there has (also ∙ sym named ∙ sym same) in
@@ -240,24 +233,80 @@ moved-earlier monitors monitor before new once (named, up, (since, inl (known, t
 moved-earlier monitors monitor before new once (named, up, (since, inr (none, begins), is)) mark has same =
     absurd (All-contains (λ (m : Mark). m.name ≢ monitor.name) before mark none has (same ∙ named))
 
-pub stays-after : (told : List ℕ) (monitors some : List Monitor) (marks : List Mark) (before after : Memory) → LearnsAfter told monitors some before after → HasNoRepeat (map name_of before.marks)
-    → ((old : Mark) → Contains marks old → HasMark before.marks old) → (old : Mark) → Contains marks old → HasMark after.marks old
-stays-after told monitors some marks before after learns once stays =
+-- no mark is lost
+pub moved-stays : (monitors some : List Monitor) (marks before after : List Mark) → EachPuts (IsMoved monitors) some before after → HasNoRepeat (map name_of before)
+    → ((old : Mark) → Contains marks old → HasMark before old) → (old : Mark) → Contains marks old → HasMark after old
+moved-stays monitors some marks before after puts once stays =
     (each-keeps (IsMoved monitors) (λ _. ⊤) (λ now. HasNoRepeat (map name_of now) × ((old : Mark) → Contains marks old → HasMark now old))
     (λ monitor _ old now new is puts holds. (puts-once new old now puts holds.0, λ mark has. puts-stays new old now puts (moved-earlier monitors monitor old new holds.0 is) mark (holds.1 mark has)))
-    some before.marks after.marks (all-any some) (after-puts told monitors some before after learns) (once, stays)).1
+    some before after (all-any some) puts (once, stays)).1
 
--- a mark that is new before all is told is of nothing watched, whatever the monitors are
-pub begun-or-old : (own kept : List SignedPromise) (told : List ℕ) (begun : List Monitor) (before after : Memory) → LearnsBefore own kept told begun before after
-    → (mark : Mark) → Contains after.marks mark → Contains before.marks mark ⊎ (mark.since ≡ mark.epoch)
-begun-or-old own kept told begun before after learns =
-    each-keeps IsBegun (λ _. ⊤) (λ now. (mark : Mark) → Contains now mark → Contains before.marks mark ⊎ (mark.since ≡ mark.epoch))
-    (λ monitor _ old now new is puts holds mark has. from-new old now new (is.empty) puts holds mark has)
-    begun before.marks after.marks (all-any begun) (before-puts own kept told begun before after learns) (λ mark has. inl has)
+-- ---- what a state learns
+
+pub same-marks : (before after : Memory) → after.marks ≡ before.marks → KeepsMarks before after
+same-marks before after same = record {
+  known = λ mark has. inl (subst (λ (ms : List Mark). Contains ms mark) same has);
+  still = λ mark has. subst (λ (ms : List Mark). Contains ms mark) (sym same) has;
+  once = λ once. subst (λ (ms : List Mark). HasNoRepeat (map name_of ms)) (sym same) once;
+}
+
+pub begun-marks : (begun : List Monitor) (before after : Memory) → EachPuts IsBegun begun before.marks after.marks → KeepsMarks before after
+begun-marks begun before after puts = record {
+  known = begun-known begun before.marks after.marks puts;
+  still = begun-still begun before.marks after.marks puts;
+  once = begun-once begun before.marks after.marks puts;
+}
+
+pub marks-then : (before middle after : Memory) → KeepsMarks before middle → KeepsMarks middle after → KeepsMarks before after
+marks-then before middle after one other = record {
+  known = λ mark has. elim (other.known mark has) [
+    | inl there ↦ one.known mark there
+    | inr empty ↦ inr empty
+  ];
+  still = λ mark has. other.still mark (one.still mark has);
+  once = λ once. other.once (one.once once);
+}
+
+-- the lines and the promises that some of them bring change no mark; nor do those of new monitors, but for new ones
+pub lines-marks : (kind : Kind) (lines : List (List ℕ)) (before after : Memory) (news : List Item) → Each (LearnsLine kind) lines before news after → KeepsMarks before after
+lines-marks kind lines before after news each = same-marks before after (lines-stay kind lines before after news each)
+
+pub promises-marks : (own : Bool) (signed : List SignedPromise) (before after : Memory) (news : List Item) → Each LearnsOne (map (promised_item own) signed) before news after → KeepsMarks before after
+promises-marks own signed before after news each = same-marks before after (promises-stay own signed before after news each)
+
+pub some-lines-marks : (kind : Kind) (lines : List (List ℕ)) (before after : Memory) → EachOfSome (LearnsLine kind) lines before after → after.marks ≡ before.marks
+some-lines-marks kind lines before after (done, left, news, parts, each) = lines-stay kind done before after news each
+
+not-cons : {A : Type 0} (x : A) (xs : List A) → [] ≡ x ∷ xs → ⊥
+not-cons x xs e = cc
+
+-- each of these items is a promise
+abbrev ArePromised : Bool → List Item → Type 0
+ArePromised own items = AllByRecursion (λ (item : Item). (signed : SignedPromise) × (item ≡ promised_item own signed)) items
+
+front-promised : (own : Bool) (signed : List SignedPromise) (done left : List Item) → map (promised_item own) signed ≡ done ++ left → ArePromised own done
+front-promised own signed [] left parts = tt
+front-promised own [] (item ∷ done) left parts = absurd (not-cons item (done ++ left) parts)
+front-promised own (one ∷ signed) (item ∷ done) left parts = ((one, sym (same-head parts)), front-promised own signed done left (same-tail parts))
   where
-    from-new : (old now : List Mark) (new : Mark) → new.since ≡ new.epoch → PutsMark new old now → ((mark : Mark) → Contains old mark → Contains before.marks mark ⊎ (mark.since ≡ mark.epoch))
-        → (mark : Mark) → Contains now mark → Contains before.marks mark ⊎ (mark.since ≡ mark.epoch)
-    from-new old now new empty puts holds mark has = elim (puts-from new old now puts mark has) [
-      | inl there ↦ holds mark there
-      | inr same ↦ inr (subst (λ (m : Mark). m.since ≡ m.epoch) (sym same) empty)
-    ]
+    same-head : promised_item own one ∷ map (promised_item own) signed ≡ item ∷ (done ++ left) → promised_item own one ≡ item
+    same-head e = cc
+    same-tail : promised_item own one ∷ map (promised_item own) signed ≡ item ∷ (done ++ left) → map (promised_item own) signed ≡ done ++ left
+    same-tail e = cc
+
+items-stay : (own : Bool) (items : List Item) → ArePromised own items → (before after : Memory) (news : List Item) → Each LearnsOne items before news after → after.marks ≡ before.marks
+items-stay own [] all before after news (none, same) = ap (λ (m : Memory). m.marks) same
+items-stay own (item ∷ items) all before after news (first, middle, rest, learns, each, is) =
+    items-stay own items all.1 middle after rest each ∙ promises-stay own (all.0.0 ∷ []) before middle first (first, middle, [], subst (λ (i : Item). LearnsOne i before first middle) all.0.1 learns, (refl, refl), sym (append-nil first))
+
+pub some-promises-marks : (own : Bool) (signed : List SignedPromise) (before after : Memory) → EachOfSome LearnsOne (map (promised_item own) signed) before after → after.marks ≡ before.marks
+some-promises-marks own signed before after (done, left, news, parts, each) = items-stay own done (front-promised own signed done left parts) before after news each
+
+pub monitors-put : (begun : List Monitor) (before after : Memory) (news : List Item) → Each BeginsOne begun before news after → EachPuts IsBegun begun before.marks after.marks
+monitors-put begun before after news each = each-puts BeginsOne IsBegun begins-puts begun before after news each
+
+pub monitors-move : (monitors some : List Monitor) (before after : Memory) (news : List Item) → Each (MarksOne monitors) some before news after → EachPuts (IsMoved monitors) some before.marks after.marks
+monitors-move monitors some before after news each = each-puts (MarksOne monitors) (IsMoved monitors) (marks-puts monitors) some before after news each
+
+pub some-monitors-marks : (begun : List Monitor) (before after : Memory) → EachOfSome BeginsOne begun before after → KeepsMarks before after
+some-monitors-marks begun before after (done, left, news, parts, each) = begun-marks done before after (monitors-put done before after news each)

@@ -20,6 +20,7 @@ pub mod Keeping
 pub mod Owning
 pub mod Runs
 pub mod Saves
+pub mod Standing
 pub mod StateRuns
 pub mod Visiting
 pub mod Watching

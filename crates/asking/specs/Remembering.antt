@@ -1,11 +1,13 @@
 -- What the lines of earlier runs are remembered as.
-use Rattle.std.specs.Prelude.{◌≡◌, ◌≤◌, ℕ, if◌then◌else◌, List, [], ◌∷◌, ◌++◌, ⊤}
+use Rattle.std.specs.Prelude.{◌≡◌, ◌≤◌, ℕ, if◌then◌else◌, List, [], ◌∷◌, ◌++◌, Contains, ⊤}
 use Rattle.rootchain.specs.Chains.{IsHead, KeyedRoots}
 use Rattle.rootchain.specs.declared.signed_promise.SignedPromise.{SignedPromise}
 use Rattle.rootchain.specs.declared.signed_root.SignedRoot.{SignedRoot}
 use Rattle.memory.specs.Lines.{IsLineOf}
+use Rattle.memory.specs.Memories.{Memory}
 use Rattle.memory.specs.declared.item.Item.{Item}
 use Rattle.memory.specs.declared.item.Item.TheVariants.{Promised, Watched, Alarm, Evidence}
+use Rattle.memory.specs.declared.mark.Mark.{Mark}
 
 -- the promise of an item, if it is one for a change of the owner's own
 abbrev pub own_of : Item → List SignedPromise
@@ -30,3 +32,7 @@ IsWithin chain (Watched mark) = (head : SignedRoot) × IsHead chain head × (mar
 IsWithin chain (Promised promised) = ⊤
 IsWithin chain (Alarm alarm) = ⊤
 IsWithin chain (Evidence line) = ⊤
+
+-- so it is for all marks of a memory
+abbrev pub AreWithin : KeyedRoots → Memory → Type 0
+AreWithin chain memory = (mark : Mark) → Contains memory.marks mark → (head : SignedRoot) × IsHead chain head × (mark.epoch ≤ head.body.epoch)

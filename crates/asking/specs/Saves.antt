@@ -1,10 +1,15 @@
 -- What a run does to the files of its state, and what these say at each time.
-use Rattle.std.specs.Prelude.{◌≡◌, ◌⊎◌, ℕ, ◌<◌, ◌≤◌, List, [], ◌∷◌, ◌++◌, Contains, Option, Some}
+use Rattle.std.specs.Prelude.{◌≡◌, ◌⊎◌, ℕ, ◌<◌, ◌≤◌, List, [], ◌∷◌, ◌++◌, Contains, Option, None, Some, ⊤, filter, map, nat_lt}
+use Rattle.rootchain.specs.Chains.{IsHead, KeyedRoots}
+use Rattle.rootchain.specs.Promises.{IsSignedPromise, PromiseVerifies}
 use Rattle.rootchain.specs.declared.signed_promise.SignedPromise.{SignedPromise}
 use Rattle.rootchain.specs.declared.signed_root.SignedRoot.{SignedRoot}
-use Rattle.memory.specs.Memories.{nothing, Memory}
+use Rattle.memory.specs.Lists.{HasNoRepeat}
+use Rattle.memory.specs.Memories.{name_of, nothing, Memory}
 use Rattle.memory.specs.declared.mark.Mark.{Mark}
+use Rattle.play.specs.Scripts.{line_of, Watch}
 use Rattle.asking.specs.Told.{TellsEpoch}
+use Rattle.asking.specs.declared.asker.Asker.{Asker}
 
 -- what the files of a state have: the roots of a chain, and what is remembered
 pub record Stored : Type 0 where
@@ -13,6 +18,10 @@ pub record Stored : Type 0 where
 
 abbrev pub stored_nothing : Stored
 stored_nothing = record { roots = []; known = nothing }
+
+-- what is stored where this asks with it
+abbrev pub stored_by : {H V S : Type 0} → Asker H V S → Stored
+stored_by asker = record { roots = asker.client.chain.roots; known = asker.known }
 
 -- What happens to them, with what was written to the output before it. Roots are added, or this is to be remembered; after
 -- a fault they may have what they had.
@@ -27,6 +36,27 @@ stored_after [] = stored_nothing
 stored_after (Loads stored ∷ acts) = stored
 stored_after (AddsRoots more out ∷ acts) = record { roots = (stored_after acts).roots ++ more; known = (stored_after acts).known }
 stored_after (Remembers known out ∷ acts) = record { roots = (stored_after acts).roots; known = known }
+
+-- one of these lines asks for the name to be watched, with this key or none; nothing is known of it where they are not
+abbrev pub IsAsked : Option (List (List ℕ)) → List ℕ → Option (List ℕ) → Type 0
+IsAsked None name given = ⊤
+IsAsked (Some lines) name given = (line : List ℕ) × Contains lines line × (line_of line ≡ Some (Watch name given))
+
+-- the promise is signed with this key
+abbrev pub IsSignedBy : (List ℕ → List ℕ → List ℕ → Type 0) → List ℕ → SignedPromise → Type 0
+IsSignedBy verified key signed = IsSignedPromise signed × PromiseVerifies verified key signed
+
+-- the roots of later epochs than this
+abbrev pub roots_above : ℕ → List SignedRoot → List SignedRoot
+roots_above epoch roots = filter (λ (root : SignedRoot). nat_lt epoch root.body.epoch) roots
+
+-- this is the epoch of the chain's head
+abbrev pub IsHeadEpoch : KeyedRoots → ℕ → Type 0
+IsHeadEpoch chain epoch = (head : SignedRoot) × IsHead chain head × (epoch ≡ head.body.epoch)
+
+-- no name has two marks
+abbrev pub HasOneOfEachName : Memory → Type 0
+HasOneOfEachName memory = HasNoRepeat (map name_of memory.marks)
 
 -- a mark of the same name, of which the watching begins no later
 abbrev pub HasMark : List Mark → Mark → Type 0
@@ -54,3 +84,8 @@ module _ (hash : List ℕ → List ℕ) (accepted : List ℕ → List ℕ → Li
       AllKeepTold before old acts × ((text : List ℕ) × (out ≡ Some (old ++ text)) × KeepsTold before text (stored_after (AddsRoots more out ∷ acts)))
   AllKeepTold before old (Remembers known out ∷ acts) =
       AllKeepTold before old acts × ((text : List ℕ) × (out ≡ Some (old ++ text)) × KeepsTold before text (stored_after (Remembers known out ∷ acts)))
+
+-- What happened in a run to what is kept: nothing, or acts after each of which all that it had watched was told. Some lines
+-- were asked under this key, and the output had this text before.
+abbrev pub LeavesTold : (List ℕ → List ℕ) → (List ℕ → List ℕ → List ℕ → Type 0) → (List ℕ → List ℕ → List ℕ → Type 0) → Option (List (List ℕ)) → List ℕ → List ℕ → (List Act → Type 0) → Type 0
+LeavesTold hash accepted verified lines key old Happened = (acts : List Act) × Happened acts × ((acts ≡ []) ⊎ ((start : Stored) × AllKeepTold hash accepted (IsAsked lines) (IsSignedBy verified key) start old acts))

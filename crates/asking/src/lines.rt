@@ -1,17 +1,21 @@
 // The lines of the files in which a client's chain and what it keeps are stored between runs.
-ghost use Rattle.std.specs.Prelude.{◌≡◌, ◌++◌, List, IfErr, IfOk, Ok, OnOk};
+ghost use Rattle.std.specs.Prelude.{◌≡◌, ◌++◌, List, map, IfErr, IfOk, Ok, OnOk};
+ghost use Rattle.std.specs.List.{AllByRecursion};
 ghost use Rattle.textio.specs.Lines.{lines_of};
 ghost use Rattle.rootchain.specs.Promises.{IsSignedPromise};
 ghost use Rattle.rootchain.specs.declared.signed_promise.SignedPromise.{SignedPromise as Signed};
 ghost use Rattle.memory.specs.Lines.{IsSound};
+ghost use Rattle.memory.specs.Lists.{HasNoRepeat};
+ghost use Rattle.memory.specs.Memories.{name_of};
 ghost use Rattle.memory.specs.Texts.{Spells, TakesLine};
 ghost use Rattle.memory.specs.declared.item.Item.TheVariants as items;
-ghost use Rattle.asking.specs.Remembering.{own_of, AreOwnOf, IsOwnOf, IsWithin};
+ghost use Rattle.asking.specs.Remembering.{own_of, AreOwnOf, AreWithin, IsOwnOf, IsWithin};
 ghost use Rattle.asking.specs.RunFaults.{IsFaultOfState};
 ghost use Rattle.client.specs.Clients.{with_promise};
 ghost use Rattle.asking.specs.Runs.{IsSameAsker, StillKeeps};
 
 use crate::Asker;
+use client::Client;
 use hex::FromHexError;
 use memory::{Item, Mark, Memory, Promised, ReadFault, first_line, read_item, read_memory};
 use nodehash::NodeHash;
@@ -63,6 +67,7 @@ where
     pub(crate) fn take_lines(&mut self, text: &[u8]) -> Result<(), ProgramFault>
         ensures same { IsSameAsker self.old self.new }
         ensures earlier { (self.new).earlier ≡ (self.old).earlier }
+        ensures known { ((self.new).known ≡ (self.old).known) × ((self.new).marks ≡ (self.old).marks) × ((self.new).changes ≡ (self.old).changes) }
         ensures err { IfErr result IsFaultOfState }
     {
         let mut left = text;
@@ -86,6 +91,11 @@ where
         ensures spells { IfOk result (λ memory. Spells text.now (Ok memory) × (memory ≡ (self.new).known)) }
         ensures marks { OnOk result ((self.new).marks.items ≡ (self.new).known.marks) }
         ensures earlier { OnOk result ((own : List Signed) × AreOwnOf (lines_of text.now) own × ((self.new).earlier.items ≡ (self.old).earlier.items ++ own)) }
+        ensures formed { OnOk result (AllByRecursion IsSignedPromise (self.old).earlier.items → AllByRecursion IsSignedPromise (self.new).earlier.items) }
+        ensures chain { (self.new).client.chain ≡ (self.old).client.chain }
+        ensures changes { (self.new).changes ≡ (self.old).changes }
+        ensures within { OnOk result (AreWithin (self.old).client.chain (self.new).known) }
+        ensures once { OnOk result (HasNoRepeat (map name_of (self.new).known.marks)) }
         ensures err { IfErr result IsFaultOfState }
     {
         let memory = self.remember_lines(text)?;
@@ -100,6 +110,9 @@ where
         ensures kept { OnOk result (StillKeeps self.old self.new) }
         ensures spells { IfOk result (λ memory. Spells text.now (Ok memory)) }
         ensures earlier { OnOk result ((own : List Signed) × AreOwnOf (lines_of text.now) own × ((self.new).earlier.items ≡ (self.old).earlier.items ++ own)) }
+        ensures chain { (self.new).client.chain ≡ (self.old).client.chain }
+        ensures changes { (self.new).changes ≡ (self.old).changes }
+        ensures within { IfOk result (λ memory. AreWithin (self.old).client.chain memory) }
         ensures err { IfErr result IsFaultOfState }
     {
         let mut memory = Memory::new(self.alloc);
@@ -118,6 +131,7 @@ where
     fn take_line(&mut self, line: &[u8], number: u64) -> Result<(), ProgramFault>
         ensures same { IsSameAsker self.old self.new }
         ensures earlier { (self.new).earlier ≡ (self.old).earlier }
+        ensures known { ((self.new).known ≡ (self.old).known) × ((self.new).marks ≡ (self.old).marks) × ((self.new).changes ≡ (self.old).changes) }
         ensures err { IfErr result IsFaultOfState }
     {
         let root = line_bytes(self.alloc, line, number)?;
@@ -145,6 +159,9 @@ where
         ensures kept { OnOk result (StillKeeps self.old self.new) }
         ensures takes { OnOk result (TakesLine line.now number memory.old memory.new (Ok tt)) }
         ensures earlier { OnOk result ((own : List Signed) × IsOwnOf line.now own × ((self.new).earlier.items ≡ (self.old).earlier.items ++ own)) }
+        ensures chain { (self.new).client.chain ≡ (self.old).client.chain }
+        ensures changes { (self.new).changes ≡ (self.old).changes }
+        ensures within { OnOk result (AreWithin (self.old).client.chain memory.old → AreWithin (self.old).client.chain memory.new) }
         ensures err { IfErr result IsFaultOfState }
     {
         if line.is_empty() {
@@ -164,6 +181,8 @@ where
         ensures kept { OnOk result (StillKeeps self.old self.new) }
         ensures earlier { OnOk result (IsSound item.now → (self.new).earlier.items ≡ (self.old).earlier.items ++ own_of item.now) }
         ensures marks { OnOk result (IsWithin (self.old).client.chain item.now) }
+        ensures chain { (self.new).client.chain ≡ (self.old).client.chain }
+        ensures changes { (self.new).changes ≡ (self.old).changes }
         ensures err { IfErr result IsFaultOfState }
     {
         match item {
@@ -180,6 +199,8 @@ where
         ensures same { IsSameAsker self.old self.new }
         ensures kept { OnOk result (StillKeeps self.old self.new) }
         ensures earlier { OnOk result (IsSignedPromise promised.now.signed → (self.new).earlier.items ≡ (self.old).earlier.items ++ own_of (items.Promised promised.now)) }
+        ensures chain { (self.new).client.chain ≡ (self.old).client.chain }
+        ensures changes { (self.new).changes ≡ (self.old).changes }
         ensures err { IfErr result IsFaultOfState }
     {
         let signed = self.keep_again(&promised.signed, number)?;
@@ -200,6 +221,8 @@ where
         ensures kept { IfOk result (λ signed. (self.new).client ≡ with_promise (self.old).client signed) }
         ensures one { IfOk result (λ signed. IsSignedPromise promise.now → signed ≡ promise.now) }
         ensures earlier { (self.new).earlier ≡ (self.old).earlier }
+        ensures chain { (self.new).client.chain ≡ (self.old).client.chain }
+        ensures changes { (self.new).changes ≡ (self.old).changes }
         ensures err { IfErr result IsFaultOfState }
     {
         let checks = &mut self.checks;
@@ -218,22 +241,31 @@ where
             Err(why) => Err(fault_of(&why, number)),
         }
     }
+}
 
-    /// The lines of the roots above an epoch.
-    pub(crate) fn lines_after(&self, epoch: u64) -> Result<Vec<u8>, AllocError> {
-        let mut text = Vec::new(self.alloc);
-        let mut last = epoch;
-        // Every loop of Rattle has an end: this one's is past any chain.
-        for _ in 0..u64::MAX {
-            let Some(root) = self.client.chain().after(last) else {
-                break;
-            };
-            push_hex(&mut text, root.write().bytes())?;
-            text.push(b'\n')?;
-            last = root.body.epoch;
-        }
-        Ok(text)
+/// The lines of the roots of a client's chain above an epoch.
+pub(crate) fn roots_text<H, V, S>(
+    alloc: Global,
+    client: &Client<H, V, S>,
+    epoch: u64,
+) -> Result<Vec<u8>, AllocError>
+where
+    H: NodeHash + Drop,
+    V: VufCheck + Drop,
+    S: Verifier + Drop,
+{
+    let mut text = Vec::new(alloc);
+    let mut last = epoch;
+    // Every loop of Rattle has an end: this one's is past any chain.
+    for _ in 0..u64::MAX {
+        let Some(root) = client.chain().after(last) else {
+            break;
+        };
+        push_hex(&mut text, root.write().bytes())?;
+        text.push(b'\n')?;
+        last = root.body.epoch;
     }
+    Ok(text)
 }
 
 /// Copies of marks.

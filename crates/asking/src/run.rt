@@ -1,5 +1,5 @@
 // A run: each line of the input is asked, what is told of it is written, and the state is kept.
-ghost use Rattle.std.specs.Prelude.{◌≡◌, ◌≢◌, ◌⊎◌, ◌↔◌, ◌<◌, ◌≤◌, ◌++◌, List, ℕ, [], Err, IfErr, IfOk, IfSome, MatchOption, None, Ok, OnErr, OnOk, Option, Some, option_map, ⊤};
+ghost use Rattle.std.specs.Prelude.{◌≡◌, ◌≢◌, ◌⊎◌, ◌↔◌, ◌<◌, ◌≤◌, ◌++◌, List, ℕ, [], false, Err, IfErr, IfOk, IfSome, MatchOption, None, Ok, OnErr, OnOk, Option, Some, option_map, ⊤};
 ghost use Rattle.std.specs.Io.KnownBytes.{Appends};
 ghost use Rattle.textio.specs.Lines.{lines_of};
 ghost use Rattle.textio.specs.Output.{WritesSome};
@@ -18,10 +18,13 @@ ghost use Rattle.asking.specs.declared.ask_fault.RunFault.TheVariants.{Program};
 ghost use Rattle.asking.specs.declared.run.RunEnd.TheVariants.{Whole, Stopped};
 ghost use Rattle.asking.specs.declared.said.TheConstants.{ALARM};
 ghost use Rattle.asking.specs.Scenes.{scene, Scene, StartsAtHead};
+ghost use Rattle.asking.specs.Saves.{Act, LeavesTold, Stored};
 ghost use Rattle.asking.specs.Settling.{settled_text};
+ghost use Rattle.asking.specs.Standing.{standing, AsksAmong, HasBegun, HasFailed, HasLoaded, IsFresh, IsLeft, IsUpTo, LeavesState, RunStands, StateIsKept, StateStands};
 ghost use Rattle.memory.specs.Memories.{Memory};
 
 use crate::ask_fault::RunFault;
+use crate::keeper::Keeper;
 use crate::said::{ALARM, REFUSED};
 use crate::settling::tell_settled;
 use crate::state::State;
@@ -32,7 +35,6 @@ use nodehash::NodeHash;
 use play::{Line, next_line, push_number, read_line};
 use sigiface::Verifier;
 use std::alloc::{AllocError, Global};
-use std::fs::{File, Files};
 use std::io::{BufRead, Read, Write};
 use textio::{ProgramFault, write_text};
 use vrfiface::VufCheck;
@@ -58,12 +60,11 @@ impl RunEnd {
     }
 }
 
-/// What a run works with: the files of the state, and what is said.
+/// What a run works with: the state, if it has one, and what is said.
 #[derive(Drop)]
-pub(crate) struct Run<'a, F> {
+pub(crate) struct Run {
     alloc: Global,
-    files: &'a F,
-    state: Option<State<'a>>,
+    state: Option<State>,
     said: Said,
 }
 
@@ -91,31 +92,24 @@ fn push_word(line: &mut Vec<u8>, word: Option<&str>) -> Result<(), AllocError>
     line.extend_from_slice(word.as_bytes())
 }
 
-impl<'a, F> Run<'a, F>
-where
-    F: Files<File = File>,
-{
-    /// A run that keeps its state in the file of this path, or none.
-    pub(crate) fn new(
-        alloc: Global,
-        files: &'a F,
-        path: Option<&'a str>,
-    ) -> Result<Self, ProgramFault>
-        ensures none { IfOk result (λ run. path.entry ≡ None → run.state ≡ None) }
-        ensures some { IfOk result (λ run. run.state ≡ None → path.entry ≡ None) }
-        ensures said { IfOk result (λ run. report_of run.said ≡ emptied 0) }
-        ensures err { IfErr result (λ fault. fault ≡ OutOfMemory) }
+impl Run {
+    /// A run that has a state, or none.
+    pub(crate) fn new(alloc: Global, has_state: bool) -> Self
+        ensures none { has_state ≡ false → result.state ≡ None }
+        ensures some { result.state ≡ None → has_state ≡ false }
+        ensures fresh { IsFresh result.state }
+        ensures said { report_of result.said ≡ emptied 0 }
     {
-        let state = match path {
-            Some(path) => Some(State::new(alloc, path)?),
-            None => None,
+        let state = if has_state {
+            Some(State::new(alloc))
+        } else {
+            None
         };
-        Ok(Run {
+        Run {
             alloc,
-            files,
             state,
             said: Said::new(alloc),
-        })
+        }
     }
 
     /// Ends a run with its status. That of an alarm stays, even if a fault follows.
@@ -177,8 +171,9 @@ where
     }
 
     /// Asks what an order asks, and leaves the files of the state without lines that no longer hold.
-    pub(crate) fn ask<T, R, W, E, H, V, S>(
+    pub(crate) fn ask<K, T, R, W, E, H, V, S>(
         &mut self,
+        keeper: &mut K,
         stream: &mut T,
         checks: Checks<H, V, S>,
         keys: &AskKeys,
@@ -188,6 +183,7 @@ where
         errors: &mut E,
     ) -> Result<(), RunFault>
     where
+        K: Keeper,
         T: Read + Write,
         R: BufRead,
         W: Write,
@@ -201,17 +197,20 @@ where
             (λ number. IfSome (lines_asked (ask_values order.entry).words (R.remaining reader.old)) (λ lines. IsFirstUnasked 1 lines number)))) }
         ensures part { OnErr result (report_of (self.old).said ≡ emptied 0 → EndsEarly H.digest_of V.accepted S.verified (ExchangesFrames T.contents T.remaining) keys.now.signing_key keys.now.token (ask_values order.entry)
             ((self.old).state ≡ None) stream.old (R.remaining reader.old) (W.contents writer.old) (HoldsBack (W.contents writer.new) (self.new).said)) }
+        ensures kept { IsFresh (self.old).state → (old : List ℕ) (acts : List Act) → W.contents writer.old ≡ Some old → K.has keeper.old acts
+            → LeavesTold H.digest_of V.accepted S.verified (lines_asked (ask_values order.entry).words (R.remaining reader.old)) keys.now.signing_key old (λ done. K.has keeper.new (done ++ acts)) }
         ensures unread { ¬ AsksInput (ask_values order.entry).words → reader.new ≡ reader.old }
         ensures grows { Grows (W.contents writer.old) (W.contents writer.new) }
         ensures rises { (self.old).said.status ≤ (self.new).said.status }
     {
-        let asked = self.ask_all(stream, checks, keys, order, reader, writer, errors);
-        self.leave(asked)
+        let asked = self.ask_all(keeper, stream, checks, keys, order, reader, writer, errors);
+        self.leave(asked, keeper, writer)
     }
 
     /// Begins with the chain of the state, or with the directory's head, and asks what an order asks.
-    fn ask_all<T, R, W, E, H, V, S>(
+    fn ask_all<K, T, R, W, E, H, V, S>(
         &mut self,
+        keeper: &mut K,
         stream: &mut T,
         checks: Checks<H, V, S>,
         keys: &AskKeys,
@@ -221,6 +220,7 @@ where
         errors: &mut E,
     ) -> Result<(), RunFault>
     where
+        K: Keeper,
         T: Read + Write,
         R: BufRead,
         W: Write,
@@ -234,45 +234,55 @@ where
             (λ number. IfSome (lines_asked (ask_values order.entry).words (R.remaining reader.old)) (λ lines. IsFirstUnasked 1 lines number)))) }
         ensures part { report_of (self.old).said ≡ emptied 0 → EndsEarly H.digest_of V.accepted S.verified (ExchangesFrames T.contents T.remaining) keys.now.signing_key keys.now.token (ask_values order.entry)
             ((self.old).state ≡ None) stream.old (R.remaining reader.old) (W.contents writer.old) (HoldsBack (W.contents writer.new) (self.new).said) }
+        ensures kept { IsFresh (self.old).state → (old : List ℕ) (acts : List Act) → W.contents writer.old ≡ Some old → K.has keeper.old acts
+            → IsLeft H.digest_of V.accepted S.verified (lines_asked (ask_values order.entry).words (R.remaining reader.old)) keys.now.signing_key old (λ done. K.has keeper.new (done ++ acts)) (self.new).state (W.contents writer.new) }
         ensures unread { ¬ AsksInput (ask_values order.entry).words → reader.new ≡ reader.old }
         ensures grows { Grows (W.contents writer.old) (W.contents writer.new) }
         ensures rises { (self.old).said.status ≤ (self.new).said.status }
     {
-        let mut asker = self.begin(stream, checks, keys)?;
-        self.prepare(&mut asker, stream, writer, errors)?;
+        let mut asker = self.begin(keeper, stream, checks, keys)?;
+        self.prepare(&mut asker, keeper, stream, writer, errors)?;
         match order.command {
             Some(_) => {
                 let line = line_of_words(self.alloc, order)?;
-                self.ask_line(&mut asker, stream, &line, 1, writer, errors)
+                self.ask_line(&mut asker, keeper, stream, &line, 1, writer, errors)
             }
-            None => self.ask_lines(&mut asker, stream, reader, writer, errors),
+            None => self.ask_lines(&mut asker, keeper, stream, reader, writer, errors),
         }
     }
 
     /// Leaves the files of the state without lines that no longer hold. Returns what came of the questions, or the fault
     /// of this if all was asked: after another fault the files have at least what they are to have.
-    fn leave(&mut self, asked: Result<(), RunFault>) -> Result<(), RunFault>
+    fn leave<K: Keeper, W: Write>(
+        &mut self,
+        asked: Result<(), RunFault>,
+        keeper: &mut K,
+        writer: &W,
+    ) -> Result<(), RunFault>
         ensures ok { OnOk result (asked ≡ Ok tt) }
         ensures err { IfErr result (λ fault. (asked ≡ Err fault) ⊎ ((asked ≡ Ok tt) × StopsOr IsFaultOfSaving fault)) }
         ensures said { (self.new).said ≡ (self.old).said }
+        ensures hands { (acts : List Act) → K.has keeper.old acts → LeavesState (K.has keeper.new) acts (self.old).state (W.contents writer.now) }
     {
         let Some(state) = self.state.as_mut() else {
             return asked;
         };
-        let left = state.finish(self.alloc, self.files);
+        let left = state.finish(keeper, writer);
         asked?;
         left?;
         Ok(())
     }
 
     /// What asks: with the chain of the state, or else from the directory's head on.
-    fn begin<T, H, V, S>(
+    fn begin<K, T, H, V, S>(
         &mut self,
+        keeper: &mut K,
         stream: &mut T,
         checks: Checks<H, V, S>,
         keys: &AskKeys,
     ) -> Result<Asker<H, V, S>, RunFault>
     where
+        K: Keeper,
         T: Read + Write,
         H: NodeHash + Drop,
         V: VufCheck + Drop,
@@ -283,10 +293,14 @@ where
         ensures said { IfOk result (λ asker. report_of (self.new).said ≡ told_after (report_of (self.old).said) (evidence_again asker.known)) }
         ensures none { OnErr result (BeginsNone S.verified (ExchangesFrames T.contents T.remaining) keys.now.signing_key stream.old (report_of (self.old).said) (report_of (self.new).said)) }
         ensures faults { IfErr result (StopsOr (λ fault. ((¬ ((self.old).state ≡ None)) × IsFaultOfState fault) ⊎ (fault ≡ OutOfMemory))) }
+        ensures stands { IfOk result (λ asker. IsFresh (self.old).state → (lines : Option (List (List ℕ))) (old : List ℕ) (acts : List Act) → K.has keeper.old acts
+            → (start : Stored) × RunStands H.digest_of V.accepted S.verified lines start old (λ done. K.has keeper.new (done ++ acts)) asker [] (self.new).state (Some old)) }
+        ensures left { OnErr result (IsFresh (self.old).state → (lines : Option (List (List ℕ))) (old : List ℕ) (acts : List Act) → K.has keeper.old acts
+            → IsLeft H.digest_of V.accepted S.verified lines keys.now.signing_key old (λ done. K.has keeper.new (done ++ acts)) (self.new).state (Some old)) }
         ensures still { ((self.new).state ≡ None) ↔ ((self.old).state ≡ None) }
         ensures rises { (self.old).said.status ≤ (self.new).said.status }
     {
-        match self.load(checks, keys)? {
+        match self.load(keeper, checks, keys)? {
             Ok(asker) => {
                 self.tell_evidence(&asker.known)?;
                 Ok(asker)
@@ -301,28 +315,19 @@ where
         ensures untold { OnErr result (report_of (self.new).said ≡ report_of (self.old).said) }
         ensures still { (self.new).state ≡ (self.old).state }
     {
-        let mut now = evidence_said(self.alloc, known)?;
-        self.explain_evidence(&mut now)?;
+        let now = evidence_said(self.alloc, known)?;
         self.said.join(now)
     }
 
-    /// Says that evidence is of an earlier run, in lines of the errors.
-    fn explain_evidence(&self, said: &mut Said) -> Result<(), AllocError>
-        ensures { report_of said.new ≡ report_of said.old }
-    {
-        match self.state.as_ref() {
-            Some(state) => state.explain_evidence(said),
-            None => Ok(()),
-        }
-    }
-
     /// What asks with the chain of the state, or gives back the checks if there is none yet.
-    fn load<H, V, S>(
+    fn load<K, H, V, S>(
         &mut self,
+        keeper: &mut K,
         checks: Checks<H, V, S>,
         keys: &AskKeys,
     ) -> Result<Result<Asker<H, V, S>, Checks<H, V, S>>, ProgramFault>
     where
+        K: Keeper,
         H: NodeHash + Drop,
         V: VufCheck + Drop,
         S: Verifier + Drop,
@@ -330,19 +335,15 @@ where
         ensures knows { IfOk result (λ loaded. IfOk loaded (λ asker. (asker.key ≡ keys.now.signing_key) × (asker.token ≡ keys.now.token) × (asker.monitors.items ≡ []))) }
         ensures sound { IfOk result (λ loaded. IfOk loaded (λ asker. IsSoundFor H.digest_of V.accepted S.verified keys.now.signing_key asker.client)) }
         ensures kept { IfOk result (λ loaded. IfOk loaded (λ asker. KeepsAll asker.client asker.earlier.items)) }
+        ensures loads { IfOk result (λ loaded. IfOk loaded (λ asker. HasLoaded (K.has keeper.old) (K.has keeper.new) asker (self.new).state)) }
+        ensures fresh { IfOk result (λ loaded. IfErr loaded (λ unused. HasBegun (K.has keeper.old) (K.has keeper.new) (self.old).state (self.new).state)) }
+        ensures fails { OnErr result (HasFailed (K.has keeper.old) (K.has keeper.new) (self.old).state (self.new).state) }
         ensures err { IfErr result IsFaultOfState }
         ensures still { ((self.new).state ≡ None) ↔ ((self.old).state ≡ None) }
         ensures said { report_of (self.new).said ≡ report_of (self.old).said }
     {
         match self.state.as_mut() {
-            Some(state) => state.load(
-                self.alloc,
-                self.files,
-                checks,
-                keys.signing_key,
-                keys.token,
-                &mut self.said,
-            ),
+            Some(state) => state.load(keeper, checks, keys.signing_key, keys.token, &mut self.said),
             None => Ok(Err(checks)),
         }
     }
@@ -383,14 +384,16 @@ where
     }
 
     /// Lets the client take the roots that are new, and tests the promises that are due.
-    fn prepare<T, W, E, H, V, S>(
+    fn prepare<K, T, W, E, H, V, S>(
         &mut self,
         asker: &mut Asker<H, V, S>,
+        keeper: &mut K,
         stream: &mut T,
         writer: &mut W,
         errors: &mut E,
     ) -> Result<(), RunFault>
     where
+        K: Keeper,
         T: Read + Write,
         W: Write,
         E: Write,
@@ -401,13 +404,16 @@ where
             (scene asker.old (self.old).said stream.old) (W.contents writer.old) (W.contents writer.new) (scene asker.new (self.new).said stream.new)) }
         ensures part { OnErr result ((reached : Scene T) × PreparesSome H.digest_of V.accepted S.verified (ExchangesFrames T.contents T.remaining) (background_of asker.old) ((self.old).state ≡ None) (scene asker.old (self.old).said stream.old) reached
             × HoldsBack (W.contents writer.new) (self.new).said reached.told (W.contents writer.old)) }
+        ensures stands { (lines : Option (List (List ℕ))) (start : Stored) (old : List ℕ) (acts : List Act) → RunStands H.digest_of V.accepted S.verified lines start old (λ done. K.has keeper.old (done ++ acts)) asker.old (self.old).said.text.items (self.old).state (W.contents writer.old)
+            → StateIsKept H.digest_of V.accepted S.verified lines (asker.old).key start old (λ done. K.has keeper.new (done ++ acts)) (self.new).state (W.contents writer.new)
+            × OnOk result (RunStands H.digest_of V.accepted S.verified lines start old (λ done. K.has keeper.new (done ++ acts)) asker.new (self.new).said.text.items (self.new).state (W.contents writer.new)) }
         ensures stays { background_of asker.new ≡ background_of asker.old }
         ensures faults { IfErr result (StopsOr IsFaultOfSaving) }
         ensures grows { Grows (W.contents writer.old) (W.contents writer.new) }
         ensures rises { (self.old).said.status ≤ (self.new).said.status }
     {
         let prepared = self.look_around(asker, stream);
-        self.settle(asker, prepared, writer, errors)
+        self.settle(asker, prepared, keeper, writer, errors)
     }
 
     /// Lets the client take the roots that are new, and tests the promises that are due, which is said.
@@ -454,15 +460,17 @@ where
     }
 
     /// Asks each line of the input.
-    fn ask_lines<T, R, W, E, H, V, S>(
+    fn ask_lines<K, T, R, W, E, H, V, S>(
         &mut self,
         asker: &mut Asker<H, V, S>,
+        keeper: &mut K,
         stream: &mut T,
         reader: &mut R,
         writer: &mut W,
         errors: &mut E,
     ) -> Result<(), RunFault>
     where
+        K: Keeper,
         T: Read + Write,
         R: BufRead,
         W: Write,
@@ -474,6 +482,8 @@ where
             (scene asker.old (self.old).said stream.old) (W.contents writer.old) (W.contents writer.new) (scene asker.new (self.new).said stream.new))) }
         ensures part { IfSome (R.remaining reader.old) (λ input. (told : Report) × (now : Option (List ℕ)) × AsksPart H.digest_of V.accepted S.verified (ExchangesFrames T.contents T.remaining) (background_of asker.old) (lines_of input)
             (scene asker.old (self.old).said stream.old) told (W.contents writer.old) now × HoldsBack (W.contents writer.new) (self.new).said told now) }
+        ensures stands { (start : Stored) (old : List ℕ) (acts : List Act) → RunStands H.digest_of V.accepted S.verified (option_map lines_of (R.remaining reader.old)) start old (λ done. K.has keeper.old (done ++ acts)) asker.old (self.old).said.text.items (self.old).state (W.contents writer.old)
+            → StateIsKept H.digest_of V.accepted S.verified (option_map lines_of (R.remaining reader.old)) (asker.old).key start old (λ done. K.has keeper.new (done ++ acts)) (self.new).state (W.contents writer.new) }
         ensures faults { IfErr result (StopsOr (IsFaultWith ⊥ ⊤ (λ number. IfSome (R.remaining reader.old) (λ input. IsFirstUnasked 1 (lines_of input) number)))) }
         ensures grows { Grows (W.contents writer.old) (W.contents writer.new) }
         ensures rises { (self.old).said.status ≤ (self.new).said.status }
@@ -484,15 +494,16 @@ where
             if !next_line(reader, &mut line)? {
                 return Ok(());
             }
-            self.ask_line(asker, stream, &line, number, writer, errors)?;
+            self.ask_line(asker, keeper, stream, &line, number, writer, errors)?;
         }
         Err(RunFault::Program(ProgramFault::CannotRead))
     }
 
     /// Asks the line of this number.
-    fn ask_line<T, W, E, H, V, S>(
+    fn ask_line<K, T, W, E, H, V, S>(
         &mut self,
         asker: &mut Asker<H, V, S>,
+        keeper: &mut K,
         stream: &mut T,
         line: &[u8],
         number: u64,
@@ -500,6 +511,7 @@ where
         errors: &mut E,
     ) -> Result<(), RunFault>
     where
+        K: Keeper,
         T: Read + Write,
         W: Write,
         E: Write,
@@ -510,6 +522,10 @@ where
             (scene asker.old (self.old).said stream.old) (W.contents writer.old) (W.contents writer.new) (scene asker.new (self.new).said stream.new)) }
         ensures part { (reached : Scene T) × AsksSomeLine H.digest_of V.accepted S.verified (ExchangesFrames T.contents T.remaining) (background_of asker.old) line.now (scene asker.old (self.old).said stream.old) reached
             × HoldsBack (W.contents writer.new) (self.new).said reached.told (W.contents writer.old) }
+        ensures stands { (lines : Option (List (List ℕ))) (start : Stored) (old : List ℕ) (acts : List Act) → AsksAmong lines line.now
+            → RunStands H.digest_of V.accepted S.verified lines start old (λ done. K.has keeper.old (done ++ acts)) asker.old (self.old).said.text.items (self.old).state (W.contents writer.old)
+            → StateIsKept H.digest_of V.accepted S.verified lines (asker.old).key start old (λ done. K.has keeper.new (done ++ acts)) (self.new).state (W.contents writer.new)
+            × OnOk result (RunStands H.digest_of V.accepted S.verified lines start old (λ done. K.has keeper.new (done ++ acts)) asker.new (self.new).said.text.items (self.new).state (W.contents writer.new)) }
         ensures stays { background_of asker.new ≡ background_of asker.old }
         ensures faults { IfErr result (StopsOr (λ fault. IsFaultOfSaving fault ⊎ ((fault ≡ NotACommand number) × CannotBeAsked (line_of line.now)))) }
         ensures grows { Grows (W.contents writer.old) (W.contents writer.new) }
@@ -522,20 +538,22 @@ where
         let Some(asked) = ask_said(asker, stream, &line, &mut self.said) else {
             return not_a_command;
         };
-        self.settle(asker, asked, writer, errors)
+        self.settle(asker, asked, keeper, writer, errors)
     }
 
     /// Keeps the roots, promises and evidence that are new, and from where names are watched, writes what is said, and then
     /// keeps the alarms and how far names were watched: so a promise that is told is kept, unless keeping it is what fails,
     /// and an alarm that a stop leaves untold is found again. Returns what came of the questions.
-    fn settle<W, E, H, V, S>(
+    fn settle<K, W, E, H, V, S>(
         &mut self,
         asker: &Asker<H, V, S>,
         asked: Result<(), AskFault>,
+        keeper: &mut K,
         writer: &mut W,
         errors: &mut E,
     ) -> Result<(), RunFault>
     where
+        K: Keeper,
         W: Write,
         E: Write,
         H: NodeHash + Drop,
@@ -545,15 +563,21 @@ where
         ensures writes { OnOk result (Appends (W.contents writer.old) (W.contents writer.new) (self.old).said.text.items × (report_of (self.new).said ≡ emptied (self.old).said.status)) }
         ensures leaves { HoldsBack (W.contents writer.new) (self.new).said (report_of (self.old).said) (W.contents writer.old) }
         ensures keeps { IsSettled result → KeepsUp asker.now (self.old).said.text.items (self.old).state (self.new).state }
+        ensures kept { (lines : Option (List (List ℕ))) (key : List ℕ) (start : Stored) (old : List ℕ) (acts : List Act) → StateIsKept H.digest_of V.accepted S.verified lines key start old (λ done. K.has keeper.old (done ++ acts)) (self.old).state (W.contents writer.old)
+            → (asked ≢ Err NoMemory → StateStands H.digest_of V.accepted S.verified lines key start old (λ done. K.has keeper.old (done ++ acts)) (self.old).state (W.contents writer.old) (standing asker.now.client asker.now.monitors.items (self.old).said.text.items))
+            → StateIsKept H.digest_of V.accepted S.verified lines key start old (λ done. K.has keeper.new (done ++ acts)) (self.new).state (W.contents writer.new) }
+        ensures stands { OnOk result ((lines : Option (List (List ℕ))) (key : List ℕ) (start : Stored) (old : List ℕ) (acts : List Act)
+            → StateStands H.digest_of V.accepted S.verified lines key start old (λ done. K.has keeper.old (done ++ acts)) (self.old).state (W.contents writer.old) (standing asker.now.client asker.now.monitors.items (self.old).said.text.items)
+            → StateStands H.digest_of V.accepted S.verified lines key start old (λ done. K.has keeper.new (done ++ acts)) (self.new).state (W.contents writer.new) (standing asker.now.client asker.now.monitors.items [])) }
         ensures faults { IfErr result (StopsOr IsFaultOfSaving) }
         ensures grows { Grows (W.contents writer.old) (W.contents writer.new) }
         ensures status { (self.new).said.status ≡ (self.old).said.status }
     {
         let told = Vec::from_slice(self.alloc, &self.said.text)?;
-        self.add(asker, &told)?;
+        self.add(asker, &told, keeper, writer)?;
         self.explain_stop(asker.head(), &asked)?;
         self.write(writer, errors)?;
-        self.save(asker, &told, &asked)?;
+        self.save(asker, &told, &asked, keeper, writer)?;
         asked?;
         Ok(())
     }
@@ -570,34 +594,56 @@ where
     }
 
     /// Adds what is new to the files of the state, if there is one, before this is told.
-    fn add<H, V, S>(&mut self, asker: &Asker<H, V, S>, told: &[u8]) -> Result<(), ProgramFault>
+    fn add<K, W, H, V, S>(
+        &mut self,
+        asker: &Asker<H, V, S>,
+        told: &[u8],
+        keeper: &mut K,
+        writer: &W,
+    ) -> Result<(), ProgramFault>
     where
+        K: Keeper,
+        W: Write,
         H: NodeHash + Drop,
         V: VufCheck + Drop,
         S: Verifier + Drop,
         ensures adds { OnOk result (AddsTo asker.now told.now (self.old).state (self.new).state) }
+        ensures kept { (lines : Option (List (List ℕ))) (key : List ℕ) (start : Stored) (old : List ℕ) (acts : List Act) → StateIsKept H.digest_of V.accepted S.verified lines key start old (λ done. K.has keeper.old (done ++ acts)) (self.old).state (W.contents writer.now)
+            → StateIsKept H.digest_of V.accepted S.verified lines key start old (λ done. K.has keeper.new (done ++ acts)) (self.new).state (W.contents writer.now) }
+        ensures stands { OnOk result ((lines : Option (List (List ℕ))) (key : List ℕ) (start : Stored) (old : List ℕ) (acts : List Act) (said : List ℕ)
+            → StateStands H.digest_of V.accepted S.verified lines key start old (λ done. K.has keeper.old (done ++ acts)) (self.old).state (W.contents writer.now) (standing asker.now.client asker.now.monitors.items said)
+            → StateStands H.digest_of V.accepted S.verified lines key start old (λ done. K.has keeper.new (done ++ acts)) (self.new).state (W.contents writer.now) (standing asker.now.client asker.now.monitors.items said)) }
+        ensures up_to { OnOk result (IfSome (self.new).state (λ state. IsUpTo asker.now.client state.epoch)) }
         ensures said { (self.new).said ≡ (self.old).said }
         ensures err { IfErr result IsFaultOfSaving }
     {
         match self.state.as_mut() {
-            Some(state) => state.add(self.files, asker, told),
+            Some(state) => state.add(keeper, writer, asker, told),
             None => Ok(()),
         }
     }
 
     /// Adds the alarms and how far names were watched to the files of the state, if there is one, once this is told. Where
     /// memory ran out in a question, an alarm may be untold, and nothing is added.
-    fn save<H, V, S>(
+    fn save<K, W, H, V, S>(
         &mut self,
         asker: &Asker<H, V, S>,
         told: &[u8],
         asked: &Result<(), AskFault>,
+        keeper: &mut K,
+        writer: &W,
     ) -> Result<(), ProgramFault>
     where
+        K: Keeper,
+        W: Write,
         H: NodeHash + Drop,
         V: VufCheck + Drop,
         S: Verifier + Drop,
         ensures saves { OnOk result (asked.now ≢ Err NoMemory → SavesTo asker.now told.now (self.old).state (self.new).state) }
+        ensures kept { (lines : Option (List (List ℕ))) (key : List ℕ) (start : Stored) (old : List ℕ) (acts : List Act) → IfSome (self.old).state (λ state. IsUpTo asker.now.client state.epoch)
+            → StateStands H.digest_of V.accepted S.verified lines key start old (λ done. K.has keeper.old (done ++ acts)) (self.old).state (W.contents writer.now) (standing asker.now.client asker.now.monitors.items [])
+            → StateStands H.digest_of V.accepted S.verified lines key start old (λ done. K.has keeper.new (done ++ acts)) (self.new).state (W.contents writer.now) (standing asker.now.client asker.now.monitors.items []) }
+        ensures none { asked.now ≡ Err NoMemory → ((self.new).state ≡ (self.old).state) × (keeper.new ≡ keeper.old) }
         ensures said { (self.new).said ≡ (self.old).said }
         ensures err { IfErr result IsFaultOfSaving }
     {
@@ -605,19 +651,23 @@ where
             return Ok(());
         }
         match self.state.as_mut() {
-            Some(state) => state.save(self.files, asker, told),
+            Some(state) => state.save(keeper, writer, asker, told),
             None => Ok(()),
         }
     }
 
     /// Drops the alarms of a name from what is remembered, and tells how many there were, behind evidence of earlier runs.
-    pub(crate) fn settle_alarms<H, V, S>(
+    pub(crate) fn settle_alarms<K, W, H, V, S>(
         &mut self,
+        keeper: &mut K,
         checks: Checks<H, V, S>,
         keys: &AskKeys,
         name: &Name,
+        writer: &W,
     ) -> Result<(), ProgramFault>
     where
+        K: Keeper,
+        W: Write,
         H: NodeHash + Drop,
         V: VufCheck + Drop,
         S: Verifier + Drop,
@@ -626,19 +676,21 @@ where
         ensures part { report_of (self.old).said ≡ emptied 0 → (known : Memory) × (count : ℕ) × (rest : List ℕ) × (settled_text known name.now count ≡ (self.new).said.text.items ++ rest) }
         ensures err { IfErr result IsFaultOfState }
     {
-        self.recall(checks, keys)?;
-        let count = self.drop_alarms(name)?;
+        self.recall(keeper, checks, keys)?;
+        let count = self.drop_alarms(keeper, name, writer)?;
         tell_settled(self.alloc, name, count, &mut self.said)?;
         Ok(())
     }
 
     /// Loads the state, and tells the evidence of earlier runs again.
-    fn recall<H, V, S>(
+    fn recall<K, H, V, S>(
         &mut self,
+        keeper: &mut K,
         checks: Checks<H, V, S>,
         keys: &AskKeys,
     ) -> Result<(), ProgramFault>
     where
+        K: Keeper,
         H: NodeHash + Drop,
         V: VufCheck + Drop,
         S: Verifier + Drop,
@@ -646,7 +698,7 @@ where
         ensures untold { OnErr result (report_of (self.new).said ≡ report_of (self.old).said) }
         ensures err { IfErr result IsFaultOfState }
     {
-        let Ok(asker) = self.load(checks, keys)? else {
+        let Ok(asker) = self.load(keeper, checks, keys)? else {
             return Ok(());
         };
         self.tell_evidence(&asker.known)?;
@@ -654,7 +706,12 @@ where
     }
 
     /// Drops the alarms of a name from the files of the state. Returns how many there were.
-    fn drop_alarms(&mut self, name: &Name) -> Result<usize, ProgramFault>
+    fn drop_alarms<K: Keeper, W: Write>(
+        &mut self,
+        keeper: &mut K,
+        name: &Name,
+        writer: &W,
+    ) -> Result<usize, ProgramFault>
         ensures said { (self.new).said ≡ (self.old).said }
         ensures err { IfErr result IsFaultOfSaving }
     {
@@ -662,7 +719,7 @@ where
             return Ok(0);
         };
         let count = state.settle(name);
-        state.finish(self.alloc, self.files)?;
+        state.finish(keeper, writer)?;
         Ok(count)
     }
 

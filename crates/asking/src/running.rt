@@ -1,16 +1,19 @@
 // A run of questions over a connection. Contracts do not know what a socket or a file has.
-ghost use Rattle.std.specs.Prelude.{◌≡◌, ◌⊎◌, ◌↔◌, Err, IfErr, IfOk, None, OnErr, Some, MatchResult};
+ghost use Rattle.std.specs.Prelude.{◌≡◌, ◌⊎◌, ◌↔◌, ◌++◌, ℕ, List, Err, IfErr, IfOk, None, OnErr, Some, MatchResult};
 ghost use Rattle.std.specs.Io.KnownBytes.{Keeps};
 ghost use Rattle.textio.specs.declared.program_fault.ProgramFault.TheVariants.{BadHex};
 ghost use Rattle.asking.specs.AskOptions.{ask_keys_of, ask_values};
 ghost use Rattle.asking.specs.Ending.{AsksOverSocket, FailsAs, FailsOverSocket, RunsAs};
 ghost use Rattle.asking.specs.Exchanges.{ExchangesFrames};
 ghost use Rattle.asking.specs.RunFaults.{AsksInput, IsRunFault};
-ghost use Rattle.asking.specs.Runs.{Grows};
+ghost use Rattle.asking.specs.Runs.{lines_asked, Grows};
+ghost use Rattle.asking.specs.Saves.{Act, LeavesTold};
 
+use crate::keeper::Keeper;
 use crate::run::{Run, RunEnd};
 use crate::said::REFUSED;
 use crate::settling::{name_to_settle, settle};
+use crate::state_files::StateFiles;
 use crate::{AskKeys, AskOrder, Checks};
 use encoding::Hash32;
 use nodehash::NodeHash;
@@ -137,9 +140,10 @@ where
     let _set = stream.set_nodelay(true);
     let _set = stream.set_read_timeout(Some(Duration::from_secs(SECONDS)));
     let _set = stream.set_write_timeout(Some(Duration::from_secs(SECONDS)));
+    let mut keeper = StateFiles::new(alloc, system, order.state.unwrap_or(""))?;
     let ended = ask_over(
         alloc,
-        system,
+        &mut keeper,
         &mut stream,
         Checks::keyed(keys.signing_key),
         keys,
@@ -157,9 +161,9 @@ where
 /// # Errors
 ///
 /// Those of `ask`, but `BadHex`.
-pub fn ask_over<'a, F, T, R, W, E, H, V, S>(
+pub fn ask_over<'a, K, T, R, W, E, H, V, S>(
     alloc: Global,
-    files: &'a F,
+    keeper: &mut K,
     stream: &mut T,
     checks: Checks<H, V, S>,
     keys: AskKeys,
@@ -169,7 +173,7 @@ pub fn ask_over<'a, F, T, R, W, E, H, V, S>(
     errors: &mut E,
 ) -> Result<RunEnd, ProgramFault>
 where
-    F: Files<File = File>,
+    K: Keeper,
     T: Read + Write,
     R: BufRead,
     W: Write,
@@ -181,11 +185,13 @@ where
         (order.entry.state ≡ None) stream.old stream.new (R.remaining reader.old) ended (W.contents writer.old) (W.contents writer.new)) }
     ensures fails { OnErr result (FailsAs H.digest_of V.accepted S.verified (ExchangesFrames T.contents T.remaining) keys.signing_key keys.token (ask_values order.entry)
         (order.entry.state ≡ None) stream.old (R.remaining reader.old) (W.contents writer.old) (W.contents writer.new)) }
+    ensures keeps { (old : List ℕ) (acts : List Act) → W.contents writer.old ≡ Some old → K.has keeper.old acts
+        → LeavesTold H.digest_of V.accepted S.verified (lines_asked (ask_values order.entry).words (R.remaining reader.old)) keys.signing_key old (λ done. K.has keeper.new (done ++ acts)) }
     ensures faults { IfErr result (IsRunFault (ask_values order.entry) (R.remaining reader.old)) }
     ensures unread { ¬ AsksInput (ask_values order.entry).words → reader.new ≡ reader.old }
     ensures grows { Grows (W.contents writer.old) (W.contents writer.new) }
 {
-    let mut run = Run::new(alloc, files, order.state)?;
-    let outcome = run.ask(stream, checks, &keys, order, reader, writer, errors);
+    let mut run = Run::new(alloc, order.state.is_some());
+    let outcome = run.ask(keeper, stream, checks, &keys, order, reader, writer, errors);
     run.end(outcome, writer, errors)
 }

@@ -7,6 +7,7 @@ ghost use Rattle.asking.specs.Runs.{Grows};
 ghost use Rattle.asking.specs.Settling.{settled_line, IsSettling, Settles, SettlesPart};
 
 use crate::run::Run;
+use crate::state_files::StateFiles;
 use crate::{AskKeys, AskOrder, Checks, Said};
 use encoding::Name;
 use hex::FromHexError;
@@ -69,8 +70,9 @@ where
     ensures err { IfErr result IsFaultOfState }
     ensures grows { Grows (W.contents writer.old) (W.contents writer.new) }
 {
-    let mut run = Run::new(alloc, files, order.state)?;
-    let settled = run.settle_alarms(checks, keys, name);
+    let mut keeper = StateFiles::new(alloc, files, order.state.unwrap_or(""))?;
+    let mut run = Run::new(alloc, order.state.is_some());
+    let settled = run.settle_alarms(&mut keeper, checks, keys, name, writer);
     let written = run.write(writer, errors);
     settled?;
     written?;

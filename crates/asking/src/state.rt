@@ -1,55 +1,44 @@
-// What a client keeps between runs. In the file of the state stand the signed roots of its chain, one a line in
-// hexadecimal digits; in a second one beside it promises, how far names were watched, alarms and evidence. Both only grow
-// while a run goes on, the first one ahead of the second, and each line is on the disk before more is told. At the end
-// of a run a new second file, without the lines that no longer hold, takes the place of the old one. A line without its
-// LF was cut short, and is dropped. Contracts do not know what a file holds: `scripts/states.py` shows it.
-ghost use Rattle.std.specs.Prelude.{◌≡◌, ◌⊎◌, ◌+◌, ◌≤◌, ◌++◌, [], List, None, drop, length, IfErr, IfOk, OnOk};
-ghost use Rattle.textio.specs.declared.program_fault.ProgramFault.TheVariants.{OutOfMemory};
+// The state of a run: what is remembered, and what of it was handed on to be kept. Each line is handed on before more is
+// told.
+ghost use Rattle.std.specs.Prelude.{◌≡◌, ◌⊎◌, ◌+◌, ◌≤◌, ◌++◌, ◌∷◌, ℕ, [], false, true, List, Option, Contains, drop, length, IfErr, IfOk, OnErr, OnOk};
+ghost use Rattle.std.specs.List.{AllByRecursion};
 ghost use Rattle.memory.specs.Leaving.{Leaves, Settles};
 ghost use Rattle.memory.specs.Learning.{AreGone, Each, MarksOne};
+ghost use Rattle.memory.specs.Memories.{nothing};
 ghost use Rattle.memory.specs.Texts.{items_text};
 ghost use Rattle.memory.specs.declared.item.Item.{Item as Remembered};
 ghost use Rattle.monitor.specs.Monitors.{Monitor as Watcher};
 ghost use Rattle.asking.specs.Keeping.{LearnsAfter, LearnsBefore, LearnsPromises, MayMove};
+ghost use Rattle.asking.specs.Remembering.{AreWithin};
 ghost use Rattle.asking.specs.Reports.{report_of};
 ghost use Rattle.asking.specs.RunFaults.{IsFaultOfSaving, IsFaultOfState};
-ghost use Rattle.asking.specs.Runs.{IsSameAsker, IsSoundFor, KeepsAll, StillKeeps};
+ghost use Rattle.asking.specs.Runs.{IsSoundFor, KeepsAll};
+ghost use Rattle.asking.specs.Saves.{roots_above, stored_by, stored_nothing, Act, AddsRoots, HasOneOfEachName, IsHeadEpoch, Loads, Remembers, Stored};
+ghost use Rattle.asking.specs.Standing.{standing, IsKept, IsUpTo, KeepsMarks, Stands};
 
-use crate::lines::{fault_of, line_bytes};
+use crate::keeper::{Keeper, Loaded};
 use crate::{Asker, Checks, Said};
 use encoding::{Hash32, Name};
-use files::{LockFault, append, cut, open_existing, open_kept, open_locked, replace};
 use memory::{Kind, Memory};
 use nodehash::NodeHash;
-use play::push_number;
 use rootchain::SignedPromise;
 use sigiface::Verifier;
 use std::alloc::{AllocError, Global};
-use std::fs::{File, Files};
-use std::io::ErrorKind;
-use textio::{ProgramFault, read_whole};
+use std::io::Write;
+use textio::ProgramFault;
 use vrfiface::VufCheck;
 
-/// A file that was read.
+/// The state of a run.
 #[derive(Drop)]
-struct LineFile {
-    file: File,
-    bytes: Vec<u8>,
-}
-
-/// The files of a state.
-#[derive(Drop)]
-pub(crate) struct State<'a> {
+pub(crate) struct State {
     alloc: Global,
-    path: &'a str,
-    beside: String,
-    roots: Option<File>,
-    kept: Option<File>,
-    /// The epoch of the last root in the file, or 0.
+    /// Whether it was loaded. If not, something is kept that this run does not know.
+    is_loaded: bool,
+    /// The epoch of the last root that is kept, or 0.
     epoch: u64,
-    /// What the second file is to have.
+    /// What is to be kept of the memory.
     memory: Memory,
-    /// How many bytes the second file has, if that is known.
+    /// How many bytes are kept of it, if that is known.
     size: Option<usize>,
     /// How many changes of this run were looked at.
     changes: usize,
@@ -61,159 +50,6 @@ pub(crate) struct State<'a> {
     monitors: usize,
 }
 
-/// The front of the bytes up to the last LF.
-fn whole_lines(bytes: &[u8]) -> &[u8]
-    ensures { length result.now ≤ length bytes.now }
-{
-    match bytes.iter().rposition(|byte| *byte == b'\n') {
-        Some(place) => bytes.split_at(place + 1).0,
-        None => &[],
-    }
-}
-
-/// Says something of a file of the state, in a line of the errors.
-fn tell_file(said: &mut Said, path: &str, what: &[u8]) -> Result<(), AllocError>
-    ensures { report_of said.new ≡ report_of said.old }
-{
-    push_words(&mut said.words, path, what)
-}
-
-/// Appends what is said of a file of the state.
-fn push_words(words: &mut Vec<u8>, path: &str, what: &[u8]) -> Result<(), AllocError> {
-    words.extend_from_slice(b"state: ")?;
-    words.extend_from_slice(path.as_bytes())?;
-    words.extend_from_slice(b": ")?;
-    words.extend_from_slice(what)?;
-    words.push(b'\n')?;
-    Ok(())
-}
-
-/// A fault that a file of the state has. Where it is of a line, the file is named in a line of the errors.
-fn fault_in(path: &str, fault: ProgramFault, said: &mut Said) -> ProgramFault
-    ensures fault { IsFaultOfState fault → IsFaultOfState result }
-    ensures said { report_of said.new ≡ report_of said.old }
-{
-    if !matches!(fault, ProgramFault::BadItem(_)) {
-        return fault;
-    }
-    match tell_file(said, path, b"not as a run wrote it") {
-        Ok(()) => fault,
-        Err(_) => ProgramFault::OutOfMemory,
-    }
-}
-
-/// Drops the end of a file that was cut short, and says so.
-fn drop_rest(
-    alloc: Global,
-    path: &str,
-    read: &LineFile,
-    said: &mut Said,
-) -> Result<(), ProgramFault>
-    ensures err { IfErr result IsFaultOfSaving }
-    ensures said { report_of said.new ≡ report_of said.old }
-{
-    let whole = whole_lines(&read.bytes).len();
-    let rest = read.bytes.len() - whole;
-    if rest == 0 {
-        return Ok(());
-    }
-    let mut what = Vec::new(alloc);
-    push_number(&mut what, rest as u64)?;
-    what.extend_from_slice(b" bytes cut off")?;
-    tell_file(said, path, &what)?;
-    cut(&read.file, whole)
-}
-
-/// Whether there is a file of this path.
-fn is_there<F: Files<File = File>>(files: &F, path: &str) -> bool {
-    match files.metadata(path) {
-        Ok(_) => true,
-        Err(error) => error.kind() != ErrorKind::NotFound,
-    }
-}
-
-/// Opens the file of the roots, made empty if it is not there, locks it, and reads it.
-fn open_roots<F: Files<File = File>>(
-    alloc: Global,
-    files: &F,
-    path: &str,
-    said: &mut Said,
-) -> Result<LineFile, ProgramFault>
-    ensures err { IfErr result IsFaultOfState }
-    ensures said { report_of said.new ≡ report_of said.old }
-{
-    match open_locked(files, path) {
-        Ok(file) => read_lines(alloc, file),
-        Err(LockFault::Taken) => {
-            tell_file(said, path, b"another run has it")?;
-            Err(ProgramFault::CannotWrite)
-        }
-        Err(LockFault::Program(fault)) => Err(fault),
-    }
-}
-
-/// Opens the second file and reads it, if it is there.
-fn open_second<F: Files<File = File>>(
-    alloc: Global,
-    files: &F,
-    path: &str,
-) -> Result<Option<LineFile>, ProgramFault>
-    ensures { IfErr result IsFaultOfState }
-{
-    match open_existing(files, path) {
-        Ok(Some(file)) => Ok(Some(read_lines(alloc, file)?)),
-        Ok(None) => Ok(None),
-        Err(fault) => Err(fault),
-    }
-}
-
-/// Reads a file.
-fn read_lines(alloc: Global, mut file: File) -> Result<LineFile, ProgramFault>
-    ensures { IfErr result IsFaultOfState }
-{
-    match read_whole(alloc, &mut file) {
-        Ok(bytes) => Ok(LineFile { file, bytes }),
-        Err(fault) => Err(fault),
-    }
-}
-
-/// What asks with the roots of these lines.
-fn asker_from<H, V, S>(
-    alloc: Global,
-    lines: &[u8],
-    checks: Checks<H, V, S>,
-    key: Hash32,
-    token: Hash32,
-) -> Result<Asker<H, V, S>, ProgramFault>
-where
-    H: NodeHash + Drop,
-    V: VufCheck + Drop,
-    S: Verifier + Drop,
-    ensures knows { IfOk result (λ asker. (asker.key ≡ key) × (asker.token ≡ token) × (asker.monitors.items ≡ [])) }
-    ensures chain { IfOk result (λ asker. asker.client.chain.key ≡ key) }
-    ensures none { IfOk result (λ asker. asker.earlier.items ≡ []) }
-    ensures err { IfErr result IsFaultOfState }
-{
-    let line = lines.split(|byte| *byte == b'\n').next().unwrap_or(b"");
-    let first = line_bytes(alloc, line, 1)?;
-    let mut asker = match Asker::start(alloc, checks, key, token, &first) {
-        Ok(asker) => asker,
-        Err(why) => return Err(fault_of(&why, 1)),
-    };
-    asker.take_lines(lines)?;
-    Ok(asker)
-}
-
-/// The fault of saving, where the second file could not be opened.
-fn saving_fault(fault: ProgramFault) -> ProgramFault
-    ensures { IsFaultOfSaving result }
-{
-    match fault {
-        ProgramFault::OutOfMemory => ProgramFault::OutOfMemory,
-        _ => ProgramFault::CannotWrite,
-    }
-}
-
 /// What stands behind so many elements.
 fn behind<A>(elements: &[A], count: usize) -> &[A]
     ensures { result.now ≡ drop count elements.now }
@@ -221,17 +57,14 @@ fn behind<A>(elements: &[A], count: usize) -> &[A]
     elements.split_at(count.min(elements.len())).1
 }
 
-impl<'a> State<'a> {
-    /// The state in the file of this path.
-    pub(crate) fn new(alloc: Global, path: &'a str) -> Result<Self, ProgramFault>
-        ensures { IfErr result (λ fault. fault ≡ OutOfMemory) }
+impl State {
+    /// A state that is not loaded.
+    pub(crate) fn new(alloc: Global) -> Self
+        ensures { (result.memory ≡ nothing) × (result.epoch ≡ 0) × (result.is_loaded ≡ false) }
     {
-        Ok(State {
+        State {
             alloc,
-            path,
-            beside: format!(in alloc; "{path}.kept")?,
-            roots: None,
-            kept: None,
+            is_loaded: false,
             epoch: 0,
             memory: Memory::new(alloc),
             size: Some(0),
@@ -240,159 +73,102 @@ impl<'a> State<'a> {
             count: 0,
             head: 0,
             monitors: 0,
-        })
+        }
     }
 
-    /// Opens the files. What asks with their chain and promises, or the checks back if there is no chain yet.
+    /// Loads what is kept. What asks with the chain and the promises, or the checks back if there is no chain yet.
     ///
     /// # Errors
     ///
-    /// `CannotRead`; `CannotWrite` if a file cannot be made, locked or cut, with a line that says so where another run
-    /// has it; `BadItem` at the first line that is not as a run wrote it, or if the second file is there without a
-    /// chain, with a line that names the file; `OutOfMemory`.
-    pub(crate) fn load<F, H, V, S>(
+    /// Those of `Keeper::load`.
+    pub(crate) fn load<K, H, V, S>(
         &mut self,
-        alloc: Global,
-        files: &F,
+        keeper: &mut K,
         checks: Checks<H, V, S>,
         key: Hash32,
         token: Hash32,
         said: &mut Said,
     ) -> Result<Result<Asker<H, V, S>, Checks<H, V, S>>, ProgramFault>
     where
-        F: Files<File = File>,
+        K: Keeper,
         H: NodeHash + Drop,
         V: VufCheck + Drop,
         S: Verifier + Drop,
-        ensures knows { IfOk result (λ loaded. IfOk loaded (λ asker. (asker.key ≡ key) × (asker.token ≡ token) × (asker.monitors.items ≡ []))) }
+        ensures loads { IfOk result (λ loaded. IfOk loaded (λ asker. (acts : List Act) → K.has keeper.old acts → K.has keeper.new (Loads (stored_by asker) ∷ acts))) }
+        ensures fresh { IfOk result (λ loaded. IfErr loaded (λ unused. (acts : List Act) → K.has keeper.old acts → K.has keeper.new (Loads stored_nothing ∷ acts))) }
+        ensures fails { OnErr result (((acts : List Act) → K.has keeper.old acts → K.has keeper.new acts) × ((self.new).is_loaded ≡ (self.old).is_loaded)) }
+        ensures knows { IfOk result (λ loaded. IfOk loaded (λ asker. (asker.key ≡ key) × (asker.token ≡ token) × (asker.monitors.items ≡ []) × (asker.changes.items ≡ []))) }
+        ensures memory { IfOk result (λ loaded. IfOk loaded (λ asker. ((self.new).memory ≡ asker.known) × (asker.marks.items ≡ asker.known.marks))) }
+        ensures marks { IfOk result (λ loaded. IfOk loaded (λ asker. AreWithin asker.client.chain asker.known × HasOneOfEachName asker.known × IsHeadEpoch asker.client.chain (self.new).epoch)) }
+        ensures none { IfOk result (λ loaded. IfErr loaded (λ unused. ((self.new).memory ≡ (self.old).memory) × ((self.new).epoch ≡ (self.old).epoch))) }
         ensures sound { IfOk result (λ loaded. IfOk loaded (λ asker. IsSoundFor H.digest_of V.accepted S.verified key asker.client)) }
         ensures kept { IfOk result (λ loaded. IfOk loaded (λ asker. KeepsAll asker.client asker.earlier.items)) }
         ensures said { report_of said.new ≡ report_of said.old }
         ensures err { IfErr result IsFaultOfState }
     {
-        if is_there(files, self.beside.as_str()) && !is_there(files, self.path) {
-            return Err(fault_in(self.path, ProgramFault::BadItem(1), said));
-        }
-        let roots = open_roots(alloc, files, self.path, said)?;
-        let second = open_second(alloc, files, self.beside.as_str())?;
-        let lines = whole_lines(&roots.bytes);
-        if lines.is_empty() {
-            if second.is_some() {
-                return Err(fault_in(self.path, ProgramFault::BadItem(1), said));
+        match keeper.load(checks, key, token, said)? {
+            Ok(
+                Loaded {
+                    asker,
+                    memory,
+                    size,
+                },
+            ) => {
+                self.is_loaded = true;
+                self.epoch = asker.head();
+                self.memory = memory;
+                self.size = Some(size);
+                self.count = asker.client.promises().len();
+                self.head = asker.head();
+                Ok(Ok(asker))
             }
-            drop_rest(alloc, self.path, &roots, said)?;
-            self.roots = Some(roots.file);
-            return Ok(Err(checks));
+            Err(unused) => {
+                self.is_loaded = true;
+                Ok(Err(unused))
+            }
         }
-        let mut asker = match asker_from(alloc, lines, checks, key, token) {
-            Ok(asker) => asker,
-            Err(fault) => return Err(fault_in(self.path, fault, said)),
-        };
-        if let Some(second) = second.as_ref() {
-            self.keep(&mut asker, second, said)?;
-        }
-        drop_rest(alloc, self.path, &roots, said)?;
-        if let Some(second) = second {
-            drop_rest(alloc, self.beside.as_str(), &second, said)?;
-            self.kept = Some(second.file);
-        }
-        self.roots = Some(roots.file);
-        self.epoch = asker.client.chain().head().body.epoch;
-        Ok(Ok(asker))
     }
 
-    /// Remembers what the second file has. Evidence of earlier runs is told again.
-    fn keep<H, V, S>(
-        &mut self,
-        asker: &mut Asker<H, V, S>,
-        second: &LineFile,
-        said: &mut Said,
-    ) -> Result<(), ProgramFault>
-    where
-        H: NodeHash + Drop,
-        V: VufCheck + Drop,
-        S: Verifier + Drop,
-        ensures same { IsSameAsker asker.old asker.new }
-        ensures kept { OnOk result (StillKeeps asker.old asker.new) }
-        ensures knows { OnOk result ((self.new).memory ≡ asker.new.known) }
-        ensures said { report_of said.new ≡ report_of said.old }
-        ensures err { IfErr result IsFaultOfState }
-    {
-        let lines = whole_lines(&second.bytes);
-        self.memory = match asker.remember(lines) {
-            Ok(memory) => memory,
-            Err(fault) => return Err(fault_in(self.beside.as_str(), fault, said)),
-        };
-        self.size = Some(lines.len());
-        self.count = asker.client.promises().len();
-        self.head = asker.head();
-        Ok(())
-    }
-
-    /// Says that evidence is of an earlier run, in a line of the errors for each.
-    pub(crate) fn explain_evidence(&self, said: &mut Said) -> Result<(), AllocError>
-        ensures { report_of said.new ≡ report_of said.old }
-    {
-        let mut words = Vec::new(self.alloc);
-        for _ in self.memory.evidence() {
-            push_words(
-                &mut words,
-                self.beside.as_str(),
-                b"evidence of an earlier run",
-            )?;
-        }
-        said.words.extend_from_slice(&words)
-    }
-
-    /// Adds the roots, the promises and the evidence that are new to what the files have, and from where names are
-    /// watched. The text is what will be told.
+    /// Adds the roots, the promises and the evidence that are new to what is kept, and from where names are watched. The
+    /// text is what will be told.
     ///
     /// # Errors
     ///
     /// `CannotWrite`; `OutOfMemory`.
-    pub(crate) fn add<F, H, V, S>(
+    pub(crate) fn add<K, W, H, V, S>(
         &mut self,
-        files: &F,
+        keeper: &mut K,
+        writer: &W,
         asker: &Asker<H, V, S>,
         told: &[u8],
     ) -> Result<(), ProgramFault>
     where
-        F: Files<File = File>,
+        K: Keeper,
+        W: Write,
         H: NodeHash + Drop,
         V: VufCheck + Drop,
         S: Verifier + Drop,
         ensures err { IfErr result IsFaultOfSaving }
         ensures learns { OnOk result (LearnsBefore (drop (self.old).changes asker.now.changes.items) asker.now.client.promises told.now (drop (self.old).monitors asker.now.monitors.items) (self.old).memory (self.new).memory) }
         ensures looked { ((self.new).head ≡ (self.old).head) × ((self.new).monitors ≡ (self.old).monitors) }
+        ensures changes { OnOk result ((self.new).changes ≡ length asker.now.changes.items) }
+        ensures up_to { OnOk result (IsUpTo asker.now.client (self.new).epoch) }
+        ensures kept { (lines : Option (List (List ℕ))) (key : List ℕ) (start : Stored) (old : List ℕ) (acts : List Act) → IsKept H.digest_of V.accepted S.verified lines key start old (λ done. K.has keeper.old (done ++ acts)) (self.old).epoch (self.old).memory (W.contents writer.now)
+            → IsKept H.digest_of V.accepted S.verified lines key start old (λ done. K.has keeper.new (done ++ acts)) (self.new).epoch (self.new).memory (W.contents writer.now) }
+        ensures stands { OnOk result ((lines : Option (List (List ℕ))) (key : List ℕ) (start : Stored) (old : List ℕ) (acts : List Act) (said : List ℕ) → Stands H.digest_of V.accepted S.verified lines key start old (λ done. K.has keeper.old (done ++ acts)) (self.old).epoch (self.old).memory (W.contents writer.now) (standing asker.now.client asker.now.monitors.items said)
+            → Stands H.digest_of V.accepted S.verified lines key start old (λ done. K.has keeper.new (done ++ acts)) (self.new).epoch (self.new).memory (W.contents writer.now) (standing asker.now.client asker.now.monitors.items said)) }
     {
-        // Evidence is remembered even if no root can be added.
+        // If a fault comes before all is handed on, nothing tells how much is kept.
+        let size = self.size.take();
         let mut lines = Vec::new(self.alloc);
+        // Evidence is remembered even if no root can be added.
         self.memory
             .learn_told(self.alloc, told, Kind::EvidenceLines, &mut lines)?;
-        self.add_roots(asker)?;
+        self.hand_roots(keeper, writer, asker)?;
         self.learn_promises(asker, &mut lines)?;
         let begun = behind(&asker.monitors, self.monitors);
         self.memory.mark_begun(begun, &mut lines)?;
-        self.append_second(files, &lines)
-    }
-
-    /// Adds the roots that are new.
-    fn add_roots<H, V, S>(&mut self, asker: &Asker<H, V, S>) -> Result<(), ProgramFault>
-    where
-        H: NodeHash + Drop,
-        V: VufCheck + Drop,
-        S: Verifier + Drop,
-        ensures err { IfErr result IsFaultOfSaving }
-        ensures memory { (self.new).memory ≡ (self.old).memory }
-        ensures looked { ((self.new).changes ≡ (self.old).changes) × ((self.new).head ≡ (self.old).head) × ((self.new).monitors ≡ (self.old).monitors) }
-    {
-        let roots = asker.lines_after(self.epoch)?;
-        match self.roots.as_mut() {
-            Some(file) => append(file, &roots)?,
-            None => return Err(ProgramFault::CannotWrite),
-        }
-        self.epoch = asker.head();
-        Ok(())
+        self.hand_on(keeper, writer, size, &lines)
     }
 
     /// Adds the alarms that were told, and how far names were watched, and notes the promises that were tested.
@@ -400,34 +176,66 @@ impl<'a> State<'a> {
     /// # Errors
     ///
     /// `CannotWrite`; `OutOfMemory`.
-    pub(crate) fn save<F, H, V, S>(
+    pub(crate) fn save<K, W, H, V, S>(
         &mut self,
-        files: &F,
+        keeper: &mut K,
+        writer: &W,
         asker: &Asker<H, V, S>,
         told: &[u8],
     ) -> Result<(), ProgramFault>
     where
-        F: Files<File = File>,
+        K: Keeper,
+        W: Write,
         H: NodeHash + Drop,
         V: VufCheck + Drop,
         S: Verifier + Drop,
         ensures err { IfErr result IsFaultOfSaving }
         ensures learns { OnOk result ((some : List Watcher) × MayMove asker.now.client.chain (self.old).head (self.old).monitors asker.now.monitors.items some
             × LearnsAfter told.now asker.now.monitors.items some (self.old).memory (self.new).memory) }
+        ensures looked { OnOk result (((self.new).monitors ≡ length asker.now.monitors.items) × IsHeadEpoch asker.now.client.chain (self.new).head) }
+        ensures changes { (self.new).changes ≡ (self.old).changes }
+        ensures kept { (lines : Option (List (List ℕ))) (key : List ℕ) (start : Stored) (old : List ℕ) (acts : List Act) → IsUpTo asker.now.client (self.old).epoch
+            → Stands H.digest_of V.accepted S.verified lines key start old (λ done. K.has keeper.old (done ++ acts)) (self.old).epoch (self.old).memory (W.contents writer.now) (standing asker.now.client asker.now.monitors.items [])
+            → Stands H.digest_of V.accepted S.verified lines key start old (λ done. K.has keeper.new (done ++ acts)) (self.new).epoch (self.new).memory (W.contents writer.now) (standing asker.now.client asker.now.monitors.items []) }
     {
+        let size = self.size.take();
         let mut lines = Vec::new(self.alloc);
         self.memory
             .learn_told(self.alloc, told, Kind::Alarms, &mut lines)?;
         self.learn_marks(asker, &mut lines)?;
-        self.append_second(files, &lines)?;
+        self.hand_on(keeper, writer, size, &lines)?;
         self.note_tested(asker.client.promises())?;
+        Ok(())
+    }
+
+    /// Hands on the roots that are new.
+    fn hand_roots<K, W, H, V, S>(
+        &mut self,
+        keeper: &mut K,
+        writer: &W,
+        asker: &Asker<H, V, S>,
+    ) -> Result<(), ProgramFault>
+    where
+        K: Keeper,
+        W: Write,
+        H: NodeHash + Drop,
+        V: VufCheck + Drop,
+        S: Verifier + Drop,
+        ensures err { IfErr result IsFaultOfSaving }
+        ensures same { ((self.new).memory ≡ (self.old).memory) × ((self.new).changes ≡ (self.old).changes) × ((self.new).head ≡ (self.old).head) × ((self.new).monitors ≡ (self.old).monitors) }
+        ensures hands { (acts : List Act) → K.has keeper.old acts → K.has keeper.new (AddsRoots (roots_above (self.old).epoch asker.now.client.chain.roots) (W.contents writer.now) ∷ acts) }
+        ensures rises { (self.old).epoch ≤ (self.new).epoch }
+        ensures up_to { OnOk result (IsUpTo asker.now.client (self.new).epoch) }
+    {
+        keeper.add_roots(&asker.client, self.epoch, writer)?;
+        self.epoch = self.epoch.max(asker.head());
         Ok(())
     }
 
     /// Notes the promises that the client no longer keeps: they were tested.
     fn note_tested(&mut self, promises: &[SignedPromise]) -> Result<(), AllocError>
         ensures tested { OnOk result (((length promises.now ≡ (self.old).count) × ((self.new).tested ≡ (self.old).tested)) ⊎ AreGone (self.old).memory promises.now (self.new).tested.items) }
-        ensures memory { (self.new).memory ≡ (self.old).memory }
+        ensures same { ((self.new).memory ≡ (self.old).memory) × ((self.new).epoch ≡ (self.old).epoch) × ((self.new).changes ≡ (self.old).changes) × ((self.new).head ≡ (self.old).head) × ((self.new).monitors ≡ (self.old).monitors) }
     {
         if promises.len() != self.count {
             self.tested = self.memory.gone(self.alloc, promises)?;
@@ -461,7 +269,9 @@ impl<'a> State<'a> {
         S: Verifier + Drop,
         ensures learns { OnOk result ((news : List Remembered) × LearnsPromises (drop (self.old).changes asker.now.changes.items) asker.now.client.promises (self.old).memory news (self.new).memory
             × (lines.new.items ≡ lines.old.items ++ items_text news)) }
-        ensures looked { ((self.new).head ≡ (self.old).head) × ((self.new).monitors ≡ (self.old).monitors) }
+        ensures some { OnErr result (KeepsMarks (self.old).memory (self.new).memory) }
+        ensures changes { OnOk result ((self.new).changes ≡ length asker.now.changes.items) }
+        ensures same { ((self.new).epoch ≡ (self.old).epoch) × ((self.new).head ≡ (self.old).head) × ((self.new).monitors ≡ (self.old).monitors) }
     {
         let fresh = self.memory.fresh(asker.client.promises());
         let own = behind(&asker.changes, self.changes);
@@ -483,8 +293,11 @@ impl<'a> State<'a> {
         H: NodeHash + Drop,
         V: VufCheck + Drop,
         S: Verifier + Drop,
-        ensures { OnOk result ((some : List Watcher) × (news : List Remembered) × MayMove asker.now.client.chain (self.old).head (self.old).monitors asker.now.monitors.items some
+        ensures learns { OnOk result ((some : List Watcher) × (news : List Remembered) × MayMove asker.now.client.chain (self.old).head (self.old).monitors asker.now.monitors.items some
             × Each (MarksOne asker.now.monitors.items) some (self.old).memory news (self.new).memory × (lines.new.items ≡ lines.old.items ++ items_text news)) }
+        ensures some { OnErr result ((done : List Watcher) × (news : List Remembered) × AllByRecursion (Contains asker.now.monitors.items) done × Each (MarksOne asker.now.monitors.items) done (self.old).memory news (self.new).memory) }
+        ensures looked { OnOk result (((self.new).monitors ≡ length asker.now.monitors.items) × IsHeadEpoch asker.now.client.chain (self.new).head) }
+        ensures same { ((self.new).epoch ≡ (self.old).epoch) × ((self.new).changes ≡ (self.old).changes) }
     {
         let monitors = &asker.monitors;
         let known = if asker.head() == self.head {
@@ -499,56 +312,51 @@ impl<'a> State<'a> {
         Ok(())
     }
 
-    /// Drops the promises that nobody needs, and writes the second file anew if it has lines that no longer hold.
+    /// Drops the promises that nobody needs, and hands the memory on anew if there are lines that no longer hold.
     ///
     /// # Errors
     ///
-    /// `CannotWrite`: it has at least what it is to have; `OutOfMemory`.
-    pub(crate) fn finish<F: Files<File = File>>(
+    /// `CannotWrite`: at least the memory is kept; `OutOfMemory`.
+    pub(crate) fn finish<K: Keeper, W: Write>(
         &mut self,
-        alloc: Global,
-        files: &F,
+        keeper: &mut K,
+        writer: &W,
     ) -> Result<(), ProgramFault>
         ensures err { IfErr result IsFaultOfSaving }
-        ensures leaves { OnOk result (((self.old).roots ≡ None) ⊎ Leaves (self.old).tested.items (self.old).memory (self.new).memory) }
+        ensures leaves { OnOk result (((self.old).is_loaded ≡ false) ⊎ Leaves (self.old).tested.items (self.old).memory (self.new).memory) }
+        ensures marks { (self.new).memory.marks ≡ (self.old).memory.marks }
+        ensures hands { (acts : List Act) → K.has keeper.old acts → K.has keeper.new acts ⊎ (((self.old).is_loaded ≡ true) × K.has keeper.new (Remembers (self.new).memory (W.contents writer.now) ∷ acts)) }
+        ensures same { ((self.new).is_loaded ≡ (self.old).is_loaded) × ((self.new).epoch ≡ (self.old).epoch) }
     {
-        // If the state was not loaded, the file has what this run does not know.
-        if self.roots.is_none() {
+        if !self.is_loaded {
             return Ok(());
         }
         self.memory.leave(&self.tested);
-        let mut text = Vec::new(alloc);
+        let mut text = Vec::new(self.alloc);
         self.memory.write(&mut text)?;
-        // The file has at least these lines, some perhaps in the older form. Where it is as long, it needs no new one.
+        // At least these lines are kept, some perhaps in the older form. Where they are as long, nothing is to be dropped.
         if self.size == Some(text.len()) {
             return Ok(());
         }
-        replace(alloc, files, self.beside.as_str(), &text)
+        keeper.replace(&self.memory, &text, writer)
     }
 
-    /// Appends lines to the second file, which is made if it is not there.
-    fn append_second<F: Files<File = File>>(
+    /// Hands lines on to be kept, behind so many bytes, if that is known.
+    fn hand_on<K: Keeper, W: Write>(
         &mut self,
-        files: &F,
+        keeper: &mut K,
+        writer: &W,
+        size: Option<usize>,
         lines: &[u8],
     ) -> Result<(), ProgramFault>
         ensures err { IfErr result IsFaultOfSaving }
-        ensures same { ((self.new).memory ≡ (self.old).memory) × ((self.new).head ≡ (self.old).head) × ((self.new).monitors ≡ (self.old).monitors) }
+        ensures same { ((self.new).memory ≡ (self.old).memory) × ((self.new).epoch ≡ (self.old).epoch) × ((self.new).changes ≡ (self.old).changes) × ((self.new).head ≡ (self.old).head) × ((self.new).monitors ≡ (self.old).monitors) }
+        ensures hands { (acts : List Act) → K.has keeper.old acts → K.has keeper.new acts ⊎ K.has keeper.new (Remembers (self.old).memory (W.contents writer.now) ∷ acts) }
     {
-        if lines.is_empty() {
-            return Ok(());
+        if !lines.is_empty() {
+            keeper.add(&self.memory, lines, writer)?;
         }
-        let mut file = match self.kept.take() {
-            Some(file) => file,
-            None => match open_kept(files, self.beside.as_str()) {
-                Ok(file) => file,
-                Err(fault) => return Err(saving_fault(fault)),
-            },
-        };
-        let written = append(&mut file, lines);
-        let size = self.size.map(|size| size.saturating_add(lines.len()));
-        self.size = if written.is_ok() { size } else { None };
-        self.kept = Some(file);
-        written
+        self.size = size.map(|size| size.saturating_add(lines.len()));
+        Ok(())
     }
 }

@@ -1,8 +1,3 @@
-use Rattle.asking.proofs.OwnRoots.{taken-from, taken-there}
-use Rattle.asking.proofs.HeldMarks.{begun-held, held-more, moved-held}
-use Rattle.asking.proofs.KeptTold.{adds-roots-kept, held-kept, keeps-told, learned-kept, loads-kept, remembers-kept, text-kept}
-use Rattle.asking.proofs.StateRuns.{marks-over-runs, roots-over-runs, told-over-runs}
-use Rattle.asking.proofs.PutMarks.{begun-or-old, once-after, once-before, stays-after, stays-before}
 use Rattle.std.proofs.Common.{◌≡◌, None}
 use Rattle.asking.specs.Exchanges.{ExchangesFrames}
 use Rattle.asking.proofs.ToldScenes.{whole-keeps}

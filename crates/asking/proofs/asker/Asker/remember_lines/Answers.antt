@@ -1,7 +1,7 @@
 use Rattle.std.proofs.Common.{◌+◌, ◌∙◌, arith}
 use Rattle.textio.specs.Lines.{lines_of}
 use Rattle.memory.proofs.Recalled.{recalls-taken}
-use Rattle.asking.specs.Runs.{IsSameAsker}
+use Rattle.asking.proofs.Marks.{within_on}
 use Rattle.asking.proofs.Remembered.{own_on, same_on}
 use Rattle.asking.proofs.asker.Asker.remember_lines.Goals as goal
 
@@ -18,4 +18,8 @@ loop-rest-preserved g c =
       few = omega (arith, c.first_line.ensures.less, c.loop-rest.invariant.few);
       own = own_on (lines_of c.args.text.now) (lines_of c.loop-rest.rest.now) line behind c.args.self.now.earlier.items c.loop-rest.self.earlier.items c.remember_line.new.self.earlier.items one
           c.first_line.ensures.lines is grown c.loop-rest.invariant.own;
+      chain = c.remember_line.ensures.chain ∙ c.loop-rest.invariant.chain;
+      changes = c.remember_line.ensures.changes ∙ c.loop-rest.invariant.changes;
+      within = within_on c.args.self.now.client.chain c.loop-rest.self.client.chain c.loop-rest.memory c.remember_line.new.memory c.loop-rest.invariant.chain
+          c.in_ok-remember_line.ensures.within c.loop-rest.invariant.within;
     }

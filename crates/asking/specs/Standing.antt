@@ -1,0 +1,110 @@
+-- Where a run stands to what it keeps.
+use Rattle.std.specs.Prelude.{◌≡◌, ◌⊎◌, ℕ, ◌<◌, ◌≤◌, List, [], ◌∷◌, ◌++◌, false, true, Contains, Option, Some, None, ⊤}
+use Rattle.std.specs.List.{AllByRecursion}
+use Rattle.rootchain.specs.declared.signed_root.SignedRoot.{SignedRoot}
+use Rattle.rootchain.specs.Chains.{IsHead}
+use Rattle.client.specs.Clients.{Client}
+use Rattle.memory.specs.Memories.{nothing, Memory}
+use Rattle.memory.specs.declared.mark.Mark.{Mark}
+use Rattle.monitor.specs.Monitors.{Monitor}
+use Rattle.play.specs.Scripts.{line_of, Watch}
+use Rattle.asking.specs.Owning.{Owns}
+use Rattle.asking.specs.Remembering.{AreWithin}
+use Rattle.asking.specs.Saves.{stored_after, stored_by, stored_nothing, Act, AllKeepTold, HasOneOfEachName, IsAsked, IsHeadEpoch, Loads, Remembers, IsSignedBy, KeepsTold, Stored}
+use Rattle.asking.specs.Scenes.{Scene}
+use Rattle.asking.specs.declared.asker.Asker.{Asker}
+use Rattle.asking.specs.declared.state.State.{State}
+
+-- each mark has nothing above this epoch, or nothing at all
+abbrev pub Fits : ℕ → Memory → Type 0
+Fits epoch known = (mark : Mark) → Contains known.marks mark → (mark.epoch ≤ mark.since) ⊎ (mark.epoch ≤ epoch)
+
+-- each mark is an old one, or nothing was watched of it yet; and no old one is lost
+pub record KeepsMarks (before after : Memory) : Type 0 where
+  pub known : (mark : Mark) → Contains after.marks mark → Contains before.marks mark ⊎ (mark.since ≡ mark.epoch)
+  pub still : (mark : Mark) → Contains before.marks mark → Contains after.marks mark
+  pub once : HasOneOfEachName before → HasOneOfEachName after
+
+-- the scene of a client and its monitors, and of lines that are told and not yet written
+abbrev pub standing : Client → List Monitor → List ℕ → Scene (Unit {0})
+standing client monitors lines = record { client = client; monitors = monitors; told = record { lines = lines; status = 0 }; stream = tt }
+
+module _ (hash : List ℕ → List ℕ) (accepted verified : List ℕ → List ℕ → List ℕ → Type 0) (lines : Option (List (List ℕ))) (key : List ℕ) (start : Stored) (old : List ℕ) where
+  -- What was kept in a run, and what is to be kept next, was told before. The output had one text before the run, which began
+  -- with what was stored. No root of an epoch up to this one is still to be kept.
+  pub record IsKept (Happened : List Act → Type 0) (epoch : ℕ) (known : Memory) (out : Option (List ℕ)) : Type 0 where
+    pub acts : List Act
+    pub happened : Happened acts
+    pub text : List ℕ
+    pub is-out : out ≡ Some (old ++ text)
+    pub all : AllKeepTold hash accepted (IsAsked lines) (IsSignedBy verified key) start old acts
+    pub now : KeepsTold hash accepted (IsAsked lines) (IsSignedBy verified key) start text (stored_after acts)
+    pub next : KeepsTold hash accepted (IsAsked lines) (IsSignedBy verified key) start text (record { roots = (stored_after acts).roots; known = known })
+    pub early : (mark : Mark) → Contains start.known.marks mark → (root : SignedRoot) → Contains (stored_after acts).roots root → mark.since < root.body.epoch → root.body.epoch ≤ mark.epoch → Contains start.roots root
+    pub low-start : Fits epoch start.known
+    pub low : Fits epoch (stored_after acts).known
+    pub low-next : Fits epoch known
+    pub begun : HasOneOfEachName start.known
+    pub once : HasOneOfEachName known
+
+  -- and the client, the monitors and the marks stand so to it
+  pub record Stands (Happened : List Act → Type 0) (epoch : ℕ) (known : Memory) (out : Option (List ℕ)) (now : Scene (Unit {0})) : Type 0 where
+    pub kept : IsKept Happened epoch known out
+    pub owns : Owns hash accepted verified (IsAsked lines) (IsSignedBy verified key) kept.text (stored_after kept.acts).roots start.known.marks known.marks now
+
+  -- where there is a state
+  abbrev pub StateIsKept : (List Act → Type 0) → Option State → Option (List ℕ) → Type 0
+  StateIsKept Happened None out = ⊤
+  StateIsKept Happened (Some state) out = IsKept Happened state.epoch state.memory out
+
+  abbrev pub StateStands : (List Act → Type 0) → Option State → Option (List ℕ) → Scene (Unit {0}) → Type 0
+  StateStands Happened None out now = ⊤
+  StateStands Happened (Some state) out now = Stands Happened state.epoch state.memory out now
+
+-- the head of the client's chain is not above this epoch
+abbrev pub IsUpTo : Client → ℕ → Type 0
+IsUpTo client epoch = (head : SignedRoot) → IsHead client.chain head → head.body.epoch ≤ epoch
+
+-- the client follows the key of what asks, which signed each promise for a change of its own
+abbrev pub IsReady : {H V S : Type 0} → (List ℕ → List ℕ → List ℕ → Type 0) → Asker H V S → Type 0
+IsReady verified asker = (asker.client.chain.key ≡ asker.key) × AllByRecursion (IsSignedBy verified asker.key) (asker.earlier.items ++ asker.changes.items)
+
+-- a state in which nothing is kept yet
+abbrev pub IsFresh : Option State → Type 0
+IsFresh None = ⊤
+IsFresh (Some state) = (state.memory ≡ nothing) × (state.epoch ≡ 0) × (state.is_loaded ≡ false)
+
+module _ (hash : List ℕ → List ℕ) (accepted verified : List ℕ → List ℕ → List ℕ → Type 0) (lines : Option (List (List ℕ))) where
+  -- so a run stands that has a state, where the lines of what was said are not yet written
+  abbrev pub RunStands : {H V S : Type 0} → Stored → List ℕ → (List Act → Type 0) → Asker H V S → List ℕ → Option State → Option (List ℕ) → Type 0
+  RunStands start old Happened asker said None out = ⊤
+  RunStands start old Happened asker said (Some state) out = Stands hash accepted verified lines asker.key start old Happened state.epoch state.memory out (standing asker.client asker.monitors.items said)
+      × (start.known.marks ≡ asker.marks.items) × IsReady verified asker
+
+  -- what a run leaves: nothing was loaded, or all that was kept was told before
+  abbrev pub IsLeft : List ℕ → List ℕ → (List Act → Type 0) → Option State → Option (List ℕ) → Type 0
+  IsLeft key old Happened None out = Happened []
+  IsLeft key old Happened (Some state) out = ((state.is_loaded ≡ false) × Happened []) ⊎ ((start : Stored) × IsKept hash accepted verified lines key start old Happened state.epoch state.memory out)
+
+-- what is asked on a line, where it asks for a name to be watched, is among these lines
+abbrev pub AsksAmong : Option (List (List ℕ)) → List ℕ → Type 0
+AsksAmong lines line = (name : List ℕ) (given : Option (List ℕ)) → line_of line ≡ Some (Watch name given) → IsAsked lines name given
+
+-- what happens where a state is loaded, where nothing is stored, and where it cannot be loaded
+abbrev pub HasLoaded : {H V S : Type 0} → (List Act → Type 0) → (List Act → Type 0) → Asker H V S → Option State → Type 0
+HasLoaded Before After asker None = ⊥
+HasLoaded Before After asker (Some state) = ((acts : List Act) → Before acts → After (Loads (stored_by asker) ∷ acts))
+    × (state.memory ≡ asker.known) × (asker.marks.items ≡ asker.known.marks) × (asker.changes.items ≡ []) × AreWithin asker.client.chain asker.known × HasOneOfEachName asker.known × IsHeadEpoch asker.client.chain state.epoch
+
+abbrev pub HasBegun : (List Act → Type 0) → (List Act → Type 0) → Option State → Option State → Type 0
+HasBegun Before After None after = (after ≡ None) × ((acts : List Act) → Before acts → After acts)
+HasBegun Before After (Some before) after = (state : State) × (after ≡ Some state) × ((acts : List Act) → Before acts → After (Loads stored_nothing ∷ acts)) × (state.memory ≡ before.memory) × (state.epoch ≡ before.epoch)
+
+abbrev pub HasFailed : (List Act → Type 0) → (List Act → Type 0) → Option State → Option State → Type 0
+HasFailed Before After None after = ⊥
+HasFailed Before After (Some before) after = (state : State) × (after ≡ Some state) × ((acts : List Act) → Before acts → After acts) × (state.is_loaded ≡ before.is_loaded)
+
+-- what happens at the end: nothing, or all is handed on once more, if it was loaded
+abbrev pub LeavesState : (List Act → Type 0) → List Act → Option State → Option (List ℕ) → Type 0
+LeavesState After acts None out = After acts
+LeavesState After acts (Some state) out = After acts ⊎ ((state.is_loaded ≡ true) × ((known : Memory) × (known.marks ≡ state.memory.marks) × After (Remembers known out ∷ acts)))
