@@ -13,6 +13,10 @@ pub record StateRun (X : Type 0) : Type 0 where
   pub acts : List Act
   pub left : List Act
 
+-- the first of the acts loads this
+abbrev pub FirstLoads : List Act → Stored → Type 0
+FirstLoads acts found = (later : List Act) × (acts ≡ later ++ Loads found ∷ [])
+
 -- these acts are the first of all
 abbrev pub AreFirst : List Act → List Act → Type 0
 AreFirst acts first = (first ≢ []) × ((later : List Act) × (acts ≡ later ++ first))
@@ -31,11 +35,11 @@ WasWritten old (Remembers known out ∷ acts) text = out ≡ Some (old ++ text)
 
 -- what the owner gave and which promises are for the owner's own changes is known by what was asked
 module _ (hash : List ℕ → List ℕ) (accepted : List ℕ → List ℕ → List ℕ → Type 0) {X : Type 0} (Given : X → List ℕ → Option (List ℕ) → Type 0) (Own : X → SignedPromise → Type 0) where
-  -- each run loads what the files had after those before it, and keeps all told that it does to them
+  -- each run finds what the files had after those before it, and keeps all told that it does to them
   abbrev pub AllRun : List (StateRun X) → Type 0
   AllRun [] = ⊤
-  AllRun (run ∷ earlier) =
-      AllKeepTold hash accepted (Given run.asked) (Own run.asked) (left_by earlier) run.old run.acts × AreFirst run.acts run.left × AllRun earlier
+  AllRun (run ∷ earlier) = FirstLoads run.acts (left_by earlier) × ((start : Stored) × AllKeepTold hash accepted (Given run.asked) (Own run.asked) start run.old run.acts)
+      × AreFirst run.acts run.left × AllRun earlier
 
   -- it is told of the root for the name in what one of the runs wrote before it did the last that is left
   abbrev pub WasTold : List (StateRun X) → List ℕ → SignedRoot → Type 0
