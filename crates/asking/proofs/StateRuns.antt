@@ -11,9 +11,6 @@ some-left : (front back : List Act) → back ≢ [] → front ++ back ≡ [] →
 some-left [] back some none = some none
 some-left (act ∷ front) back some none = cc
 
-loads-same : (one other : Stored) → Loads one ∷ [] ≡ Loads other ∷ [] → one ≡ other
-loads-same one other e = cc
-
 module _ (hash : List ℕ → List ℕ) (accepted : List ℕ → List ℕ → List ℕ → Type 0) where
   module _ (Given : List ℕ → Option (List ℕ) → Type 0) (Own : SignedPromise → Type 0) (start : Stored) (old : List ℕ) where
     -- the first of the acts keep all told too
