@@ -25,6 +25,7 @@ pub mod HeldMarks
 pub mod StateRuns
 pub mod Settled
 pub mod Stepped
+pub mod Stood
 pub mod Stopped
 pub mod Telling
 pub mod Tested

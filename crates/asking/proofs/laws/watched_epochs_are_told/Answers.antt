@@ -1,3 +1,4 @@
+use Rattle.asking.proofs.Stood.{kept-known, kept-happened, kept-out, kept-roots, kept-remembered, kept-handed, stands-same, stands-begun, stands-roots, stands-handed, stands-moved}
 use Rattle.std.proofs.Common.{◌≡◌, None}
 use Rattle.asking.specs.Exchanges.{ExchangesFrames}
 use Rattle.asking.proofs.ToldScenes.{whole-keeps}

@@ -1,0 +1,336 @@
+-- How what a run keeps stays told, act by act.
+use Rattle.std.proofs.Common.{◌≡◌, ◌∙◌, ◌⊎◌, ℕ, suc, ◌<◌, ◌≤◌, Bool, true, false, List, [], ◌∷◌, ◌++◌, Contains, Option, Some, ap, append-nil, append_assoc, arith, inl, inr, refl, subst, sym}
+use Rattle.std.specs.Prelude.{if◌then◌else◌, nat_lt}
+use Rattle.std.specs.List.{AllByRecursion}
+use Rattle.std.proofs.lemmas.Bool.{ltb-true}
+use Rattle.std.proofs.lemmas.List.Elements.{All-contains, All-from_recursion, Contains-append_cases}
+use Rattle.rootchain.specs.Chains.{IsHead}
+use Rattle.rootchain.specs.declared.signed_root.SignedRoot.{SignedRoot}
+use Rattle.client.specs.Clients.{Client}
+use Rattle.memory.specs.Memories.{Memory}
+use Rattle.memory.specs.declared.mark.Mark.{Mark}
+use Rattle.monitor.specs.Monitors.{Monitor}
+use Rattle.asking.specs.Owning.{IsHeld, IsOwn, Owns, WasWatched}
+use Rattle.asking.specs.Saves.{roots_above, stored_after, Act, AddsRoots, AllKeepTold, HasMark, IsAsked, IsSignedBy, KeepsTold, Remembers, Stored, WasStored}
+use Rattle.asking.specs.Scenes.{Scene}
+use Rattle.asking.specs.Standing.{standing, Fits, IsKept, IsUpTo, KeepsMarks, Stands}
+use Rattle.asking.specs.Told.{TellsEpoch}
+use Rattle.asking.proofs.HeldMarks.{begun-held, moved-held}
+use Rattle.asking.proofs.KeptTold.{adds-roots-kept, keeps-told, remembers-kept, text-kept}
+use Rattle.asking.proofs.PutMarks.{begun-marks, moved-once, moved-stays, EachPuts, IsBegun, IsMoved}
+
+-- ---- roots above an epoch
+
+above-cons : (P : SignedRoot → Type 0) (test : Bool) (root : SignedRoot) (roots : List SignedRoot) → (test ≡ true → P root) → AllByRecursion P roots → AllByRecursion P (if test then root ∷ roots else roots)
+above-cons P true root roots here all = (here refl, all)
+above-cons P false root roots here all = all
+
+pub above-all : (epoch : ℕ) (roots : List SignedRoot) → AllByRecursion (λ (root : SignedRoot). epoch < root.body.epoch) (roots_above epoch roots)
+above-all epoch [] = tt
+above-all epoch (root ∷ roots) =
+    above-cons (λ (r : SignedRoot). epoch < r.body.epoch) (nat_lt epoch root.body.epoch) root (roots_above epoch roots) (λ is. ltb-true epoch root.body.epoch is) (above-all epoch roots)
+
+-- they are roots of the list
+above-from : (epoch : ℕ) (P : SignedRoot → Type 0) (roots : List SignedRoot) → AllByRecursion P roots → AllByRecursion P (roots_above epoch roots)
+above-from epoch P [] all = tt
+above-from epoch P (root ∷ roots) all = above-cons P (nat_lt epoch root.body.epoch) root (roots_above epoch roots) (λ is. all.0) (above-from epoch P roots all.1)
+
+each-of : {A : Type 0} (P : A → Type 0) (xs : List A) → ((x : A) → Contains xs x → P x) → AllByRecursion P xs
+each-of P [] each = tt
+each-of P (x ∷ xs) each = (each x (0, omega arith, refl), each-of P xs (λ y has. each y (suc has.0, omega (arith, has.1), has.2)))
+
+all-in : {A : Type 0} (P : A → Type 0) (xs : List A) (x : A) → AllByRecursion P xs → Contains xs x → P x
+all-in P xs x all has = All-contains P xs x (All-from_recursion P xs all) has
+
+all-join : {A : Type 0} (P : A → Type 0) (xs ys : List A) → AllByRecursion P xs → AllByRecursion P ys → AllByRecursion P (xs ++ ys)
+all-join P [] ys one other = other
+all-join P (x ∷ xs) ys one other = (one.0, all-join P xs ys one.1 other)
+
+pub fits-up : (epoch epoch' : ℕ) (known : Memory) → epoch ≤ epoch' → Fits epoch known → Fits epoch' known
+fits-up epoch epoch' known up fits mark has = elim (fits mark has) [
+  | inl empty ↦ inl empty
+  | inr low ↦ inr (omega (arith, up, low))
+]
+
+none-above : (mark : Mark) (epoch : ℕ) (root : SignedRoot) → (mark.epoch ≤ mark.since) ⊎ (mark.epoch ≤ epoch) → epoch < root.body.epoch → mark.since < root.body.epoch → root.body.epoch ≤ mark.epoch → ⊥
+none-above mark epoch root (inl empty) new above below = omega (arith, empty, above, below)
+none-above mark epoch root (inr low) new above below = omega (arith, low, new, below)
+
+module _ (hash : List ℕ → List ℕ) (accepted verified : List ℕ → List ℕ → List ℕ → Type 0) (lines : Option (List (List ℕ))) (key : List ℕ) (start : Stored) (old : List ℕ) where
+  abbrev Kept : (List Act → Type 0) → ℕ → Memory → Option (List ℕ) → Type 0
+  Kept = IsKept hash accepted verified lines key start old
+
+  abbrev Told : List ℕ → Stored → Type 0
+  Told = KeepsTold hash accepted (IsAsked lines) (IsSignedBy verified key) start
+
+  module _ (Happened : List Act → Type 0) (epoch : ℕ) (known : Memory) (out : Option (List ℕ)) (kept : IsKept hash accepted verified lines key start old Happened epoch known out) where
+    -- more is learned, and no mark moves
+    abbrev pub kept-known : (known' : Memory) → KeepsMarks known known' → IsKept hash accepted verified lines key start old Happened epoch known' out
+    kept-known known' marks = record {
+      acts = kept.acts;
+      happened = kept.happened;
+      text = kept.text;
+      is-out = kept.is-out;
+      all = kept.all;
+      now = kept.now;
+      next = remembers-kept hash accepted (IsAsked lines) (IsSignedBy verified key) start kept.text (record { roots = (stored_after kept.acts).roots; known = known }) kept.next known' marks.known
+          (λ mark has. let (own, there, named, low) = kept.next.stays mark has in (own, marks.still own there, named, low));
+      early = kept.early;
+      low-start = kept.low-start;
+      low = kept.low;
+      low-next = λ mark has. elim (marks.known mark has) [
+        | inl there ↦ kept.low-next mark there
+        | inr empty ↦ inl (omega (arith, empty))
+      ];
+      begun = kept.begun;
+      once = marks.once kept.once;
+    }
+
+    -- the same has happened
+    abbrev pub kept-happened : (Happened' : List Act → Type 0) → ((acts : List Act) → Happened acts → Happened' acts) → IsKept hash accepted verified lines key start old Happened' epoch known out
+    kept-happened Happened' goes = record {
+      acts = kept.acts;
+      happened = goes kept.acts kept.happened;
+      text = kept.text;
+      is-out = kept.is-out;
+      all = kept.all;
+      now = kept.now;
+      next = kept.next;
+      early = kept.early;
+      low-start = kept.low-start;
+      low = kept.low;
+      low-next = kept.low-next;
+      begun = kept.begun;
+      once = kept.once;
+    }
+
+    -- more is written
+    abbrev pub kept-out : (out' : Option (List ℕ)) (more : List ℕ) → out' ≡ Some ((old ++ kept.text) ++ more) → IsKept hash accepted verified lines key start old Happened epoch known out'
+    kept-out out' more is = record {
+      acts = kept.acts;
+      happened = kept.happened;
+      text = kept.text ++ more;
+      is-out = is ∙ ap Some (append_assoc old kept.text more);
+      all = kept.all;
+      now = text-kept hash accepted (IsAsked lines) (IsSignedBy verified key) start kept.text (stored_after kept.acts) kept.now more;
+      next = text-kept hash accepted (IsAsked lines) (IsSignedBy verified key) start kept.text (record { roots = (stored_after kept.acts).roots; known = known }) kept.next more;
+      early = kept.early;
+      low-start = kept.low-start;
+      low = kept.low;
+      low-next = kept.low-next;
+      begun = kept.begun;
+      once = kept.once;
+    }
+
+    -- roots are added
+    module _ (Happened' : List Act → Type 0) (epoch' : ℕ) (roots : List SignedRoot) (up : epoch ≤ epoch') (goes : (acts : List Act) → Happened acts → Happened' (AddsRoots (roots_above epoch roots) out ∷ acts)) where
+      pub adds : Told kept.text (record { roots = (stored_after kept.acts).roots ++ roots_above epoch roots; known = (stored_after kept.acts).known })
+      adds = adds-roots-kept hash accepted (IsAsked lines) (IsSignedBy verified key) start kept.text (stored_after kept.acts) kept.now (roots_above epoch roots) epoch (above-all epoch roots) kept.low
+
+      pub early-still : (mark : Mark) → Contains start.known.marks mark → (root : SignedRoot) → Contains ((stored_after kept.acts).roots ++ roots_above epoch roots) root → mark.since < root.body.epoch → root.body.epoch ≤ mark.epoch → Contains start.roots root
+      early-still mark has root among above below = elim (Contains-append_cases (stored_after kept.acts).roots (roots_above epoch roots) root among) [
+        | inl there ↦ kept.early mark has root there above below
+        | inr new ↦ absurd (none-above mark epoch root (kept.low-start mark has) (all-in (λ (r : SignedRoot). epoch < r.body.epoch) (roots_above epoch roots) root (above-all epoch roots) new) above below)
+      ]
+
+      abbrev pub kept-roots : IsKept hash accepted verified lines key start old Happened' epoch' known out
+      kept-roots = record {
+        acts = AddsRoots (roots_above epoch roots) out ∷ kept.acts;
+        happened = goes kept.acts kept.happened;
+        text = kept.text;
+        is-out = kept.is-out;
+        all = (kept.all, (kept.text, kept.is-out, adds));
+        now = adds;
+        next = adds-roots-kept hash accepted (IsAsked lines) (IsSignedBy verified key) start kept.text (record { roots = (stored_after kept.acts).roots; known = known }) kept.next
+            (roots_above epoch roots) epoch (above-all epoch roots) kept.low-next;
+        early = early-still;
+        low-start = fits-up epoch epoch' start.known up kept.low-start;
+        low = fits-up epoch epoch' (stored_after kept.acts).known up kept.low;
+        low-next = fits-up epoch epoch' known up kept.low-next;
+        begun = kept.begun;
+        once = kept.once;
+      }
+
+    -- what is known is to be remembered
+    abbrev pub kept-remembered : (Happened' : List Act → Type 0) → ((acts : List Act) → Happened acts → Happened' (Remembers known out ∷ acts)) → IsKept hash accepted verified lines key start old Happened' epoch known out
+    kept-remembered Happened' goes = record {
+      acts = Remembers known out ∷ kept.acts;
+      happened = goes kept.acts kept.happened;
+      text = kept.text;
+      is-out = kept.is-out;
+      all = (kept.all, (kept.text, kept.is-out, kept.next));
+      now = kept.next;
+      next = kept.next;
+      early = kept.early;
+      low-start = kept.low-start;
+      low = kept.low-next;
+      low-next = kept.low-next;
+      begun = kept.begun;
+      once = kept.once;
+    }
+
+    -- it is, or nothing happens
+    abbrev pub kept-handed : (Happened' : List Act → Type 0) → ((acts : List Act) → Happened acts → Happened' acts ⊎ Happened' (Remembers known out ∷ acts)) → IsKept hash accepted verified lines key start old Happened' epoch known out
+    kept-handed Happened' goes = elim (goes kept.acts kept.happened) [
+      | inl same ↦ record {
+        acts = kept.acts;
+        happened = same;
+        text = kept.text;
+        is-out = kept.is-out;
+        all = kept.all;
+        now = kept.now;
+        next = kept.next;
+        early = kept.early;
+        low-start = kept.low-start;
+        low = kept.low;
+        low-next = kept.low-next;
+        begun = kept.begun;
+        once = kept.once;
+      }
+      | inr more ↦ record {
+        acts = Remembers known out ∷ kept.acts;
+        happened = more;
+        text = kept.text;
+        is-out = kept.is-out;
+        all = (kept.all, (kept.text, kept.is-out, kept.next));
+        now = kept.next;
+        next = kept.next;
+        early = kept.early;
+        low-start = kept.low-start;
+        low = kept.low-next;
+        low-next = kept.low-next;
+        begun = kept.begun;
+        once = kept.once;
+      }
+    ]
+
+  -- ---- with the scene
+
+  owns-known : (text : List ℕ) (stored : List SignedRoot) (known known' : List Mark) (now : Scene (Unit {0})) → Owns hash accepted verified (IsAsked lines) (IsSignedBy verified key) text stored start.known.marks known now
+      → ((mark : Mark) → Contains known' mark → IsHeld hash accepted verified (IsAsked lines) (IsSignedBy verified key) text start.known.marks now.client.chain now.monitors mark)
+      → Owns hash accepted verified (IsAsked lines) (IsSignedBy verified key) text stored start.known.marks known' now
+  owns-known text stored known known' now owns held = record { chain = owns.chain; formed = owns.formed; stores = owns.stores; watched = owns.watched; held = held }
+
+  owns-stored : (text : List ℕ) (stored stored' : List SignedRoot) (known : List Mark) (now : Scene (Unit {0})) → Owns hash accepted verified (IsAsked lines) (IsSignedBy verified key) text stored start.known.marks known now
+      → AllByRecursion (Contains now.client.chain.roots) stored' → Owns hash accepted verified (IsAsked lines) (IsSignedBy verified key) text stored' start.known.marks known now
+  owns-stored text stored stored' known now owns stores = record { chain = owns.chain; formed = owns.formed; stores = stores; watched = owns.watched; held = owns.held }
+
+  module _ (Happened : List Act → Type 0) (epoch : ℕ) (known : Memory) (out : Option (List ℕ)) (now : Scene (Unit {0})) (stands : Stands hash accepted verified lines key start old Happened epoch known out now) where
+    -- lines and promises are learned
+    pub stands-same : (known' : Memory) → known'.marks ≡ known.marks → KeepsMarks known known' → Stands hash accepted verified lines key start old Happened epoch known' out now
+    stands-same known' same marks = record {
+      kept = kept-known Happened epoch known out stands.kept known' marks;
+      owns = subst (λ (ms : List Mark). Owns hash accepted verified (IsAsked lines) (IsSignedBy verified key) stands.kept.text (stored_after stands.kept.acts).roots start.known.marks ms now) (sym same) stands.owns;
+    }
+
+    -- new monitors get marks
+    pub stands-begun : (begun : List Monitor) (known' : Memory) → AllByRecursion (Contains now.monitors) begun → EachPuts IsBegun begun known.marks known'.marks
+        → Stands hash accepted verified lines key start old Happened epoch known' out now
+    stands-begun begun known' among puts = record {
+      kept = kept-known Happened epoch known out stands.kept known' (begun-marks begun known known' puts);
+      owns = owns-known stands.kept.text (stored_after stands.kept.acts).roots known.marks known'.marks now stands.owns (begun-held hash accepted verified (IsAsked lines) (IsSignedBy verified key) stands.kept.text (stands.kept.text ++ now.told.lines) now.client.chain start.known.marks now.monitors begun known.marks known'.marks
+            stands.owns.chain stands.owns.watched among puts stands.owns.held);
+    }
+
+    pub stands-roots : (Happened' : List Act → Type 0) (epoch' : ℕ) → epoch ≤ epoch' → ((acts : List Act) → Happened acts → Happened' (AddsRoots (roots_above epoch now.client.chain.roots) out ∷ acts))
+        → Stands hash accepted verified lines key start old Happened' epoch' known out now
+    stands-roots Happened' epoch' up goes = record {
+      kept = kept-roots Happened epoch known out stands.kept Happened' epoch' now.client.chain.roots up goes;
+      owns = owns-stored stands.kept.text (stored_after stands.kept.acts).roots ((stored_after stands.kept.acts).roots ++ roots_above epoch now.client.chain.roots) known.marks now stands.owns (all-join (Contains now.client.chain.roots) (stored_after stands.kept.acts).roots (roots_above epoch now.client.chain.roots) stands.owns.stores
+            (above-from epoch (Contains now.client.chain.roots) now.client.chain.roots (each-of (Contains now.client.chain.roots) now.client.chain.roots (λ root has. has))));
+    }
+
+    pub stands-handed : (Happened' : List Act → Type 0) → ((acts : List Act) → Happened acts → Happened' acts ⊎ Happened' (Remembers known out ∷ acts)) → Stands hash accepted verified lines key start old Happened' epoch known out now
+    stands-handed Happened' goes = elim (goes stands.kept.acts stands.kept.happened) [
+      | inl same ↦ record {
+        kept = record {
+          acts = stands.kept.acts;
+          happened = same;
+          text = stands.kept.text;
+          is-out = stands.kept.is-out;
+          all = stands.kept.all;
+          now = stands.kept.now;
+          next = stands.kept.next;
+          early = stands.kept.early;
+          low-start = stands.kept.low-start;
+          low = stands.kept.low;
+          low-next = stands.kept.low-next;
+          begun = stands.kept.begun;
+          once = stands.kept.once;
+        };
+        owns = stands.owns;
+      }
+      | inr more ↦ record {
+        kept = record {
+          acts = Remembers known out ∷ stands.kept.acts;
+          happened = more;
+          text = stands.kept.text;
+          is-out = stands.kept.is-out;
+          all = (stands.kept.all, (stands.kept.text, stands.kept.is-out, stands.kept.next));
+          now = stands.kept.next;
+          next = stands.kept.next;
+          early = stands.kept.early;
+          low-start = stands.kept.low-start;
+          low = stands.kept.low-next;
+          low-next = stands.kept.low-next;
+          begun = stands.kept.begun;
+          once = stands.kept.once;
+        };
+        owns = stands.owns;
+      }
+    ]
+
+  -- ---- marks move
+
+  module _ (Happened : List Act → Type 0) (epoch : ℕ) (known : Memory) (out : Option (List ℕ)) (client : Client) (monitors : List Monitor) (stands : Stands hash accepted verified lines key start old Happened epoch known out (standing client monitors []))
+      (up-to : IsUpTo client epoch) (some : List Monitor) (among : AllByRecursion (Contains monitors) some) (known' : Memory) (puts : EachPuts (IsMoved monitors) some known.marks known'.marks) where
+    abbrev text : List ℕ
+    text = stands.kept.text
+
+    abbrev Held : Mark → Type 0
+    Held = IsHeld hash accepted verified (IsAsked lines) (IsSignedBy verified key) text start.known.marks client.chain monitors
+
+    watched-so : AllByRecursion (IsOwn hash accepted verified (IsAsked lines) (IsSignedBy verified key) text client.chain start.known.marks) monitors
+    watched-so = subst (λ (t : List ℕ). AllByRecursion (IsOwn hash accepted verified (IsAsked lines) (IsSignedBy verified key) t client.chain start.known.marks) monitors) (append-nil text) stands.owns.watched
+
+    held : (mark : Mark) → Contains known'.marks mark → Held mark
+    held = moved-held hash accepted verified (IsAsked lines) (IsSignedBy verified key) text client.chain start.known.marks monitors stands.owns.chain stands.owns.formed watched-so some known.marks known'.marks among puts stands.owns.held
+
+    -- what an earlier run had watched is a root that it had
+    was-stored : (name : List ℕ) (root : SignedRoot) → Contains (stored_after stands.kept.acts).roots root → WasWatched start.known.marks name root → WasStored start name root
+    was-stored name root among (mark, has, same, above, below) = (stands.kept.early mark has root among above below, (mark, has, same, above, below))
+
+    told-so : (mark : Mark) → Contains known'.marks mark → (root : SignedRoot) → Contains (stored_after stands.kept.acts).roots root → mark.since < root.body.epoch → root.body.epoch ≤ mark.epoch
+        → TellsEpoch (IsAsked lines) (IsSignedBy verified key) hash accepted text mark.name root ⊎ WasStored start mark.name root
+    told-so mark has root among above below =
+        elim ((held mark has).told root (all-in (Contains client.chain.roots) (stored_after stands.kept.acts).roots root stands.owns.stores among) above below) [
+          | inl tells ↦ inl tells
+          | inr was ↦ inr (was-stored mark.name root among was)
+        ]
+
+    low-so : Fits epoch known'
+    low-so mark has = elim (held mark has).low [
+      | inl empty ↦ inl empty
+      | inr (head, at, low) ↦ inr (let up = up-to head at in omega (arith, up, low))
+    ]
+
+    pub stands-moved : Stands hash accepted verified lines key start old Happened epoch known' out (standing client monitors [])
+    stands-moved = let kept = stands.kept in record {
+      kept = record {
+        acts = kept.acts;
+        happened = kept.happened;
+        text = kept.text;
+        is-out = kept.is-out;
+        all = kept.all;
+        now = kept.now;
+        next = keeps-told hash accepted (IsAsked lines) (IsSignedBy verified key) start text (stored_after kept.acts).roots kept.next.grows.0 known' kept.next.grows.1
+            (moved-stays monitors some start.known.marks known.marks known'.marks puts kept.once kept.next.stays) told-so;
+        early = kept.early;
+        low-start = kept.low-start;
+        low = kept.low;
+        low-next = low-so;
+        begun = kept.begun;
+        once = moved-once monitors some known.marks known'.marks puts kept.once;
+      };
+      owns = owns-known text (stored_after kept.acts).roots known.marks known'.marks (standing client monitors []) stands.owns held;
+    }
