@@ -5,21 +5,24 @@ use Rattle.rootchain.specs.declared.signed_root.SignedRoot.{SignedRoot}
 use Rattle.asking.specs.Saves.{stored_after, stored_nothing, Act, AddsRoots, AllKeepTold, Loads, Remembers, Stored}
 use Rattle.asking.specs.Told.{TellsEpoch}
 
--- A run: what its owner gave and changed, what the output had before it, and what it did to the files. These have what they
--- had after some of that, the last that was done to them or an earlier: it is what the next run finds.
-pub record StateRun : Type 1 where
-  pub Given : List ℕ → Option (List ℕ) → Type 0
-  pub Own : SignedPromise → Type 0
+-- A run: what was asked in it, what the output had before it, and what it did to the files. These have what they had after
+-- some of that, the last that was done to them or an earlier: it is what the next run finds.
+pub record StateRun (X : Type 0) : Type 0 where
+  pub asked : X
   pub old : List ℕ
   pub acts : List Act
   pub left : List Act
+
+-- the first of the acts loads this
+abbrev pub FirstLoads : List Act → Stored → Type 0
+FirstLoads acts found = (later : List Act) × (acts ≡ later ++ Loads found ∷ [])
 
 -- these acts are the first of all
 abbrev pub AreFirst : List Act → List Act → Type 0
 AreFirst acts first = (first ≢ []) × ((later : List Act) × (acts ≡ later ++ first))
 
 -- what the files have after the runs
-abbrev pub left_by : List StateRun → Stored
+abbrev pub left_by : {X : Type 0} → List (StateRun X) → Stored
 left_by [] = stored_nothing
 left_by (run ∷ earlier) = stored_after run.left
 
@@ -30,14 +33,16 @@ WasWritten old (Loads stored ∷ acts) text = text ≡ []
 WasWritten old (AddsRoots more out ∷ acts) text = out ≡ Some (old ++ text)
 WasWritten old (Remembers known out ∷ acts) text = out ≡ Some (old ++ text)
 
-module _ (hash : List ℕ → List ℕ) (accepted : List ℕ → List ℕ → List ℕ → Type 0) where
-  -- each run loads what the files had after those before it, and keeps all told that it does to them
-  abbrev pub AllRun : List StateRun → Type 0
+-- what the owner gave and which promises are for the owner's own changes is known by what was asked
+module _ (hash : List ℕ → List ℕ) (accepted : List ℕ → List ℕ → List ℕ → Type 0) {X : Type 0} (Given : X → List ℕ → Option (List ℕ) → Type 0) (Own : X → SignedPromise → Type 0) where
+  -- each run finds what the files had after those before it, and keeps all told that it does to them
+  abbrev pub AllRun : List (StateRun X) → Type 0
   AllRun [] = ⊤
-  AllRun (run ∷ earlier) = AllKeepTold hash accepted run.Given run.Own (left_by earlier) run.old run.acts × AreFirst run.acts run.left × AllRun earlier
+  AllRun (run ∷ earlier) = FirstLoads run.acts (left_by earlier) × ((start : Stored) × AllKeepTold hash accepted (Given run.asked) (Own run.asked) start run.old run.acts)
+      × AreFirst run.acts run.left × AllRun earlier
 
   -- it is told of the root for the name in what one of the runs wrote before it did the last that is left
-  abbrev pub WasTold : List StateRun → List ℕ → SignedRoot → Type 0
+  abbrev pub WasTold : List (StateRun X) → List ℕ → SignedRoot → Type 0
   WasTold [] name root = ⊥
   WasTold (run ∷ earlier) name root =
-      ((text : List ℕ) × WasWritten run.old run.left text × TellsEpoch run.Given run.Own hash accepted text name root) ⊎ WasTold earlier name root
+      ((text : List ℕ) × WasWritten run.old run.left text × TellsEpoch (Given run.asked) (Own run.asked) hash accepted text name root) ⊎ WasTold earlier name root

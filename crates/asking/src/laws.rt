@@ -1,8 +1,12 @@
-ghost use Rattle.std.specs.Prelude.{◌≡◌, ◌++◌, ℕ, List, None, Option, Some};
+ghost use Rattle.std.specs.Prelude.{◌≡◌, ◌++◌, ◌<◌, ◌≤◌, ℕ, Contains, List, None, Option, Some};
 ghost use Rattle.std.specs.List.{AllByRecursion};
+ghost use Rattle.memory.specs.declared.mark.Mark.{Mark};
+ghost use Rattle.rootchain.specs.declared.signed_root.SignedRoot.{SignedRoot};
 ghost use Rattle.asking.specs.AskOptions.{AskOptions};
 ghost use Rattle.asking.specs.Exchanges.{ExchangesFrames};
 ghost use Rattle.asking.specs.Runs.{lines_asked, RunsWhole};
+ghost use Rattle.asking.specs.Saves.{HasMark, IsAsked, IsSignedBy};
+ghost use Rattle.asking.specs.StateRuns.{left_by, AllRun, StateRun, WasTold};
 ghost use Rattle.asking.specs.Told.{TellsWatched};
 ghost use Rattle.asking.specs.declared.said.TheConstants.{ALARM, OTHER_INDEX, OTHER_REPLY, REFUSED};
 
@@ -26,4 +30,16 @@ pub fn watched_epochs_are_told<T: Read + Write, H: NodeHash, V: VufCheck, S: Ver
     ensures { (key token : List ℕ) (options : AskOptions) (stream left : T) (input : Option (List ℕ)) (status : ℕ) (old : List ℕ) (new : Option (List ℕ)) (lines : List (List ℕ)) → lines_asked options.words input ≡ Some lines
         → (run : RunsWhole H.digest_of V.accepted S.verified (ExchangesFrames T.contents T.remaining) key token options (options.state ≡ None) stream left input status (Some old) new)
         → (text : List ℕ) × (new ≡ Some (old ++ text)) × AllByRecursion (TellsWatched H.digest_of V.accepted text) run.last.monitors }
+{}
+
+/// Whatever runs there were over one state, and wherever each was stopped: each root of the state that a mark says was
+/// watched is told in the output of one of the runs, before the mark was stored. And no mark of an earlier run is lost:
+/// the state has one of its name that begins no later.
+pub fn stored_marks_are_told<H: NodeHash, V: VufCheck, S: Verifier>()
+    ensures told { (key : List ℕ) (runs : List (StateRun (Option (List (List ℕ))))) → AllRun H.digest_of V.accepted IsAsked (λ asked. IsSignedBy S.verified key) runs
+        → (mark : Mark) → Contains (left_by runs).known.marks mark
+        → (root : SignedRoot) → Contains (left_by runs).roots root → mark.since < root.body.epoch → root.body.epoch ≤ mark.epoch
+        → WasTold H.digest_of V.accepted IsAsked (λ asked. IsSignedBy S.verified key) runs mark.name root }
+    ensures stay { (key : List ℕ) (later earlier : List (StateRun (Option (List (List ℕ))))) → AllRun H.digest_of V.accepted IsAsked (λ asked. IsSignedBy S.verified key) (later ++ earlier)
+        → (old : Mark) → Contains (left_by earlier).known.marks old → HasMark (left_by (later ++ earlier)).known.marks old }
 {}

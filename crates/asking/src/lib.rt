@@ -39,7 +39,7 @@ pub use ask_fault::AskFault;
 pub use asker::Asker;
 pub use checking::hear;
 pub use keeper::{Keeper, Loaded};
-pub use laws::{refusals_have_their_numbers, watched_epochs_are_told};
+pub use laws::{refusals_have_their_numbers, stored_marks_are_told, watched_epochs_are_told};
 pub use order::{AskKeys, AskOrder};
 pub use play::Checks;
 pub use run::RunEnd;
