@@ -54,14 +54,24 @@ least-above (root ∷ roots) epoch = elim (cases_lt epoch root.body.epoch) [
         inr (next, (suc has.0, omega (arith, has.1), has.2), above, All-cons (λ (r : SignedRoot). epoch < r.body.epoch → next.body.epoch ≤ r.body.epoch) root roots (λ late. absurd (omega (arith, low, late))) least)
   ]
   | inl above ↦ elim (least-above roots epoch) [
-    | inl none ↦ inr (root, (0, omega arith, refl), above, All-cons (λ (r : SignedRoot). epoch < r.body.epoch → root.body.epoch ≤ r.body.epoch) root roots (λ late. omega arith)
-        (All-weaker (λ (r : SignedRoot). r.body.epoch ≤ epoch) (λ (r : SignedRoot). epoch < r.body.epoch → root.body.epoch ≤ r.body.epoch) (λ r low late. absurd (omega (arith, low, late))) roots none))
+    | inl none ↦ inr (
+      root,
+      (0, omega arith, refl),
+      above,
+      All-cons (λ (r : SignedRoot). epoch < r.body.epoch → root.body.epoch ≤ r.body.epoch) root roots (λ late. omega arith)
+          (All-weaker (λ (r : SignedRoot). r.body.epoch ≤ epoch) (λ (r : SignedRoot). epoch < r.body.epoch → root.body.epoch ≤ r.body.epoch) (λ r low late. absurd (omega (arith, low, late))) roots none),
+    )
     | inr (next, has, beyond, least) ↦ elim (cases_lt next.body.epoch root.body.epoch) [
       | inl less ↦
           inr (next, (suc has.0, omega (arith, has.1), has.2), beyond, All-cons (λ (r : SignedRoot). epoch < r.body.epoch → next.body.epoch ≤ r.body.epoch) root roots (λ late. omega (arith, less)) least)
-      | inr more ↦ inr (root, (0, omega arith, refl), above, All-cons (λ (r : SignedRoot). epoch < r.body.epoch → root.body.epoch ≤ r.body.epoch) root roots (λ late. omega arith)
-          (All-weaker (λ (r : SignedRoot). epoch < r.body.epoch → next.body.epoch ≤ r.body.epoch) (λ (r : SignedRoot). epoch < r.body.epoch → root.body.epoch ≤ r.body.epoch)
-          (λ r low late. omega (arith, more, low late)) roots least))
+      | inr more ↦ inr (
+        root,
+        (0, omega arith, refl),
+        above,
+        All-cons (λ (r : SignedRoot). epoch < r.body.epoch → root.body.epoch ≤ r.body.epoch) root roots (λ late. omega arith)
+            (All-weaker (λ (r : SignedRoot). epoch < r.body.epoch → next.body.epoch ≤ r.body.epoch) (λ (r : SignedRoot). epoch < r.body.epoch → root.body.epoch ≤ r.body.epoch)
+            (λ r low late. omega (arith, more, low late)) roots least),
+      )
     ]
   ]
 ]

@@ -291,6 +291,7 @@ front-promised own (one ∷ signed) (item ∷ done) left parts = ((one, sym (sam
   where
     same-head : promised_item own one ∷ map (promised_item own) signed ≡ item ∷ (done ++ left) → promised_item own one ≡ item
     same-head e = cc
+
     same-tail : promised_item own one ∷ map (promised_item own) signed ≡ item ∷ (done ++ left) → map (promised_item own) signed ≡ done ++ left
     same-tail e = cc
 

@@ -229,7 +229,7 @@ module _ (hash : List ℕ → List ℕ) (accepted verified : List ℕ → List �
     stands-begun begun known' among puts = record {
       kept = kept-known Happened epoch known out stands.kept known' (begun-marks begun known known' puts);
       owns = owns-known stands.kept.text (stored_after stands.kept.acts).roots known.marks known'.marks now stands.owns (begun-held hash accepted verified (IsAsked lines) (IsSignedBy verified key) stands.kept.text (stands.kept.text ++ now.told.lines) now.client.chain start.known.marks now.monitors begun known.marks known'.marks
-            stands.owns.chain stands.owns.watched among puts stands.owns.held);
+          stands.owns.chain stands.owns.watched among puts stands.owns.held);
     }
 
     pub stands-roots : (Happened' : List Act → Type 0) (epoch' : ℕ) → epoch ≤ epoch' → ((acts : List Act) → Happened acts → Happened' (AddsRoots (roots_above epoch now.client.chain.roots) out ∷ acts))
@@ -237,7 +237,7 @@ module _ (hash : List ℕ → List ℕ) (accepted verified : List ℕ → List �
     stands-roots Happened' epoch' up goes = record {
       kept = kept-roots Happened epoch known out stands.kept Happened' epoch' now.client.chain.roots up goes;
       owns = owns-stored stands.kept.text (stored_after stands.kept.acts).roots ((stored_after stands.kept.acts).roots ++ roots_above epoch now.client.chain.roots) known.marks now stands.owns (all-join (Contains now.client.chain.roots) (stored_after stands.kept.acts).roots (roots_above epoch now.client.chain.roots) stands.owns.stores
-            (above-from epoch (Contains now.client.chain.roots) now.client.chain.roots (each-of (Contains now.client.chain.roots) now.client.chain.roots (λ root has. has))));
+          (above-from epoch (Contains now.client.chain.roots) now.client.chain.roots (each-of (Contains now.client.chain.roots) now.client.chain.roots (λ root has. has))));
     }
 
     pub stands-handed : (Happened' : List Act → Type 0) → ((acts : List Act) → Happened acts → Happened' acts ⊎ Happened' (Remembers known out ∷ acts)) → Stands hash accepted verified lines key start old Happened' epoch known out now
