@@ -1,3 +1,4 @@
+pub mod Adding
 pub mod Asked
 pub mod Earlier
 pub mod Remembered
@@ -23,6 +24,7 @@ pub mod PutMarks
 pub mod KeptTold
 pub mod HeldMarks
 pub mod StateRuns
+pub mod Saving
 pub mod Settled
 pub mod Stepped
 pub mod Stood

@@ -1,7 +1,9 @@
-use Rattle.std.proofs.Common.{◌≡◌, ◌∙◌, ◌++◌, List, true, ap, drop, map, refl, subst}
+use Rattle.std.proofs.Common.{◌≡◌, ◌∙◌, ◌++◌, List, true, false, ap, drop, map, refl, subst}
 use Rattle.rootchain.specs.declared.signed_promise.SignedPromise.{SignedPromise}
 use Rattle.memory.specs.Learning.{promised_item, Each, IsFresh, LearnsOne}
 use Rattle.memory.proofs.Learned.{text_grows}
+use Rattle.asking.proofs.Ended.{err_so}
+use Rattle.asking.proofs.PutMarks.{marks-then, promises-marks, same-marks, some-promises-marks}
 use Rattle.asking.proofs.state.State.learn_promises.Goals as goal
 
 pub returns-clause-learns : goal.returns-clause-learns
@@ -17,3 +19,16 @@ returns-clause-learns g c =
       (fresh, is, (first, c.learn_promises.new.self, rest, changes, two, refl)),
       text_grows c.args.lines.now.items c.learn_promises.new.lines.items c.learn_promises-2.new.lines.items first rest grown more,
     )
+
+pub returns-in_err-learn_promises-clause-some : goal.returns-in_err-learn_promises-clause-some
+returns-in_err-learn_promises-clause-some g c =
+    let memory = c.args.self.now.memory in
+    err_so _ (same-marks memory c.learn_promises.new.self (some-promises-marks true c.behind-own.result.now memory c.learn_promises.new.self c.in_err-learn_promises.ensures.err))
+
+pub returns-in_err-learn_promises-2-clause-some : goal.returns-in_err-learn_promises-2-clause-some
+returns-in_err-learn_promises-2-clause-some g c =
+    let memory = c.args.self.now.memory in
+    let (first, one, grown) = c.in_ok-learn_promises.ensures.ok in
+    let stays = some-promises-marks false c.fresh-fresh.result.now c.learn_promises.new.self c.learn_promises-2.new.self c.in_err-learn_promises-2.ensures.err in
+    err_so _ (marks-then memory c.learn_promises.new.self c.learn_promises-2.new.self (promises-marks true c.behind-own.result.now memory c.learn_promises.new.self first one)
+    (same-marks c.learn_promises.new.self c.learn_promises-2.new.self stays))

@@ -1,14 +1,91 @@
-use Rattle.std.proofs.Common.{◌∙◌}
+use Rattle.std.proofs.Common.{◌∙◌, [], ◌++◌, List, refl}
+use Rattle.textio.specs.Lines.{lines_of}
+use Rattle.memory.specs.declared.kind.Kind.TheVariants.{Alarms}
+use Rattle.asking.specs.Saves.{Act}
+use Rattle.asking.specs.Standing.{standing}
 use Rattle.asking.proofs.Keeping.{learned_after}
+use Rattle.asking.proofs.PutMarks.{lines-stay, same-marks, some-lines-marks}
+use Rattle.asking.proofs.Saving.{may-among, stands-on, stands-saved, stands-so}
+use Rattle.asking.proofs.Stood.{stands-same}
 use Rattle.asking.proofs.state.State.save.Goals as goal
 
 pub returns-clause-learns : goal.returns-clause-learns
 returns-clause-learns g c =
     let (alarms, tells, grown) = c.in_ok-learn_told.ensures.ok in
-    let (some, marked, may, marks, longer) = c.in_ok-learn_marks.ensures in
-    let (last, head, known) = c.append_second.ensures.same in (
+    let (some, marked, may, marks, longer) = c.in_ok-learn_marks.ensures.learns in
+    let last = c.hand_on.ensures.same.0 in (
       some,
       may,
       learned_after c.args.told.now c.args.asker.now.monitors.items some c.args.self.now.memory c.learn_told.new.self c.learn_marks.new.self.memory c.note_tested.new.self.memory alarms marked
-          tells marks (c.note_tested.ensures.memory ∙ last),
+          tells marks (c.note_tested.ensures.same.0 ∙ last),
     )
+
+pub returns-in_err-learn_told-clause-kept : goal.returns-in_err-learn_told-clause-kept
+returns-in_err-learn_told-clause-kept g c = λ lines key start old acts up-to stands.
+    let known = c.args.self.now.memory in
+    let same = some-lines-marks Alarms (lines_of c.args.told.now) known c.learn_told.new.self c.in_err-learn_told.ensures.err in
+    stands-same g.H.NodeHash.digest_of g.V.VufCheck.accepted g.S.Verifier.verified lines key start old (λ (done : List Act). g.K.Keeper.has c.args.keeper.now (done ++ acts)) c.args.self.now.epoch known
+    (g.W.Write.contents c.args.writer.now) (standing c.args.asker.now.client c.args.asker.now.monitors.items []) stands c.learn_told.new.self same (same-marks known c.learn_told.new.self same)
+
+pub returns-in_err-learn_marks-clause-kept : goal.returns-in_err-learn_marks-clause-kept
+returns-in_err-learn_marks-clause-kept g c = λ lines key start old acts up-to stands.
+    let known = c.args.self.now.memory in
+    let middle = c.learn_told.new.self in
+    let monitors = c.args.asker.now.monitors.items in
+    let out = g.W.Write.contents c.args.writer.now in
+    let (alarms, tells, grown) = c.in_ok-learn_told.ensures.ok in
+    let same = lines-stay Alarms (lines_of c.args.told.now) known middle alarms tells in
+    let before : List Act → Type 0 = λ done. g.K.Keeper.has c.args.keeper.now (done ++ acts) in
+    let (done, news, among, each) = c.in_err-learn_marks.ensures.some in
+    stands-so g.H.NodeHash.digest_of g.V.VufCheck.accepted g.S.Verifier.verified lines key start old before c.args.self.now.epoch c.learn_marks.new.self.epoch c.learn_marks.new.self.memory c.learn_marks.new.self.memory out (standing c.args.asker.now.client monitors []) c.learn_marks.ensures.same.0 refl
+    (stands-saved g.H.NodeHash.digest_of g.V.VufCheck.accepted g.S.Verifier.verified lines key start old before c.args.self.now.epoch known middle c.learn_marks.new.self.memory out c.args.asker.now.client monitors done news stands up-to same among each)
+
+pub returns-in_err-hand_on-clause-kept : goal.returns-in_err-hand_on-clause-kept
+returns-in_err-hand_on-clause-kept g c = λ lines key start old acts up-to stands.
+    let known = c.args.self.now.memory in
+    let middle = c.learn_told.new.self in
+    let monitors = c.args.asker.now.monitors.items in
+    let out = g.W.Write.contents c.args.writer.now in
+    let (alarms, tells, grown) = c.in_ok-learn_told.ensures.ok in
+    let same = lines-stay Alarms (lines_of c.args.told.now) known middle alarms tells in
+    let before : List Act → Type 0 = λ done. g.K.Keeper.has c.args.keeper.now (done ++ acts) in
+    let (some, news, may, each, longer) = c.in_ok-learn_marks.ensures.learns in
+    let among = may-among c.args.asker.now.client.chain c.args.self.now.head c.args.self.now.monitors monitors some may in
+    let moved = stands-saved g.H.NodeHash.digest_of g.V.VufCheck.accepted g.S.Verifier.verified lines key start old before c.args.self.now.epoch known middle c.learn_marks.new.self.memory out c.args.asker.now.client monitors some news stands up-to same among each in
+    let handed = stands-on g.H.NodeHash.digest_of g.V.VufCheck.accepted g.S.Verifier.verified lines key start old before (λ (done : List Act). g.K.Keeper.has c.hand_on.new.keeper (done ++ acts)) c.args.self.now.epoch c.hand_on.new.self.epoch c.learn_marks.new.self.memory c.hand_on.new.self.memory out (standing c.args.asker.now.client monitors [])
+    (c.hand_on.ensures.same.1 ∙ c.learn_marks.ensures.same.0) c.hand_on.ensures.same.0 (λ done has. c.hand_on.ensures.hands (done ++ acts) has) moved in
+    handed
+
+pub returns-in_err-note_tested-clause-kept : goal.returns-in_err-note_tested-clause-kept
+returns-in_err-note_tested-clause-kept g c = λ lines key start old acts up-to stands.
+    let known = c.args.self.now.memory in
+    let middle = c.learn_told.new.self in
+    let monitors = c.args.asker.now.monitors.items in
+    let out = g.W.Write.contents c.args.writer.now in
+    let (alarms, tells, grown) = c.in_ok-learn_told.ensures.ok in
+    let same = lines-stay Alarms (lines_of c.args.told.now) known middle alarms tells in
+    let before : List Act → Type 0 = λ done. g.K.Keeper.has c.args.keeper.now (done ++ acts) in
+    let (some, news, may, each, longer) = c.in_ok-learn_marks.ensures.learns in
+    let among = may-among c.args.asker.now.client.chain c.args.self.now.head c.args.self.now.monitors monitors some may in
+    let moved = stands-saved g.H.NodeHash.digest_of g.V.VufCheck.accepted g.S.Verifier.verified lines key start old before c.args.self.now.epoch known middle c.learn_marks.new.self.memory out c.args.asker.now.client monitors some news stands up-to same among each in
+    let handed = stands-on g.H.NodeHash.digest_of g.V.VufCheck.accepted g.S.Verifier.verified lines key start old before (λ (done : List Act). g.K.Keeper.has c.hand_on.new.keeper (done ++ acts)) c.args.self.now.epoch c.hand_on.new.self.epoch c.learn_marks.new.self.memory c.hand_on.new.self.memory out (standing c.args.asker.now.client monitors [])
+    (c.hand_on.ensures.same.1 ∙ c.learn_marks.ensures.same.0) c.hand_on.ensures.same.0 (λ done has. c.hand_on.ensures.hands (done ++ acts) has) moved in
+    stands-so g.H.NodeHash.digest_of g.V.VufCheck.accepted g.S.Verifier.verified lines key start old (λ (done : List Act). g.K.Keeper.has c.hand_on.new.keeper (done ++ acts)) c.hand_on.new.self.epoch c.note_tested.new.self.epoch c.hand_on.new.self.memory c.note_tested.new.self.memory out (standing c.args.asker.now.client monitors [])
+    c.note_tested.ensures.same.1 c.note_tested.ensures.same.0 handed
+
+pub returns-clause-kept : goal.returns-clause-kept
+returns-clause-kept g c = λ lines key start old acts up-to stands.
+    let known = c.args.self.now.memory in
+    let middle = c.learn_told.new.self in
+    let monitors = c.args.asker.now.monitors.items in
+    let out = g.W.Write.contents c.args.writer.now in
+    let (alarms, tells, grown) = c.in_ok-learn_told.ensures.ok in
+    let same = lines-stay Alarms (lines_of c.args.told.now) known middle alarms tells in
+    let before : List Act → Type 0 = λ done. g.K.Keeper.has c.args.keeper.now (done ++ acts) in
+    let (some, news, may, each, longer) = c.in_ok-learn_marks.ensures.learns in
+    let among = may-among c.args.asker.now.client.chain c.args.self.now.head c.args.self.now.monitors monitors some may in
+    let moved = stands-saved g.H.NodeHash.digest_of g.V.VufCheck.accepted g.S.Verifier.verified lines key start old before c.args.self.now.epoch known middle c.learn_marks.new.self.memory out c.args.asker.now.client monitors some news stands up-to same among each in
+    let handed = stands-on g.H.NodeHash.digest_of g.V.VufCheck.accepted g.S.Verifier.verified lines key start old before (λ (done : List Act). g.K.Keeper.has c.hand_on.new.keeper (done ++ acts)) c.args.self.now.epoch c.hand_on.new.self.epoch c.learn_marks.new.self.memory c.hand_on.new.self.memory out (standing c.args.asker.now.client monitors [])
+    (c.hand_on.ensures.same.1 ∙ c.learn_marks.ensures.same.0) c.hand_on.ensures.same.0 (λ done has. c.hand_on.ensures.hands (done ++ acts) has) moved in
+    stands-so g.H.NodeHash.digest_of g.V.VufCheck.accepted g.S.Verifier.verified lines key start old (λ (done : List Act). g.K.Keeper.has c.hand_on.new.keeper (done ++ acts)) c.hand_on.new.self.epoch c.note_tested.new.self.epoch c.hand_on.new.self.memory c.note_tested.new.self.memory out (standing c.args.asker.now.client monitors [])
+    c.note_tested.ensures.same.1 c.note_tested.ensures.same.0 handed

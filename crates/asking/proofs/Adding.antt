@@ -1,0 +1,40 @@
+-- What a state learns and hands on, step by step.
+use Rattle.std.proofs.Common.{◌≡◌, ◌∙◌, ◌⊎◌, ℕ, zero, suc, ◌≤◌, true, false, List, [], ◌∷◌, ◌++◌, drop, Contains, Option, ap, arith, inl, refl, subst, sym}
+use Rattle.std.specs.List.{AllByRecursion}
+use Rattle.rootchain.specs.declared.signed_promise.SignedPromise.{SignedPromise}
+use Rattle.monitor.specs.Monitors.{Monitor}
+use Rattle.memory.specs.Learning.{EachOfSome, Each, MarksOne}
+use Rattle.memory.specs.Memories.{Memory}
+use Rattle.memory.specs.declared.item.Item.{Item}
+use Rattle.asking.specs.Keeping.{LearnsPromises}
+use Rattle.asking.specs.Standing.{KeepsMarks}
+use Rattle.asking.proofs.PutMarks.{marks-then, promises-marks, promises-stay, same-marks}
+
+shift-all : {A : Type 0} (x : A) (xs ys : List A) → AllByRecursion (Contains xs) ys → AllByRecursion (Contains (x ∷ xs)) ys
+shift-all x xs [] all = tt
+shift-all x xs (y ∷ ys) all = ((suc all.0.0, omega (arith, all.0.1), all.0.2), shift-all x xs ys all.1)
+
+pub all-self : {A : Type 0} (xs : List A) → AllByRecursion (Contains xs) xs
+all-self [] = tt
+all-self (x ∷ xs) = ((0, omega arith, refl), shift-all x xs xs (all-self xs))
+
+-- what is behind some elements is among them
+pub drop-among : {A : Type 0} (count : ℕ) (xs : List A) → AllByRecursion (Contains xs) (drop count xs)
+drop-among zero [] = tt
+drop-among (suc count) [] = tt
+drop-among zero (x ∷ xs) = ((0, omega arith, refl), shift-all x xs xs (drop-among zero xs))
+drop-among (suc count) (x ∷ xs) = shift-all x xs (drop count xs) (drop-among count xs)
+
+front-all : {A : Type 0} (P : A → Type 0) (xs ys : List A) → AllByRecursion P (xs ++ ys) → AllByRecursion P xs
+front-all P [] ys all = tt
+front-all P (x ∷ xs) ys all = (all.0, front-all P xs ys all.1)
+
+-- some of those behind a place move their marks
+pub some-moved : (monitors some : List Monitor) (count : ℕ) (before after : Memory) → some ≡ drop count monitors → EachOfSome (MarksOne monitors) some before after
+    → (done : List Monitor) × (news : List Item) × AllByRecursion (Contains monitors) done × Each (MarksOne monitors) done before news after
+some-moved monitors some count before after is (done, left, news, parts, each) =
+    (done, news, front-all (Contains monitors) done left (subst (AllByRecursion (Contains monitors)) (sym is ∙ parts) (drop-among count monitors)), each)
+
+-- promises move no mark
+pub learns-stay : (own kept : List SignedPromise) (before after : Memory) (news : List Item) → LearnsPromises own kept before news after → after.marks ≡ before.marks
+learns-stay own kept before after news (fresh, is, (first, middle, rest, owns, others, same)) = promises-stay false fresh middle after rest others ∙ promises-stay true own before middle first owns
