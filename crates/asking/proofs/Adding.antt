@@ -35,6 +35,9 @@ pub some-moved : (monitors some : List Monitor) (count : ℕ) (before after : Me
 some-moved monitors some count before after is (done, left, news, parts, each) =
     (done, news, front-all (Contains monitors) done left (subst (AllByRecursion (Contains monitors)) (sym is ∙ parts) (drop-among count monitors)), each)
 
+pub begun-among : (monitors begun : List Monitor) (count : ℕ) → begun ≡ drop count monitors → AllByRecursion (Contains monitors) begun
+begun-among monitors begun count is = subst (AllByRecursion (Contains monitors)) (sym is) (drop-among count monitors)
+
 -- promises move no mark
 pub learns-stay : (own kept : List SignedPromise) (before after : Memory) (news : List Item) → LearnsPromises own kept before news after → after.marks ≡ before.marks
 learns-stay own kept before after news (fresh, is, (first, middle, rest, owns, others, same)) = promises-stay false fresh middle after rest others ∙ promises-stay true own before middle first owns

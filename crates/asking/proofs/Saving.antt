@@ -13,7 +13,7 @@ use Rattle.asking.specs.Scenes.{Scene}
 use Rattle.asking.specs.Standing.{standing, IsKept, IsUpTo, Stands}
 use Rattle.asking.proofs.Adding.{all-self, drop-among}
 use Rattle.asking.proofs.PutMarks.{monitors-move, monitors-put, same-marks}
-use Rattle.asking.proofs.Stood.{stands-begun, stands-handed, stands-moved, stands-same}
+use Rattle.asking.proofs.Stood.{kept-handed, stands-begun, stands-handed, stands-moved, stands-same}
 
 -- the monitors whose marks may move are among all
 pub may-among : (chain : KeyedRoots) (head known : ℕ) (monitors some : List Monitor) → MayMove chain head known monitors some → AllByRecursion (Contains monitors) some
@@ -47,3 +47,9 @@ module _ (hash : List ℕ → List ℕ) (accepted verified : List ℕ → List �
       → Stands hash accepted verified lines key start old Happened epoch known out now → Stands hash accepted verified lines key start old Happened' epoch' known' out now
   stands-on Happened Happened' epoch epoch' known known' out now at same goes stands =
       stands-so Happened' epoch epoch' known known' out now at same (stands-handed hash accepted verified lines key start old Happened epoch known out now stands Happened' goes)
+
+  pub kept-on : (Happened Happened' : List Act → Type 0) (epoch epoch' : ℕ) (known known' : Memory) (out : Option (List ℕ)) → epoch' ≡ epoch → known' ≡ known
+      → ((acts : List Act) → Happened acts → Happened' acts ⊎ Happened' (Remembers known out ∷ acts))
+      → IsKept hash accepted verified lines key start old Happened epoch known out → IsKept hash accepted verified lines key start old Happened' epoch' known' out
+  kept-on Happened Happened' epoch epoch' known known' out at same goes kept =
+      kept-so Happened' epoch epoch' known known' out at same (kept-handed hash accepted verified lines key start old Happened epoch known out kept Happened' goes)
