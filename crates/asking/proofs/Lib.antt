@@ -18,6 +18,12 @@ pub mod Rising
 pub mod Told
 pub mod ToldScenes
 pub mod OwnRoots
+pub mod OwnedRoots
+pub mod OwnedMonitors
+pub mod OwnedMarks
+pub mod OwnedScenes
+pub mod SameChain
+pub mod EveryStep
 pub mod Settled
 pub mod Stepped
 pub mod Stopped

@@ -3,7 +3,6 @@ use Rattle.std.proofs.Common.{◌≡◌, ◌≢◌, ◌∙◌, ◌⊎◌, ℕ, z
 use Rattle.std.specs.Prelude.{IfSome}
 use Rattle.std.specs.Io.KnownBytes.{Appends}
 use Rattle.std.specs.List.{AllByRecursion, AllZip}
-use Rattle.std.proofs.lemmas.List.Elements.{All-cons, All-nil}
 use Rattle.rootchain.specs.Chains.{IsChain, Verifies}
 use Rattle.rootchain.specs.Promises.{signed_promise_bytes}
 use Rattle.rootchain.specs.declared.signed_promise.SignedPromise.{SignedPromise}
@@ -36,24 +35,25 @@ use Rattle.asking.specs.Scenes.{Scene}
 use Rattle.asking.specs.Told.{IsTold, TellsWatched}
 use Rattle.asking.specs.Visiting.{TestsAll, TestsFrom, TestsSome, Visits, VisitsOn}
 use Rattle.asking.specs.Watching.{AllStep, AsksEpoch, GoesOn, GoesSome, ShowsEpoch, SomeStep, StepsOn, StepsOnce, StepsSome, StepsThrough}
+use Rattle.asking.proofs.OwnedRoots.{one-chain}
 use Rattle.asking.proofs.Told.{told-changed, told-grown, told-more, told-new, told-stepped}
 
 -- ---- lists
 
-all-map : {A : Type 0} (P Q : A → Type 0) (xs : List A) → ((x : A) → P x → Q x) → AllByRecursion P xs → AllByRecursion Q xs
+pub all-map : {A : Type 0} (P Q : A → Type 0) (xs : List A) → ((x : A) → P x → Q x) → AllByRecursion P xs → AllByRecursion Q xs
 all-map P Q [] leads all = tt
 all-map P Q (x ∷ xs) leads all = (leads x all.0, all-map P Q xs leads all.1)
 
-all-push : {A : Type 0} (P : A → Type 0) (xs : List A) (x : A) → AllByRecursion P xs → P x → AllByRecursion P (xs ++ x ∷ [])
+pub all-push : {A : Type 0} (P : A → Type 0) (xs : List A) (x : A) → AllByRecursion P xs → P x → AllByRecursion P (xs ++ x ∷ [])
 all-push P [] x all last = (last, tt)
 all-push P (y ∷ xs) x all last = (all.0, all-push P xs x all.1 last)
 
-all-set : {A : Type 0} (P : A → Type 0) (xs : List A) (place : ℕ) (x : A) → AllByRecursion P xs → P x → AllByRecursion P (slice_set xs place x)
+pub all-set : {A : Type 0} (P : A → Type 0) (xs : List A) (place : ℕ) (x : A) → AllByRecursion P xs → P x → AllByRecursion P (slice_set xs place x)
 all-set P [] place x all here = all
 all-set P (y ∷ xs) zero x all here = (here, all.1)
 all-set P (y ∷ xs) (suc place) x all here = (all.0, all-set P xs place x all.1 here)
 
-all-zip : {A : Type 0} (P Q : A → Type 0) (R : A → A → Type 0) (xs ys : List A) → ((x y : A) → R x y → P x → Q y) → AllZip R xs ys → AllByRecursion P xs → AllByRecursion Q ys
+pub all-zip : {A : Type 0} (P Q : A → Type 0) (R : A → A → Type 0) (xs ys : List A) → ((x y : A) → R x y → P x → Q y) → AllZip R xs ys → AllByRecursion P xs → AllByRecursion Q ys
 all-zip P Q R [] [] leads zip all = tt
 all-zip P Q R [] (y ∷ ys) leads zip all = absurd zip
 all-zip P Q R (x ∷ xs) [] leads zip all = absurd zip
@@ -65,7 +65,7 @@ module _ (hash : List ℕ → List ℕ) (accepted verified : List ℕ → List �
 
   -- ---- what a refusal leaves
 
-  stays-step : (before : Monitor) (reply : List ℕ) (why : Refusal) (after : Monitor) → why ≢ Memory → Steps hash accepted before reply (Err (refusal.Client why)) after → after ≡ before
+  pub stays-step : (before : Monitor) (reply : List ℕ) (why : Refusal) (after : Monitor) → why ≢ Memory → Steps hash accepted before reply (Err (refusal.Client why)) after → after ≡ before
   stays-step before reply UnknownRoot after enough (none, same) = same
   stays-step before reply (Proof why) after enough (root, is, refuses, same) = same
   stays-step before reply Memory after enough steps = absurd (enough refl)
@@ -73,7 +73,7 @@ module _ (hash : List ℕ → List ℕ) (accepted verified : List ℕ → List �
   stays-step before reply (RootDiffers evidence) after enough steps = absurd steps
   stays-step before reply NoPromise after enough steps = absurd steps
 
-  stays-change : (before : Monitor) (key bytes : List ℕ) (why : MonitorRefusal) (after : Monitor) → Expects hash verified before key bytes {A = Unit {0}} (Err why) after → after ≡ before
+  pub stays-change : (before : Monitor) (key bytes : List ℕ) (why : MonitorRefusal) (after : Monitor) → Expects hash verified before key bytes {A = Unit {0}} (Err why) after → after ≡ before
   stays-change before key bytes refusal.OtherPromise after (reads, same) = same
   stays-change before key bytes (refusal.Client Memory) after (some, same) = same
   stays-change before key bytes (refusal.Client (Root why)) after (reads, same) = same
@@ -110,13 +110,6 @@ module _ (hash : List ℕ → List ℕ) (accepted verified : List ℕ → List �
 
   -- ---- a monitor that begins
 
-  one-chain : (key : List ℕ) (root : SignedRoot) → Verifies verified key root → IsChain hash verified (record { key = key; roots = root ∷ [] })
-  one-chain key root signed = record {
-    first = omega arith;
-    signed = All-cons (Verifies verified key) root [] signed (All-nil (Verifies verified key));
-    linked = λ k d within. absurd (omega (arith, within));
-  }
-
   updated-chain : (client : Client) (list : List ℕ) (after : Client) → Updates hash verified client list {A = Unit {0}} (Ok tt) after → IsChain hash verified client.chain → IsChain hash verified after.chain
   updated-chain client list after (roots, chain, spelled, takes, same) is = subst (λ (c : Client). IsChain hash verified c.chain) (sym same) (takes-chain hash verified roots client.chain chain is takes)
 
@@ -127,7 +120,7 @@ module _ (hash : List ℕ → List ℕ) (accepted verified : List ℕ → List �
 
     started-chain : (key : List ℕ) (first : SignedRoot) (own : Client) → StartsFrom hash verified chain key first (Ok own) → IsChain hash verified own.chain
     started-chain key first own (start, (root, (spells, signed), is), (count, retraces)) =
-        retraced-chain count first.body.epoch start own retraces (subst (λ (c : Client). IsChain hash verified c.chain) (sym is) (one-chain key root signed))
+        retraced-chain count first.body.epoch start own retraces (subst (λ (c : Client). IsChain hash verified c.chain) (sym is) (one-chain hash verified key root signed))
 
     pub told-joined : (text : List ℕ) (marks : List Mark) (key : List ℕ) (promised : List SignedPromise) (first : SignedRoot) (name : List ℕ) (given : Option (List ℕ)) (monitor : Monitor)
         → IsJoined hash accepted verified marks key promised chain first name given monitor → Told text monitor

@@ -1,3 +1,4 @@
+use Rattle.asking.proofs.OwnedMonitors.{own-joined, own-updated, own-stepped, own-more, own-handed, own-grown}
 use Rattle.asking.proofs.OwnRoots.{taken-from, taken-there}
 use Rattle.std.proofs.Common.{◌≡◌, None}
 use Rattle.asking.specs.Exchanges.{ExchangesFrames}
