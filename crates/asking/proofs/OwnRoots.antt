@@ -1,5 +1,5 @@
 -- The roots of a monitor's chain are those of the client's, by their bodies.
-use Rattle.std.proofs.Common.{◌≡◌, ◌∙◌, ◌+◌, ◌-◌, ◌<◌, ◌≤◌, ◌⊎◌, ℕ, suc, List, [], ◌∷◌, ◌++◌, length, Contains, Option, Some, ap, arith, get_or, inl, inr, refl, subst, sym}
+use Rattle.std.proofs.Common.{◌≡◌, ◌∙◌, ◌+◌, ◌-◌, ◌<◌, ◌≤◌, ◌⊎◌, ℕ, suc, List, [], ◌∷◌, length, Contains, Option, Some, ap, arith, get_or, inl, inr, refl, subst, sym}
 use Rattle.std.proofs.lemmas.Bool.{cases_lt}
 use Rattle.std.proofs.lemmas.List.Elements.{Contains-append_cases, Contains-append_left, Contains-push}
 use Rattle.std.specs.Prelude.{slice_get}
@@ -9,16 +9,16 @@ use Rattle.client.proofs.Unlikes.{at-place}
 use Rattle.rootchain.proofs.Agreement.{unique}
 use Rattle.rootchain.proofs.Chains.{ascend-linked}
 use Rattle.rootchain.proofs.Walks.{up-to}
-use Rattle.rootchain.specs.Chains.{Ascend, IsAt, IsChain, IsHead, KeyedRoots, Links, Names}
+use Rattle.rootchain.specs.Chains.{Ascend, IsChain, IsHead, KeyedRoots, Links, Names}
 use Rattle.rootchain.specs.Places.{IsFirst, IsPlace}
-use Rattle.rootchain.specs.TakingLists.{PassesOrAdds, Takes, with_roots}
+use Rattle.rootchain.specs.TakingLists.{Takes, with_roots}
 use Rattle.rootchain.specs.declared.chain.placing.Place.TheVariants as place
 use Rattle.rootchain.specs.declared.signed_root.SignedRoot.{SignedRoot}
 use Rattle.rootchain.proofs.Places.{ends}
 use Rattle.rootchain.proofs.TakingLists.{takes-chain, takes-grows}
 use Rattle.asking.specs.Told.{HasBody}
 
-pub some-same : (one other : SignedRoot) → ◌≡◌ {A = Option SignedRoot} (Some one) (Some other) → one ≡ other
+pub some-same : {A : Type 0} (one other : A) → ◌≡◌ {A = Option A} (Some one) (Some other) → one ≡ other
 some-same one other e = cc
 
 -- neighbours behind the first are linked as before

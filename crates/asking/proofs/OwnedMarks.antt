@@ -12,8 +12,6 @@ use Rattle.memory.specs.declared.mark.Mark.{Mark}
 use Rattle.monitor.specs.Monitors.{Monitor}
 use Rattle.asking.specs.Following.{MonitorUpdates}
 use Rattle.asking.specs.Owning.{HasJoined, IsHeld}
-use Rattle.asking.specs.Told.{HasBody, IsToldAt}
-use Rattle.asking.proofs.OwnRoots.{some-same}
 use Rattle.asking.proofs.OwnedMonitors.{own-first, Owned}
 use Rattle.asking.proofs.OwnedRoots.{all-has, has-cases, least-grown, taken-first, HasGrown}
 use Rattle.asking.proofs.Told.{told-at_more}

@@ -1,6 +1,6 @@
 -- A monitor of the owner's stays one: where it or the client's chain takes roots, where it steps, where it is given a
 -- promise, and where it joins the others.
-use Rattle.std.proofs.Common.{◌≡◌, ◌∙◌, ◌⊎◌, ◌<◌, ◌≤◌, ℕ, zero, suc, List, [], ◌∷◌, ◌++◌, length, Contains, Option, None, Some, Ok, Err, arith, ap, inl, inr, refl, subst, sym}
+use Rattle.std.proofs.Common.{◌≡◌, ◌∙◌, ℕ, zero, suc, List, [], ◌∷◌, ◌++◌, Contains, Option, None, Some, Ok, arith, ap, inl, inr, refl, subst, sym}
 use Rattle.std.specs.Prelude.{map, ⊤}
 use Rattle.std.specs.List.{AllByRecursion}
 use Rattle.encoding.proofs.Fields.{one_spelling}
@@ -21,7 +21,7 @@ use Rattle.memory.specs.Lists.{HasNoRepeat}
 use Rattle.memory.specs.Memories.{name_of}
 use Rattle.memory.specs.declared.mark.Mark.{Mark}
 use Rattle.monitor.specs.Expecting.{Expects}
-use Rattle.monitor.specs.Monitors.{Monitor, new_monitor, with_change, with_watched}
+use Rattle.monitor.specs.Monitors.{Monitor, new_monitor, with_change}
 use Rattle.monitor.specs.Stepping.{IsNextEpoch, Steps}
 use Rattle.monitor.specs.declared.monitor_refusal.Refusal.{Refusal}
 use Rattle.monitor.specs.declared.step.Step.{Step}
@@ -34,7 +34,7 @@ use Rattle.asking.specs.Joining.{first_expected, AllHand, IsJoined, IsLaterPromi
 use Rattle.asking.specs.Owning.{IsLeastAbove, IsOwn}
 use Rattle.asking.specs.Told.{HasBody, IsOwnKey, IsOwners, IsTold}
 use Rattle.asking.specs.Watching.{step_told}
-use Rattle.asking.proofs.OwnRoots.{some-same, taken-from, taken-there}
+use Rattle.asking.proofs.OwnRoots.{some-same, taken-from}
 use Rattle.asking.proofs.OwnedRoots.{all-has, body-grown, least-grown, one-chain, taken-first, unwatched-least, unwatched-there, HasGrown}
 use Rattle.asking.proofs.Told.{told-changed, told-grown, told-more, told-new, told-stepped}
 use Rattle.asking.proofs.ToldScenes.{all-map, all-push, stays-change}

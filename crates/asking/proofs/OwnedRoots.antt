@@ -1,5 +1,5 @@
 -- A chain that takes a list of roots, and what its roots are then.
-use Rattle.std.proofs.Common.{◌≡◌, ◌≢◌, ◌∙◌, ◌⊎◌, ◌-◌, ◌<◌, ◌≤◌, ℕ, zero, suc, List, [], ◌∷◌, ◌++◌, length, Contains, Option, Some, arith, ap, inl, inr, refl, subst, sym}
+use Rattle.std.proofs.Common.{◌≡◌, ◌≢◌, ◌∙◌, ◌⊎◌, ◌-◌, ◌<◌, ◌≤◌, ℕ, zero, suc, List, [], ◌∷◌, ◌++◌, length, Contains, Some, arith, ap, inl, inr, subst, sym}
 use Rattle.std.specs.Prelude.{map, slice_get}
 use Rattle.std.specs.List.{AllByRecursion}
 use Rattle.std.proofs.lemmas.List.Elements.{All-cons, All-contains, All-nil, Contains-append_cases, Contains-append_left}
@@ -12,7 +12,7 @@ use Rattle.play.proofs.Lists.{all-in}
 use Rattle.rootchain.specs.Chains.{Ascend, IsChain, IsHead, KeyedRoots, Verifies}
 use Rattle.rootchain.specs.Places.{IsFirst, IsNextAfter}
 use Rattle.rootchain.specs.SignedRoots.{IsSignedRoot}
-use Rattle.rootchain.specs.TakingLists.{Takes, with_roots}
+use Rattle.rootchain.specs.TakingLists.{Takes}
 use Rattle.rootchain.specs.declared.signed_root.SignedRoot.{SignedRoot}
 use Rattle.rootchain.proofs.Chains.{ascend-linked}
 use Rattle.rootchain.proofs.Places.{ends}

@@ -1,12 +1,11 @@
 -- Every step of a run keeps what is owned: the client's chain, its monitors, and the marks.
-use Rattle.std.proofs.Common.{◌≡◌, ◌∙◌, ◌-◌, ◌<◌, ◌≤◌, ℕ, true, false, Bool, List, [], ◌∷◌, ◌++◌, length, Contains, Option, Some, None, Ok, Err, arith, ap, append_assoc, append-nil, inl, inr, refl, slice_set, subst, sym}
+use Rattle.std.proofs.Common.{◌≡◌, ◌∙◌, ◌-◌, ℕ, true, false, Bool, List, [], ◌∷◌, ◌++◌, length, Contains, Option, Some, None, Ok, arith, ap, append_assoc, append-nil, inl, inr, refl, slice_set, subst, sym}
 use Rattle.std.specs.Prelude.{if◌then◌else◌, map, slice_get}
 use Rattle.std.specs.List.{list_any, AllByRecursion, AllZip}
 use Rattle.std.proofs.lemmas.List.Elements.{Contains-push}
 use Rattle.std.specs.Str.{bytes_eq}
 use Rattle.commands.specs.Operations.{Lookup}
 use Rattle.rootchain.specs.Chains.{IsChain, KeyedRoots}
-use Rattle.rootchain.specs.Places.{IsFirst}
 use Rattle.rootchain.specs.SignedRoots.{IsSignedRoot}
 use Rattle.rootchain.specs.declared.signed_promise.SignedPromise.{SignedPromise}
 use Rattle.rootchain.specs.declared.signed_root.SignedRoot.{SignedRoot}
@@ -21,27 +20,24 @@ use Rattle.memory.specs.declared.mark.Mark.{Mark}
 use Rattle.monitor.specs.Monitors.{Monitor}
 use Rattle.monitor.specs.Stepping.{IsNextEpoch}
 use Rattle.monitor.specs.declared.monitor_refusal.Refusal.{Refusal as MonitorRefusal}
-use Rattle.play.proofs.Lists.{all-in, both}
+use Rattle.play.proofs.Lists.{both}
 use Rattle.wire.specs.Frames.{Frame}
 use Rattle.wire.specs.Requests.{RequestContent, Put, Query, Turn}
 use Rattle.asking.specs.Asking.{Hands, HandsAll, HandsTo, HearsOne, Notes}
-use Rattle.asking.specs.Checking.{HearsFrame}
 use Rattle.asking.specs.Following.{asks_roots, MonitorUpdates, OneRefuses, StopsFollowing, StopsList, TakesList}
-use Rattle.asking.specs.Joining.{noted_for, own_for, IsJoined, IsUnwatched}
+use Rattle.asking.specs.Joining.{noted_for, own_for}
 use Rattle.asking.specs.Owning.{IsHeld, Owns}
 use Rattle.asking.specs.Reports.{Report, silent, told_after}
 use Rattle.asking.specs.Runs.{emptied}
 use Rattle.asking.specs.Scenes.{Scene}
-use Rattle.asking.specs.Told.{HasBody}
-use Rattle.asking.specs.Visiting.{AsksDue}
 use Rattle.asking.specs.Watching.{AsksEpoch, ShowsEpoch}
 use Rattle.asking.proofs.EveryStep.{EachKeeps}
 use Rattle.asking.proofs.OwnRoots.{some-same, taken-there}
-use Rattle.asking.proofs.OwnedMarks.{all-as_before, all-but, all-followed, all-zipped, as-before, held-grown, held-more, updated-goes, AllGo, GoesAs}
+use Rattle.asking.proofs.OwnedMarks.{all-as_before, all-but, all-followed, as-before, held-grown, held-more, updated-goes, AllGo, GoesAs}
 use Rattle.asking.proofs.OwnedMonitors.{own-grown, own-handed, own-joined, own-more, own-stepped, own-updated, Owned}
 use Rattle.asking.proofs.OwnedRoots.{all-has, grows-none, taken-formed, taken-grows, HasGrown}
 use Rattle.asking.proofs.SameChain.{frame-chain, shown-chain}
-use Rattle.asking.proofs.ToldScenes.{all-map, all-push, all-set, all-zip, stays-change, stays-step}
+use Rattle.asking.proofs.ToldScenes.{all-map, all-push, all-set, stays-change, stays-step}
 
 -- the promises that a monitor is given are the owner's, if those of earlier runs and of this one are
 pub own_for-own : (Own : SignedPromise → Type 0) (marks : List Mark) (name : List ℕ) (earlier noted : List SignedPromise) → AllByRecursion Own earlier → AllByRecursion Own noted → AllByRecursion Own (own_for marks name earlier noted)
@@ -279,7 +275,7 @@ module _ (hash : List ℕ → List ℕ) (accepted verified : List ℕ → List �
         tells = λ before told owns. told-more before (record before { told = told_after before.told told }) told refl refl refl owns;
         takes = takes-list;
         stops = stops-list;
-        tests = λ before name kept after asks owns. told-more before after asks.told (shown-chain before.client name _ asks.frame kept asks.told after.client asks.shows) asks.tells asks.monitors owns;
+        tests = λ before name kept after asks owns. told-more before after asks.told (shown-chain hash accepted verified before.client name (Query (Lookup name asks.epoch)) asks.frame kept asks.told after.client asks.shows) asks.tells asks.monitors owns;
         steps = asks-epoch;
         joins = λ before key promised name given first monitor may is joined owns. goes before (record before { monitors = before.monitors ++ monitor ∷ [] }) refl
             (all-push (Owner (text ++ before.told.lines) before.client.chain) before.monitors monitor owns.watched

@@ -57,7 +57,7 @@ module _ (hash : List ℕ → List ℕ) (accepted verified : List ℕ → List �
     checked-chain : (asked' : RequestContent) (responded : ResponseContent) → IsCheckedAs hash accepted verified held before body asked' responded told after → HasChain before after
     checked-chain (Query (Lookup name epoch)) (response.Proof reply) (answer, (looks, tellable), is) = looks-chain before after name reply.body.epoch body answer looks
     checked-chain asked' (response.Promise signed) (answer, (keeps, tellable), is) = promise-chain before after body answer keeps
-    checked-chain asked' (response.Root latest) (same, place, is) = same-chain before after same
+    checked-chain asked' (response.Root latest) (same, placed) = same-chain before after same
     checked-chain (Query (History from count)) (response.Roots roots) (same, are) = same-chain before after same
     checked-chain _ _ never = absurd never
 

@@ -1,9 +1,9 @@
 -- All that the monitors of a scene watched is told, and every step keeps it so.
-use Rattle.std.proofs.Common.{◌≡◌, ◌≢◌, ◌∙◌, ◌⊎◌, ℕ, zero, suc, true, false, Bool, List, [], ◌∷◌, ◌++◌, length, Option, Some, None, Ok, Err, arith, inl, inr, refl, ap, subst, sym, append_assoc, append-nil, slice_set}
+use Rattle.std.proofs.Common.{◌≡◌, ◌≢◌, ◌∙◌, ◌⊎◌, ℕ, zero, suc, true, false, Bool, List, [], ◌∷◌, ◌++◌, length, Option, Some, None, Ok, Err, inl, inr, refl, ap, subst, sym, append_assoc, append-nil, slice_set}
 use Rattle.std.specs.Prelude.{IfSome}
 use Rattle.std.specs.Io.KnownBytes.{Appends}
 use Rattle.std.specs.List.{AllByRecursion, AllZip}
-use Rattle.rootchain.specs.Chains.{IsChain, Verifies}
+use Rattle.rootchain.specs.Chains.{IsChain}
 use Rattle.rootchain.specs.Promises.{signed_promise_bytes}
 use Rattle.rootchain.specs.declared.signed_promise.SignedPromise.{SignedPromise}
 use Rattle.rootchain.specs.declared.signed_root.SignedRoot.{SignedRoot}

@@ -1,5 +1,4 @@
-use Rattle.asking.proofs.OwnedMonitors.{own-joined, own-updated, own-stepped, own-more, own-handed, own-grown}
-use Rattle.asking.proofs.OwnRoots.{taken-from, taken-there}
+use Rattle.asking.proofs.OwnedScenes.{each-owned, owns-like, owns-written, own_for-own}
 use Rattle.std.proofs.Common.{◌≡◌, None}
 use Rattle.asking.specs.Exchanges.{ExchangesFrames}
 use Rattle.asking.proofs.ToldScenes.{whole-keeps}
