@@ -13,6 +13,8 @@ use Rattle.asking.specs.Checking.{HearsFrame}
 use Rattle.asking.specs.Following.{Follows, StopsAfter, StopsList, TakesList, TakesLists, TakesSome}
 use Rattle.asking.specs.Joining.{BeginsAt, BeginsSome, BeginsSomeAt, BeginsWatch, IsJoined, IsUnwatched, WatchesNew, WatchesSome}
 use Rattle.asking.specs.Reports.{Report, told_after, unless_fine}
+use Rattle.asking.specs.Ending.{PreparesSome, TakesSomeNew}
+use Rattle.asking.specs.Runs.{Background, Prepares, TakesNew}
 use Rattle.asking.specs.Scenes.{Scene}
 use Rattle.asking.specs.Visiting.{AsksDue, TestsAll, TestsFrom, TestsSome, Visits, VisitsOn}
 use Rattle.asking.specs.Watching.{AllStep, AsksEpoch, GoesOn, GoesSome, SomeStep, StepsOn, StepsOnce, StepsSome, StepsThrough}
@@ -215,3 +217,26 @@ module _ {T : Type 0} (hash : List ℕ → List ℕ) (accepted verified : List �
     finds_some-keeps token before after (inl same) = same-keeps before after same
     finds_some-keeps token before after (inr (reply, inl (head, is, high, some))) = behind before after reply.stream (takes_some-keeps (replied reply) after some)
     finds_some-keeps token before after (inr (reply, inr catches)) = behind before after reply.stream (catches_up-keeps reply.epoch (replied reply) after catches)
+
+-- ---- before the lines
+
+module _ {T : Type 0} (hash : List ℕ → List ℕ) (accepted verified : List ℕ → List ℕ → List ℕ → Type 0) (exchanged : T → RequestContent → Frame → T → Type 0) (background : Background)
+    {MayNote : List SignedPromise → Type 0} {MayJoin : List SignedPromise → List ℕ → Option (List ℕ) → Type 0} {Keeps : Scene T → Scene T → Type 0}
+    (each : EachKeeps hash accepted verified exchanged background.marks MayNote MayJoin Keeps) (HasNoState : Type 0) where
+  takes_new-keeps : (before after : Scene T) → TakesNew hash accepted verified exchanged background HasNoState before after → Keeps before after
+  takes_new-keeps before after (inl (none, count, follows)) = follows-keeps hash accepted verified exchanged background.marks each count before after follows
+  takes_new-keeps before after (inr (some, finds)) = finds_head-keeps hash accepted verified exchanged background.marks each background.token before after finds
+
+  pub prepares-keeps : (before after : Scene T) → Prepares hash accepted verified exchanged background HasNoState before after → Keeps before after
+  prepares-keeps before after (middle, takes, tests) = each.both before middle after (takes_new-keeps before middle takes) (tests_all-keeps hash accepted verified exchanged background.marks each middle after tests)
+
+  takes_some_new-keeps : (before after : Scene T) → TakesSomeNew hash accepted verified exchanged background HasNoState before after → Keeps before after
+  takes_some_new-keeps before after (inl (none, inl some)) = takes_some-keeps hash accepted verified exchanged background.marks each before after some
+  takes_some_new-keeps before after (inl (none, inr (count, stops))) = stops-keep hash accepted verified exchanged background.marks each count before after stops
+  takes_some_new-keeps before after (inr (there, inl some)) = finds_some-keeps hash accepted verified exchanged background.marks each background.token before after some
+  takes_some_new-keeps before after (inr (there, inr stops)) = stops_asking-keeps hash accepted verified exchanged background.marks each background.token (Query Head) before after stops
+
+  pub prepares_some-keeps : (before after : Scene T) → PreparesSome hash accepted verified exchanged background HasNoState before after → Keeps before after
+  prepares_some-keeps before after (inl prepares) = prepares-keeps before after prepares
+  prepares_some-keeps before after (inr (inl some)) = takes_some_new-keeps before after some
+  prepares_some-keeps before after (inr (inr (middle, takes, tests))) = each.both before middle after (takes_new-keeps before middle takes) (tests_some-keeps hash accepted verified exchanged background.marks each middle after tests)

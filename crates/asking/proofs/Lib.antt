@@ -17,6 +17,7 @@ pub mod Recalling
 pub mod Rising
 pub mod Told
 pub mod ToldScenes
+pub mod ToldRuns
 pub mod OwnRoots
 pub mod OwnedRoots
 pub mod OwnedMonitors
