@@ -1,7 +1,7 @@
 -- Marks stay as they may stand where the client's chain grows, the monitors go on, and more is told.
 use Rattle.std.proofs.Common.{◌≡◌, ◌∙◌, ◌⊎◌, ◌-◌, ◌<◌, ◌≤◌, ℕ, zero, suc, List, [], ◌∷◌, ◌++◌, length, Contains, Option, Some, arith, ap, inl, inr, refl, slice_set, subst, sym}
 use Rattle.std.specs.Prelude.{slice_get, ⊤}
-use Rattle.std.specs.List.{AllByRecursion, AllZip}
+use Rattle.std.specs.List.{AllByRecursion}
 use Rattle.rootchain.specs.Chains.{IsChain, KeyedRoots}
 use Rattle.rootchain.specs.Places.{IsFirst}
 use Rattle.rootchain.specs.declared.signed_promise.SignedPromise.{SignedPromise}
@@ -45,11 +45,6 @@ all-but (monitor ∷ monitors) zero before after at goes =
     let one : monitor ≡ before = cc in
     (subst (λ (m : Monitor). GoesAs m after) (sym one) goes, all-as_before monitors)
 all-but (monitor ∷ monitors) (suc place) before after at goes = (as-before monitor, all-but monitors place before after at goes)
-
-pub all-zipped : (R : Monitor → Monitor → Type 0) (before after : List Monitor) → ((one other : Monitor) → R one other → GoesAs one other) → AllZip R before after → AllGo before after
-all-zipped R [] after leads zip = tt
-all-zipped R (monitor ∷ before) [] leads zip = absurd zip
-all-zipped R (monitor ∷ before) (monitor' ∷ after) leads zip = (leads monitor monitor' zip.0, all-zipped R before after leads zip.1)
 
 -- one that takes a list goes on
 pub updated-goes : (hash : List ℕ → List ℕ) (verified : List ℕ → List ℕ → List ℕ → Type 0) (list : List ℕ) (before after : Monitor) → IsChain hash verified before.client.chain → MonitorUpdates hash verified list before after → GoesAs before after

@@ -51,7 +51,7 @@ one-listed root roots is spells = one-list (root_list_bytes (root ∷ [])) roots
 
 module _ (hash : List ℕ → List ℕ) (verified : List ℕ → List ℕ → List ℕ → Type 0) (chain : KeyedRoots) (formed : AllByRecursion IsSignedRoot chain.roots) (first : SignedRoot) where
   -- its chain begins with the first root, and has roots of the other chain alone
-  pub record IsPart (own : KeyedRoots) : Type 0 where
+  record IsPart (own : KeyedRoots) : Type 0 where
     pub is : IsChain hash verified own
     pub roots : AllByRecursion (HasBody chain) own.roots
     pub begins : (root : SignedRoot) → IsFirst own root → root ≡ first
@@ -77,7 +77,7 @@ module _ (hash : List ℕ → List ℕ) (verified : List ℕ → List ℕ → Li
   part-retraced (suc count) epoch before after (next, middle, (root, is-next, at, updates), rest) part =
       part-retraced count next middle after rest (part-updated before middle root is-next.0 updates part)
 
-  pub part-started : (key : List ℕ) (own : Client) → Contains chain.roots first → StartsFrom hash verified chain key first (Ok own) → IsPart own.chain
+  part-started : (key : List ℕ) (own : Client) → Contains chain.roots first → StartsFrom hash verified chain key first (Ok own) → IsPart own.chain
   part-started key own has (start, (root, (spells, signed), is), (count, retraces)) =
       let one : root ≡ first = one-spelled first root (all-has IsSignedRoot chain.roots first formed has) spells in
       let here : IsPart (record { key = key; roots = root ∷ [] }) = record {

@@ -51,10 +51,12 @@ module _ (hash : List ℕ → List ℕ) (accepted verified : List ℕ → List �
   abbrev Owner : List ℕ → KeyedRoots → Monitor → Type 0
   Owner text chain monitor = Owned hash accepted verified Given Own text chain marks monitor
 
+  -- more is told
   more-owned : (text : List ℕ) (chain : KeyedRoots) (before told : Report) (monitors : List Monitor) → AllByRecursion (Owner (text ++ before.lines) chain) monitors → AllByRecursion (Owner (text ++ (told_after before told).lines) chain) monitors
   more-owned text chain before told monitors all = subst (λ (t : List ℕ). AllByRecursion (Owner t chain) monitors) (append_assoc text before.lines told.lines)
       (all-map (Owner (text ++ before.lines) chain) (Owner ((text ++ before.lines) ++ told.lines) chain) monitors (λ monitor owned. own-more hash accepted verified Given Own (text ++ before.lines) chain marks told.lines monitor owned) all)
 
+  -- the monitors, or one of them, are as before
   still-owned : (text : List ℕ) (chain : KeyedRoots) (before after : List Monitor) → after ≡ before → AllByRecursion (Owner text chain) before → AllByRecursion (Owner text chain) after × AllGo before after
   still-owned text chain before after same all = (subst (AllByRecursion (Owner text chain)) (sym same) all, subst (AllGo before) (sym same) (all-as_before before))
 
@@ -82,7 +84,7 @@ module _ (hash : List ℕ → List ℕ) (accepted verified : List ℕ → List �
       } in
       subst (λ (c : Client). IsTaken client.chain c.chain list) (sym same) here
 
-  -- each takes it
+  -- each monitor takes it
   zipped : (text list : List ℕ) (chain chain' : KeyedRoots) (before after : List Monitor) → IsTaken chain chain' list → AllZip (MonitorUpdates hash verified list) before after
       → AllByRecursion (Owner text chain) before → AllByRecursion (Owner text chain') after × AllGo before after
   zipped text list chain chain' [] [] taken zip all = (tt, tt)
@@ -92,7 +94,7 @@ module _ (hash : List ℕ → List ℕ) (accepted verified : List ℕ → List �
       let (rest, go) = zipped text list chain chain' before after taken zip all.1 in
       ((taken.each text monitor monitor' updates all.0, rest), (updated-goes hash verified list monitor monitor' all.0.told.chain updates, go))
 
-  -- some take it, and one refuses it
+  -- some monitors take it, and one refuses it
   refused-owned : (text list : List ℕ) (chain chain' : KeyedRoots) (before : List Monitor) (why : Refusal) (after : List Monitor) → IsTaken chain chain' list → OneRefuses hash verified list before why after
       → AllByRecursion (Owner text chain) before → AllByRecursion (Owner text chain') after × AllGo before after
   refused-owned text list chain chain' [] why after taken refuses all = absurd refuses
