@@ -18,7 +18,7 @@ use Rattle.rootchain.proofs.Places.{ends}
 use Rattle.rootchain.proofs.TakingLists.{takes-chain, takes-grows}
 use Rattle.asking.specs.Told.{HasBody}
 
-some-same : (one other : SignedRoot) → ◌≡◌ {A = Option SignedRoot} (Some one) (Some other) → one ≡ other
+pub some-same : {A : Type 0} (one other : A) → ◌≡◌ {A = Option A} (Some one) (Some other) → one ≡ other
 some-same one other e = cc
 
 -- neighbours behind the first are linked as before

@@ -35,7 +35,7 @@ lines-last text lines = (text, [], ap (λ (t : List ℕ). text ++ t) (sym (appen
 -- ---- roots
 
 -- a root behind others is of a later epoch
-behind-later : (front back : List SignedRoot) (one other : SignedRoot) → Ascend (front ++ back) → Contains front one → Contains back other → one.body.epoch < other.body.epoch
+pub behind-later : (front back : List SignedRoot) (one other : SignedRoot) → Ascend (front ++ back) → Contains front one → Contains back other → one.body.epoch < other.body.epoch
 behind-later front back one other up has also =
     let first : get_or (front ++ back) has.0 other ≡ one = get_or_append_left front back other has.0 has.1 ∙ get_or_default front has.0 other one has.1 ∙ has.2 in
     let second : get_or (front ++ back) (length front + also.0) other ≡ other = get_or-append_right front back (length front) (length front + also.0) other refl (omega arith) ∙ ap (λ k. get_or back k other) (omega arith) ∙ also.2 in

@@ -1,7 +1,7 @@
-use Rattle.asking.proofs.Stood.{kept-known, kept-happened, kept-out, kept-roots, kept-remembered, kept-handed, stands-same, stands-begun, stands-roots, stands-handed, stands-moved}
+use Rattle.asking.proofs.OwnedScenes.{each-owned, owns-like, owns-written, own_for-own}
 use Rattle.std.proofs.Common.{◌≡◌, None}
 use Rattle.asking.specs.Exchanges.{ExchangesFrames}
-use Rattle.asking.proofs.ToldScenes.{whole-keeps}
+use Rattle.asking.proofs.ToldRuns.{whole-keeps}
 use Rattle.asking.proofs.laws.watched_epochs_are_told.Goals as goal
 
 pub returns : goal.returns

@@ -1,0 +1,242 @@
+-- What each single step keeps, every relation between the scenes of a run keeps.
+use Rattle.std.proofs.Common.{◌≡◌, ◌⊎◌, ℕ, zero, suc, true, false, Bool, List, [], ◌∷◌, ◌++◌, length, Option, Some, None, inl, inr, subst, sym}
+use Rattle.rootchain.specs.declared.signed_promise.SignedPromise.{SignedPromise}
+use Rattle.rootchain.specs.declared.signed_root.SignedRoot.{SignedRoot}
+use Rattle.commands.specs.Operations.{Head}
+use Rattle.wire.specs.Frames.{Frame}
+use Rattle.wire.specs.Requests.{RequestContent, Query}
+use Rattle.memory.specs.Memories.{Memory}
+use Rattle.memory.specs.declared.mark.Mark.{Mark}
+use Rattle.monitor.specs.Monitors.{Monitor}
+use Rattle.asking.specs.Asking.{replied, AsksDirectory, AsksOn, AsksSome, CatchesSome, CatchesUp, FindsHead, FindsSome, GoesOnAbove, HearsOne, HearsOnly, HearsSome, Notes, StopsAsking}
+use Rattle.asking.specs.Checking.{HearsFrame}
+use Rattle.asking.specs.Following.{Follows, StopsAfter, StopsList, TakesList, TakesLists, TakesSome}
+use Rattle.asking.specs.Joining.{BeginsAt, BeginsSome, BeginsSomeAt, BeginsWatch, IsJoined, IsUnwatched, WatchesNew, WatchesSome}
+use Rattle.asking.specs.Reports.{Report, told_after, unless_fine}
+use Rattle.asking.specs.Ending.{PreparesSome, TakesSomeNew}
+use Rattle.asking.specs.Runs.{Background, Prepares, TakesNew}
+use Rattle.asking.specs.Scenes.{Scene}
+use Rattle.asking.specs.Visiting.{AsksDue, TestsAll, TestsFrom, TestsSome, Visits, VisitsOn}
+use Rattle.asking.specs.Watching.{AllStep, AsksEpoch, GoesOn, GoesSome, SomeStep, StepsOn, StepsOnce, StepsSome, StepsThrough}
+
+module _ {T : Type 0} (hash : List ℕ → List ℕ) (accepted verified : List ℕ → List ℕ → List ℕ → Type 0) (exchanged : T → RequestContent → Frame → T → Type 0) (marks : List Mark) where
+  -- Each single step keeps it, where what is noted of the client's own changes is MayNote, and a monitor joins as MayJoin
+  -- says.
+  pub record EachKeeps (MayNote : List SignedPromise → Type 0) (MayJoin : List SignedPromise → List ℕ → Option (List ℕ) → Type 0) (Keeps : Scene T → Scene T → Type 0) : Type 0 where
+    pub none : (before : Scene T) → Keeps before before
+    pub both : (before middle after : Scene T) → Keeps before middle → Keeps middle after → Keeps before after
+    pub sends : (before : Scene T) (stream : T) → Keeps before (record before { stream = stream })
+    pub tells : (before : Scene T) (told : Report) → Keeps before (record before { told = told_after before.told told })
+    pub takes : (before after : Scene T) → TakesList hash verified exchanged before true after → Keeps before after
+    pub stops : (before after : Scene T) → StopsList hash verified exchanged before after → Keeps before after
+    pub tests : (before : Scene T) (name : List ℕ) (kept : Bool) (after : Scene T) → AsksDue hash accepted exchanged before name kept after → Keeps before after
+    pub steps : (before : Scene T) (place : ℕ) (went : Bool) (after : Scene T) → AsksEpoch hash accepted exchanged before place went after → Keeps before after
+    pub joins : (before : Scene T) (key : List ℕ) (promised : List SignedPromise) (name : List ℕ) (given : Option (List ℕ)) (first : SignedRoot) (monitor : Monitor) → MayJoin promised name given
+        → IsUnwatched before.client.chain name marks (Some first) → IsJoined hash accepted verified marks key promised before.client.chain first name given monitor
+        → Keeps before (record before { monitors = before.monitors ++ monitor ∷ [] })
+    pub hears : (before after : Scene T) (held : ℕ) (asked : RequestContent) (frame : Frame) (heard told : Report) → HearsFrame hash accepted verified held before.client asked frame heard after.client
+        → after.told ≡ told_after before.told told → after.monitors ≡ before.monitors → Keeps before after
+    pub hands : (before after : Scene T) (held : ℕ) (asked : RequestContent) (frame : Frame) (noted noted' : List SignedPromise) → HearsOne hash accepted verified exchanged held asked frame before after
+        → Notes asked before.client.promises after.client.promises noted noted' → MayNote noted' → Keeps before after
+
+  module _ {MayNote : List SignedPromise → Type 0} {MayJoin : List SignedPromise → List ℕ → Option (List ℕ) → Type 0} {Keeps : Scene T → Scene T → Type 0} (each : EachKeeps MayNote MayJoin Keeps) where
+    same-keeps : (before after : Scene T) → after ≡ before → Keeps before after
+    same-keeps before after same = subst (Keeps before) (sym same) (each.none before)
+
+    -- ---- roots
+
+    none-keeps : (before after : Scene T) → TakesList hash verified exchanged before false after → Keeps before after
+    none-keeps before after (inl (head, is, last, same)) = same-keeps before after same
+    none-keeps before after (inr (frame, stream, asks, none, same)) = subst (Keeps before) (sym same) (each.sends before stream)
+
+    pub follows-keeps : (count : ℕ) (before after : Scene T) → Follows hash verified exchanged count before after → Keeps before after
+    follows-keeps zero before after takes = none-keeps before after takes
+    follows-keeps (suc count) before after (middle, takes, more) = each.both before middle after (each.takes before middle takes) (follows-keeps count middle after more)
+
+    pub lists-keep : (count : ℕ) (before after : Scene T) → TakesLists hash verified exchanged count before after → Keeps before after
+    lists-keep zero before after same = same-keeps before after same
+    lists-keep (suc count) before after (middle, takes, more) = each.both before middle after (each.takes before middle takes) (lists-keep count middle after more)
+
+    pub takes_some-keeps : (before after : Scene T) → TakesSome hash verified exchanged before after → Keeps before after
+    takes_some-keeps before after (count, takes) = lists-keep count before after takes
+
+    pub stops-keep : (count : ℕ) (before after : Scene T) → StopsAfter hash verified exchanged count before after → Keeps before after
+    stops-keep zero before after stops = each.stops before after stops
+    stops-keep (suc count) before after (middle, takes, more) = each.both before middle after (each.takes before middle takes) (stops-keep count middle after more)
+
+    -- ---- promises
+
+    visits-keep : (place : ℕ) (next : Option ℕ) (before after : Scene T) → Visits hash accepted exchanged marks before place next after → Keeps before after
+    visits-keep place None before after (gone, same) = same-keeps before after same
+    visits-keep place (Some next) before after (signed, at, inl (awaits, is, same)) = same-keeps before after same
+    visits-keep place (Some next) before after (signed, at, inr (free, (kept, inl (none, is, same), to))) = same-keeps before after same
+    visits-keep place (Some next) before after (signed, at, inr (free, (kept, inr asks, to))) = each.tests before signed.promise.name kept after asks
+
+    tests_from-keeps : (count : ℕ) (before : Scene T) (place : ℕ) (after : Scene T) → TestsFrom hash accepted exchanged marks count before place after → Keeps before after
+    tests_from-keeps zero before place after visits = visits-keep place None before after visits
+    tests_from-keeps (suc count) before place after (next, middle, visits, more) = each.both before middle after (visits-keep place (Some next) before middle visits) (tests_from-keeps count middle next after more)
+
+    pub tests_all-keeps : (before after : Scene T) → TestsAll hash accepted exchanged marks before after → Keeps before after
+    tests_all-keeps before after (count, tests) = tests_from-keeps count before 0 after tests
+
+    visits_on-keeps : (count : ℕ) (before : Scene T) (place : ℕ) (after : Scene T) → VisitsOn hash accepted exchanged marks count before place after → Keeps before after
+    visits_on-keeps zero before place after same = same-keeps before after same
+    visits_on-keeps (suc count) before place after (next, middle, visits, more) = each.both before middle after (visits-keep place (Some next) before middle visits) (visits_on-keeps count middle next after more)
+
+    pub tests_some-keeps : (before after : Scene T) → TestsSome hash accepted exchanged marks before after → Keeps before after
+    tests_some-keeps before after (count, visits) = visits_on-keeps count before 0 after visits
+
+    -- ---- monitors
+
+    once-keeps : (before : Scene T) (place : ℕ) (went : Bool) (after : Scene T) → StepsOnce hash accepted exchanged before place went after → Keeps before after
+    once-keeps before place went after (inl (none, not, same)) = same-keeps before after same
+    once-keeps before place went after (inr (inl (found, not, same))) = same-keeps before after same
+    once-keeps before place went after (inr (inr asks)) = each.steps before place went after asks
+
+    pub through-keeps : (count : ℕ) (before : Scene T) (place : ℕ) (after : Scene T) → StepsThrough hash accepted exchanged count before place after → Keeps before after
+    through-keeps zero before place after steps = once-keeps before place false after steps
+    through-keeps (suc count) before place after (middle, steps, more) = each.both before middle after (once-keeps before place true middle steps) (through-keeps count middle place after more)
+
+    pub all_step-keeps : (more : ℕ) (before : Scene T) (place : ℕ) (after : Scene T) → AllStep hash accepted exchanged more before place after → Keeps before after
+    all_step-keeps zero before place after same = same-keeps before after same
+    all_step-keeps (suc more) before place after (count, middle, steps, rest) = each.both before middle after (through-keeps count before place middle steps) (all_step-keeps more middle (suc place) after rest)
+
+    pub goes_on-keeps : (before after : Scene T) → GoesOn hash accepted exchanged marks before after → Keeps before after
+    goes_on-keeps before after (middle, steps, tests) = each.both before middle after (all_step-keeps (length before.monitors) before 0 middle steps) (tests_all-keeps middle after tests)
+
+    pub steps_on-keeps : (count : ℕ) (before : Scene T) (place : ℕ) (after : Scene T) → StepsOn hash accepted exchanged count before place after → Keeps before after
+    steps_on-keeps zero before place after same = same-keeps before after same
+    steps_on-keeps (suc count) before place after (middle, steps, more) = each.both before middle after (once-keeps before place true middle steps) (steps_on-keeps count middle place after more)
+
+    pub steps_some-keeps : (before : Scene T) (place : ℕ) (after : Scene T) → StepsSome hash accepted exchanged before place after → Keeps before after
+    steps_some-keeps before place after (count, steps) = steps_on-keeps count before place after steps
+
+    pub some_step-keeps : (more : ℕ) (before : Scene T) (place : ℕ) (after : Scene T) → SomeStep hash accepted exchanged more before place after → Keeps before after
+    some_step-keeps zero before place after same = same-keeps before after same
+    some_step-keeps (suc more) before place after (inl steps) = steps_some-keeps before place after steps
+    some_step-keeps (suc more) before place after (inr (count, middle, steps, rest)) = each.both before middle after (through-keeps count before place middle steps) (some_step-keeps more middle (suc place) after rest)
+
+    pub goes_some-keeps : (before after : Scene T) → GoesSome hash accepted exchanged marks before after → Keeps before after
+    goes_some-keeps before after (inl steps) = some_step-keeps (length before.monitors) before 0 after steps
+    goes_some-keeps before after (inr (middle, steps, tests)) = each.both before middle after (all_step-keeps (length before.monitors) before 0 middle steps) (tests_some-keeps middle after tests)
+
+    -- ---- a monitor that joins
+
+    module _ (key : List ℕ) (promised : List SignedPromise) (name : List ℕ) (given : Option (List ℕ)) (may : MayJoin promised name given) where
+      pub begins_at-keeps : (first : SignedRoot) (before after : Scene T) → IsUnwatched before.client.chain name marks (Some first) → BeginsAt hash accepted verified exchanged marks key promised name given first before after → Keeps before after
+      begins_at-keeps first before after is (inl (monitor, joined, (count, steps))) =
+          let added : Scene T = record before { monitors = before.monitors ++ monitor ∷ [] } in
+          each.both before added after (each.joins before key promised name given first monitor may is joined) (through-keeps count added (length before.monitors) after steps)
+      begins_at-keeps first before after is (inr (why, not, starts, same)) = subst (Keeps before) (sym same) (each.tells before _)
+
+      pub begins_some_at-keeps : (first : SignedRoot) (before after : Scene T) → IsUnwatched before.client.chain name marks (Some first) → BeginsSomeAt hash accepted verified exchanged marks key promised name given first before after → Keeps before after
+      begins_some_at-keeps first before after is (inl same) = same-keeps before after same
+      begins_some_at-keeps first before after is (inr (monitor, joined, steps)) =
+          let added : Scene T = record before { monitors = before.monitors ++ monitor ∷ [] } in
+          each.both before added after (each.joins before key promised name given first monitor may is joined) (steps_some-keeps added (length before.monitors) after steps)
+
+      pub watches_new-keeps : (before after : Scene T) → WatchesNew hash accepted verified exchanged marks key promised name given before after → Keeps before after
+      watches_new-keeps before after (inl (none, same)) = same-keeps before after same
+      watches_new-keeps before after (inr (first, is, (middle, begins, tests))) = each.both before middle after (begins_at-keeps first before middle is begins) (tests_all-keeps middle after tests)
+
+      pub watches_some-keeps : (before after : Scene T) → WatchesSome hash accepted verified exchanged marks key promised name given before after → Keeps before after
+      watches_some-keeps before after (first, is, inl begins) = begins_some_at-keeps first before after is begins
+      watches_some-keeps before after (first, is, inr (middle, begins, tests)) = each.both before middle after (begins_at-keeps first before middle is begins) (tests_some-keeps middle after tests)
+
+      module _ (known : Memory) where
+        pub begins_watch-keeps : (before after : Scene T) → BeginsWatch hash accepted verified exchanged known marks key promised name given before after → Keeps before after
+        begins_watch-keeps before after (again, tells, watches) =
+            let recalled : Scene T = record before { told = told_after before.told again } in
+            each.both before recalled after (each.tells before again) (watches_new-keeps recalled after watches)
+
+        pub begins_some-keeps : (before after : Scene T) → BeginsSome hash accepted verified exchanged known marks key promised name given before after → Keeps before after
+        begins_some-keeps before after (inl same) = same-keeps before after same
+        begins_some-keeps before after (inr (again, tells, inl same)) = subst (Keeps before) (sym same) (each.tells before again)
+        begins_some-keeps before after (inr (again, tells, inr watches)) =
+            let recalled : Scene T = record before { told = told_after before.told again } in
+            each.both before recalled after (each.tells before again) (watches_some-keeps recalled after watches)
+
+    -- ---- a line
+
+    pub catches_up-keeps : (epoch : ℕ) (before after : Scene T) → CatchesUp hash accepted verified exchanged epoch before after → Keeps before after
+    catches_up-keeps epoch before after (head, is, inl (low, same)) = same-keeps before after same
+    catches_up-keeps epoch before after (head, is, inr (high, (count, follows))) = follows-keeps count before after follows
+
+    pub above-keeps : (epoch : ℕ) (before after : Scene T) → GoesOnAbove hash accepted verified exchanged marks epoch before after → Keeps before after
+    above-keeps epoch before after (head, is, inl (low, same)) = same-keeps before after same
+    above-keeps epoch before after (head, is, inr (high, goes)) = goes_on-keeps before after goes
+
+    pub hears_only-keeps : (held : ℕ) (asked : RequestContent) (frame : Frame) (noted noted' : List SignedPromise) (before after : Scene T) → HearsOnly hash accepted verified exchanged held asked frame noted noted' before after → Keeps before after
+    hears_only-keeps held asked frame noted noted' before after (notes, told, hears, tells, monitors, stream) = each.hears before after held asked frame told told hears tells monitors
+
+    pub hears_some-keeps : (epoch : ℕ) (asked : RequestContent) (frame : Frame) (noted noted' : List SignedPromise) (before after : Scene T) → MayNote noted' → HearsSome hash accepted verified exchanged marks epoch asked frame noted noted' before after
+        → Keeps before after
+    hears_some-keeps epoch asked frame noted noted' before after may (inl (none, same)) = same-keeps before after same
+    hears_some-keeps epoch asked frame noted noted' before after may (inr (inl hears)) = hears_only-keeps epoch asked frame noted noted' before after hears
+    hears_some-keeps epoch asked frame noted noted' before after may (inr (inr (heard, hears, notes, (head, is, high, goes)))) =
+        each.both before heard after (each.hands before heard epoch asked frame noted noted' hears notes may) (goes_some-keeps heard after goes)
+
+    -- what comes of a reply, which leaves the stream as it is now
+    behind : (before after : Scene T) (stream : T) → Keeps (record before { stream = stream }) after → Keeps before after
+    behind before after stream keeps = each.both before (record before { stream = stream }) after (each.sends before stream) keeps
+
+    pub asks_directory-keeps : (token : List ℕ) (asked : RequestContent) (noted noted' : List SignedPromise) (before after : Scene T) → MayNote noted' → AsksDirectory hash accepted verified exchanged marks token asked noted noted' before after
+        → Keeps before after
+    asks_directory-keeps token asked noted noted' before after may asks =
+        behind before after asks.reply.stream
+        (each.both (replied asks.reply) asks.ready after (catches_up-keeps asks.reply.epoch (replied asks.reply) asks.ready asks.catches)
+        (each.both asks.ready asks.heard after (each.hands asks.ready asks.heard asks.reply.head.body.epoch asked asks.reply.frame noted noted' asks.hears asks.notes may)
+        (above-keeps asks.reply.head.body.epoch asks.heard after asks.goes)))
+
+    pub finds_head-keeps : (token : List ℕ) (before after : Scene T) → FindsHead hash accepted verified exchanged token before after → Keeps before after
+    finds_head-keeps token before after finds =
+        behind before after finds.reply.stream
+        (each.both (replied finds.reply) finds.ready after (catches_up-keeps finds.reply.epoch (replied finds.reply) finds.ready finds.catches)
+        (each.hears finds.ready after finds.reply.head.body.epoch (Query Head) finds.reply.frame finds.told (unless_fine finds.told) finds.hears finds.tells finds.same.0))
+
+    pub stops_asking-keeps : (token : List ℕ) (asked : RequestContent) (before after : Scene T) → StopsAsking hash accepted verified exchanged token asked before after → Keeps before after
+    stops_asking-keeps token asked before after asks =
+        let (head, is, high, (count, stops)) = asks.stops in
+        behind before after asks.reply.stream (stops-keep count (replied asks.reply) after stops)
+
+    pub asks_on-keeps : (token : List ℕ) (asked : RequestContent) (noted noted' : List SignedPromise) (before after : Scene T) → MayNote noted' → AsksOn hash accepted verified exchanged marks token asked noted noted' before after → Keeps before after
+    asks_on-keeps token asked noted noted' before after may asks = behind before after asks.reply.stream (by asks.steps)
+      where
+        by : ((noted' ≡ noted) × CatchesSome hash accepted verified exchanged asks.reply.epoch (replied asks.reply) after)
+            ⊎ ((ready : Scene T) × CatchesUp hash accepted verified exchanged asks.reply.epoch (replied asks.reply) ready × HearsSome hash accepted verified exchanged marks asks.reply.head.body.epoch asked asks.reply.frame noted noted' ready after)
+            → Keeps (replied asks.reply) after
+        by (inl (none, (head, is, high, some))) = takes_some-keeps (replied asks.reply) after some
+        by (inr (ready, catches, hears)) = each.both (replied asks.reply) ready after (catches_up-keeps asks.reply.epoch (replied asks.reply) ready catches)
+            (hears_some-keeps asks.reply.head.body.epoch asked asks.reply.frame noted noted' ready after may hears)
+
+    pub asks_some-keeps : (token : List ℕ) (asked : RequestContent) (noted noted' : List SignedPromise) (before after : Scene T) → MayNote noted' → AsksSome hash accepted verified exchanged marks token asked noted noted' before after → Keeps before after
+    asks_some-keeps token asked noted noted' before after may (inl (none, same)) = same-keeps before after same
+    asks_some-keeps token asked noted noted' before after may (inr asks) = asks_on-keeps token asked noted noted' before after may asks
+
+    pub finds_some-keeps : (token : List ℕ) (before after : Scene T) → FindsSome hash accepted verified exchanged token before after → Keeps before after
+    finds_some-keeps token before after (inl same) = same-keeps before after same
+    finds_some-keeps token before after (inr (reply, inl (head, is, high, some))) = behind before after reply.stream (takes_some-keeps (replied reply) after some)
+    finds_some-keeps token before after (inr (reply, inr catches)) = behind before after reply.stream (catches_up-keeps reply.epoch (replied reply) after catches)
+
+-- ---- before the lines
+
+module _ {T : Type 0} (hash : List ℕ → List ℕ) (accepted verified : List ℕ → List ℕ → List ℕ → Type 0) (exchanged : T → RequestContent → Frame → T → Type 0) (background : Background)
+    {MayNote : List SignedPromise → Type 0} {MayJoin : List SignedPromise → List ℕ → Option (List ℕ) → Type 0} {Keeps : Scene T → Scene T → Type 0}
+    (each : EachKeeps hash accepted verified exchanged background.marks MayNote MayJoin Keeps) (HasNoState : Type 0) where
+  takes_new-keeps : (before after : Scene T) → TakesNew hash accepted verified exchanged background HasNoState before after → Keeps before after
+  takes_new-keeps before after (inl (none, count, follows)) = follows-keeps hash accepted verified exchanged background.marks each count before after follows
+  takes_new-keeps before after (inr (some, finds)) = finds_head-keeps hash accepted verified exchanged background.marks each background.token before after finds
+
+  pub prepares-keeps : (before after : Scene T) → Prepares hash accepted verified exchanged background HasNoState before after → Keeps before after
+  prepares-keeps before after (middle, takes, tests) = each.both before middle after (takes_new-keeps before middle takes) (tests_all-keeps hash accepted verified exchanged background.marks each middle after tests)
+
+  takes_some_new-keeps : (before after : Scene T) → TakesSomeNew hash accepted verified exchanged background HasNoState before after → Keeps before after
+  takes_some_new-keeps before after (inl (none, inl some)) = takes_some-keeps hash accepted verified exchanged background.marks each before after some
+  takes_some_new-keeps before after (inl (none, inr (count, stops))) = stops-keep hash accepted verified exchanged background.marks each count before after stops
+  takes_some_new-keeps before after (inr (there, inl some)) = finds_some-keeps hash accepted verified exchanged background.marks each background.token before after some
+  takes_some_new-keeps before after (inr (there, inr stops)) = stops_asking-keeps hash accepted verified exchanged background.marks each background.token (Query Head) before after stops
+
+  pub prepares_some-keeps : (before after : Scene T) → PreparesSome hash accepted verified exchanged background HasNoState before after → Keeps before after
+  prepares_some-keeps before after (inl prepares) = prepares-keeps before after prepares
+  prepares_some-keeps before after (inr (inl some)) = takes_some_new-keeps before after some
+  prepares_some-keeps before after (inr (inr (middle, takes, tests))) = each.both before middle after (takes_new-keeps before middle takes) (tests_some-keeps hash accepted verified exchanged background.marks each middle after tests)
