@@ -17,8 +17,10 @@ pub mod Recalling
 pub mod Rising
 pub mod Told
 pub mod ToldScenes
+pub mod NotedOwn
 pub mod OwnRoots
 pub mod Settled
+pub mod Standing
 pub mod Stepped
 pub mod Stopped
 pub mod Telling
