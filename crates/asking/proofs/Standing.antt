@@ -1,5 +1,5 @@
 -- Where the asker stands behind a question, if memory did not run out.
-use Rattle.std.proofs.Common.{◌≡◌, ◌≢◌, ℕ, List, Option, Result, Ok, Err, inl, inr, refl, rules, subst}
+use Rattle.std.proofs.Common.{◌≡◌, ◌≢◌, ◌⊎◌, ℕ, List, Option, Result, Ok, Err, inl, inr, refl, rules, subst}
 use Rattle.std.specs.Prelude.{IfErr, OnOk}
 use Rattle.rootchain.specs.declared.signed_promise.SignedPromise.{SignedPromise}
 use Rattle.wire.specs.Frames.{Frame}
