@@ -111,11 +111,11 @@ module _ (hash : List ℕ → List ℕ) (accepted verified : List ℕ → List �
     checked-hears (Put verb name key) (Proof reply) checked = absurd checked
     checked-hears (Put verb name key) (Roots roots) checked = absurd checked
     checked-hears (Put verb name key) (Refused code) checked = absurd checked
-    checked-hears (Turn token epoch nonce) (Promise signed) (answer, (keeps, tellable), is) = keeps-hears before body answer after keeps
-    checked-hears (Turn token epoch nonce) (Root latest) (same, placed) = hears-same before after same
-    checked-hears (Turn token epoch nonce) (Proof reply) checked = absurd checked
-    checked-hears (Turn token epoch nonce) (Roots roots) checked = absurd checked
-    checked-hears (Turn token epoch nonce) (Refused code) checked = absurd checked
+    checked-hears (Turn token epoch _) (Promise signed) (answer, (keeps, tellable), is) = keeps-hears before body answer after keeps
+    checked-hears (Turn token epoch _) (Root latest) (same, placed) = hears-same before after same
+    checked-hears (Turn token epoch _) (Proof reply) checked = absurd checked
+    checked-hears (Turn token epoch _) (Roots roots) checked = absurd checked
+    checked-hears (Turn token epoch _) (Refused code) checked = absurd checked
 
     response-hears : (asked : RequestContent) (responded : ResponseContent) → HearsResponse hash accepted verified held before body asked responded told after → Hears before after
     response-hears asked (Refused code) (is, same) = hears-same before after same
@@ -136,7 +136,7 @@ module _ (hash : List ℕ → List ℕ) (accepted verified : List ℕ → List �
   noted-signed : (asked : RequestContent) (before after : Client) (noted noted' : List SignedPromise) → Hears before after → Notes asked before.promises after.promises noted noted'
       → AllByRecursion (IsSignedBy verified before.chain.key) noted → AllByRecursion (IsSignedBy verified before.chain.key) noted'
   noted-signed (Query query) before after noted noted' hears same all = subst (AllByRecursion (IsSignedBy verified before.chain.key)) (sym same) all
-  noted-signed (Turn token epoch nonce) before after noted noted' hears same all = subst (AllByRecursion (IsSignedBy verified before.chain.key)) (sym same) all
+  noted-signed (Turn token epoch _) before after noted noted' hears same all = subst (AllByRecursion (IsSignedBy verified before.chain.key)) (sym same) all
   noted-signed (Put verb name key) before after noted noted' hears (inl (few, same)) all = subst (AllByRecursion (IsSignedBy verified before.chain.key)) (sym same) all
   noted-signed (Put verb name key) before after noted noted' (chain, inl same) (inr (more, last)) all = absurd (omega (arith, ap (λ (ps : List SignedPromise). length ps) same, more))
   noted-signed (Put verb name key) before after noted noted' (chain, inr (signed, own, same)) (inr (more, (last, at, is))) all =

@@ -1,9 +1,10 @@
-use Rattle.std.proofs.Common.{ℕ, List, Option, inl, refl, subst}
+use Rattle.std.proofs.Common.{ℕ, List, Option, Global, Vec, ap, inl, refl, subst}
 use Rattle.std.specs.Prelude.{OnOk}
 use Rattle.asking.specs.Exchanges.{ExchangesFrames}
 use Rattle.asking.specs.Joining.{own_for, BeginsWatch}
 use Rattle.asking.specs.Runs.{background_of}
 use Rattle.asking.specs.Scenes.{scene}
+use Rattle.rootchain.specs.declared.signed_promise.SignedPromise.{SignedPromise}
 use Rattle.play.specs.Scripts.{ask_seen}
 use Rattle.asking.proofs.Ended.{asked_reaches, watched_reaches}
 use Rattle.asking.proofs.Ran.{ok_then}
@@ -66,7 +67,7 @@ pub returns-in-Watch-clause-stands : goal.returns-in-Watch-clause-stands
 returns-in-Watch-clause-stands g c =
     rw c.in-Watch.is (watched_stands g.H.NodeHash.digest_of g.V.VufCheck.accepted g.S.Verifier.verified (ExchangesFrames g.T.Write.contents g.T.Read.remaining) (background_of c.args.asker.now) c.in-Watch.name _ _
     c.args.asker.now.changes.items c.watch.new.self.changes.items c.watch.result (scene c.args.asker.now c.args.said.now c.args.stream.now) c.watch.new.self c.watch.new.said c.watch.new.stream
-    c.as_ref.ensures.value (ap (λ (changes : Vec SignedPromise). changes.items) c.watch.ensures.stays.4) c.watch.ensures.begins c.watch.ensures.err c.watch.ensures.halts)
+    c.as_ref.ensures.value (ap (λ (changes : Vec SignedPromise Global). changes.items) c.watch.ensures.stays.4) c.watch.ensures.begins c.watch.ensures.err c.watch.ensures.halts)
 
 pub returns-in-Pass-clause-stands : goal.returns-in-Pass-clause-stands
 returns-in-Pass-clause-stands g c =

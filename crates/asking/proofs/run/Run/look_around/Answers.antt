@@ -1,4 +1,4 @@
-use Rattle.std.proofs.Common.{◌≡◌, None, ap, inl, inr, refl, subst}
+use Rattle.std.proofs.Common.{◌≡◌, Err, None, ap, inl, inr, refl, rules, subst}
 use Rattle.asking.specs.Exchanges.{ExchangesFrames}
 use Rattle.asking.specs.Runs.{background_of, Background}
 use Rattle.asking.specs.Scenes.{scene}
