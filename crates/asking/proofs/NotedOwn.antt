@@ -52,6 +52,9 @@ last-is xs x last at =
 abbrev pub IsSignedBy : (List ℕ → List ℕ → List ℕ → Type 0) → List ℕ → SignedPromise → Type 0
 IsSignedBy verified key signed = IsSignedPromise signed × PromiseVerifies verified key signed
 
+abbrev pub AllSignedBy : (List ℕ → List ℕ → List ℕ → Type 0) → List ℕ → List SignedPromise → Type 0
+AllSignedBy verified key promises = AllByRecursion (IsSignedBy verified key) promises
+
 module _ (hash : List ℕ → List ℕ) (accepted verified : List ℕ → List ℕ → List ℕ → Type 0) where
   -- the client has the promises that it had, or one more, which is signed
   abbrev Promised : Client → Client → Type 0
@@ -134,14 +137,14 @@ module _ (hash : List ℕ → List ℕ) (accepted verified : List ℕ → List �
 
   -- what is noted behind that is signed
   noted-signed : (asked : RequestContent) (before after : Client) (noted noted' : List SignedPromise) → Hears before after → Notes asked before.promises after.promises noted noted'
-      → AllByRecursion (IsSignedBy verified before.chain.key) noted → AllByRecursion (IsSignedBy verified before.chain.key) noted'
-  noted-signed (Query query) before after noted noted' hears same all = subst (AllByRecursion (IsSignedBy verified before.chain.key)) (sym same) all
-  noted-signed (Turn token epoch _) before after noted noted' hears same all = subst (AllByRecursion (IsSignedBy verified before.chain.key)) (sym same) all
-  noted-signed (Put verb name key) before after noted noted' hears (inl (few, same)) all = subst (AllByRecursion (IsSignedBy verified before.chain.key)) (sym same) all
+      → AllSignedBy verified before.chain.key noted → AllSignedBy verified before.chain.key noted'
+  noted-signed (Query query) before after noted noted' hears same all = subst (AllSignedBy verified before.chain.key) (sym same) all
+  noted-signed (Turn token epoch _) before after noted noted' hears same all = subst (AllSignedBy verified before.chain.key) (sym same) all
+  noted-signed (Put verb name key) before after noted noted' hears (inl (few, same)) all = subst (AllSignedBy verified before.chain.key) (sym same) all
   noted-signed (Put verb name key) before after noted noted' (chain, inl same) (inr (more, last)) all = absurd (omega (arith, ap (λ (ps : List SignedPromise). length ps) same, more))
   noted-signed (Put verb name key) before after noted noted' (chain, inr (signed, own, same)) (inr (more, (last, at, is))) all =
       let one : signed ≡ last = last-is before.promises signed last (subst (λ (ps : List SignedPromise). slice_get ps (length ps - 1) ≡ Some last) same at) in
-      subst (AllByRecursion (IsSignedBy verified before.chain.key)) (sym is) (all-with (IsSignedBy verified before.chain.key) noted last all (subst (IsSignedBy verified before.chain.key) one own))
+      subst (AllSignedBy verified before.chain.key) (sym is) (all-with (IsSignedBy verified before.chain.key) noted last all (subst (IsSignedBy verified before.chain.key) one own))
 
   dues-key : (before : Client) (name bytes : List ℕ) (due : Result Due Refusal) (after : Client) → Dues hash accepted before name bytes due after → after.chain.key ≡ before.chain.key
   dues-key before name bytes (Ok Kept) after (place, tests, same) = ap (λ (c : Client). c.chain.key) same
@@ -322,23 +325,25 @@ module _ (hash : List ℕ → List ℕ) (accepted verified : List ℕ → List �
 
     -- ---- what is noted of a line
 
-    -- the key stays, and what is noted is signed
+    -- the key stays, and what is noted is signed if it was before
     abbrev pub Signs : List SignedPromise → List SignedPromise → Scene T → Scene T → Type 0
     Signs noted noted' before after = SameKey before after
-        × (AllByRecursion (IsSignedBy verified before.client.chain.key) noted → AllByRecursion (IsSignedBy verified before.client.chain.key) noted')
-
-    abbrev Own : List ℕ → List SignedPromise → Type 0
-    Own key noted = AllByRecursion (IsSignedBy verified key) noted
+        × (AllSignedBy verified before.client.chain.key noted → AllSignedBy verified before.client.chain.key noted')
 
     signs-same : (noted noted' : List SignedPromise) (before after : Scene T) → noted' ≡ noted → SameKey before after → Signs noted noted' before after
-    signs-same noted noted' before after same key = (key, λ all. subst (Own before.client.chain.key) (sym same) all)
+    signs-same noted noted' before after same key = (key, λ all. subst (AllSignedBy verified before.client.chain.key) (sym same) all)
 
     -- once the chain is that far
     signs-behind : (noted noted' : List SignedPromise) (before middle after : Scene T) → SameKey before middle → Signs noted noted' middle after → Signs noted noted' before after
-    signs-behind noted noted' before middle after same (key, signs) = (key ∙ same, subst (λ (k : List ℕ). Own k noted → Own k noted') same signs)
+    signs-behind noted noted' before middle after same (key, signs) = (key ∙ same, subst (λ (k : List ℕ). AllSignedBy verified k noted → AllSignedBy verified k noted') same signs)
 
     signs-then : (noted noted' : List SignedPromise) (before middle after : Scene T) → Signs noted noted' before middle → SameKey middle after → Signs noted noted' before after
     signs-then noted noted' before middle after (key, signs) same = (same ∙ key, signs)
+
+    -- so for a run, with its provider's key
+    pub signs_for : (key : List ℕ) (noted noted' : List SignedPromise) (before after : Scene T) → Signs noted noted' before after → before.client.chain.key ≡ key
+        → (after.client.chain.key ≡ key) × (AllSignedBy verified key noted → AllSignedBy verified key noted')
+    signs_for key noted noted' before after (same, signs) is = (same ∙ is, subst (λ (k : List ℕ). AllSignedBy verified k noted → AllSignedBy verified k noted') is signs)
 
     frame-signs : (held : ℕ) (asked : RequestContent) (frame : Frame) (told : Report) (noted noted' : List SignedPromise) (before after : Scene T) → HearsFrame hash accepted verified held before.client asked frame told after.client
         → Notes asked before.client.promises after.client.promises noted noted' → Signs noted noted' before after

@@ -1,4 +1,4 @@
-use Rattle.asking.proofs.NotedOwn.{hears_signs, line_signs, prepares_key, prepares_some_key, some_signs, takes_new_key, takes_some_key}
+use Rattle.asking.proofs.NotedOwn.{hears_signs, signs_for, line_signs, prepares_key, prepares_some_key, some_signs, takes_new_key, takes_some_key}
 use Rattle.asking.proofs.Standing.{line_noting, some_noting}
 use Rattle.asking.proofs.OwnRoots.{taken-from, taken-there}
 use Rattle.std.proofs.Common.{◌≡◌, None}
