@@ -20,6 +20,7 @@ pub mod Rising
 pub mod Told
 pub mod ToldScenes
 pub mod ToldRuns
+pub mod NotedOwn
 pub mod OwnRoots
 pub mod PutMarks
 pub mod KeptTold
@@ -33,6 +34,7 @@ pub mod OwnedScenes
 pub mod SameChain
 pub mod EveryStep
 pub mod Settled
+pub mod Standing
 pub mod Stepped
 pub mod Stood
 pub mod Stopped

@@ -251,9 +251,9 @@ module _ (hash : List ℕ → List ℕ) (accepted verified : List ℕ → List �
           let others = all-map (Owner now chain) (Owner (now ++ asks.told.lines) chain) before.monitors (λ monitor owned. own-more hash accepted verified Given Own now chain marks asks.told.lines monitor owned) owns.watched in
           let both = all-set (Owner (now ++ asks.told.lines) chain) before.monitors place asks.watched others watched in
           let all : AllByRecursion (Owner (text ++ (told_after before.told asks.told).lines) chain) (slice_set before.monitors place asks.watched) =
-              subst (λ (t : List ℕ). AllByRecursion (Owner t chain) (slice_set before.monitors place asks.watched)) (append_assoc text before.told.lines asks.told.lines) both in
+          subst (λ (t : List ℕ). AllByRecursion (Owner t chain) (slice_set before.monitors place asks.watched)) (append_assoc text before.told.lines asks.told.lines) both in
           let there : AllByRecursion (Owner (text ++ after.told.lines) chain) (slice_set before.monitors place asks.watched) =
-              subst (λ (r : Report). AllByRecursion (Owner (text ++ r.lines) chain) (slice_set before.monitors place asks.watched)) (sym asks.tells) all in
+          subst (λ (r : Report). AllByRecursion (Owner (text ++ r.lines) chain) (slice_set before.monitors place asks.watched)) (sym asks.tells) all in
           goes before after (ap (λ (c : Client). c.chain) asks.client)
           (subst (λ (ms : List Monitor). AllByRecursion (Owner (text ++ after.told.lines) chain) ms × AllGo before.monitors ms) (sym asks.monitors) (there, all-but before.monitors place asks.monitor asks.watched asks.at go)) owns
 
@@ -279,9 +279,11 @@ module _ (hash : List ℕ → List ℕ) (accepted verified : List ℕ → List �
         stops = stops-list;
         tests = λ before name kept after asks owns. told-more before after asks.told (shown-chain hash accepted verified before.client name (Query (Lookup name asks.epoch)) asks.frame kept asks.told after.client asks.shows) asks.tells asks.monitors owns;
         steps = asks-epoch;
-        joins = λ before key promised name given first monitor may is joined owns. goes before (record before { monitors = before.monitors ++ monitor ∷ [] }) refl
-            (all-push (Owner (text ++ before.told.lines) before.client.chain) before.monitors monitor owns.watched
-            (own-joined hash accepted verified Given Own (text ++ before.told.lines) before.client.chain marks key promised first name given monitor owns.formed once may.0 may.1 is joined), all-followed before.monitors (monitor ∷ [])) owns;
+        joins = λ before key promised name given first monitor may is joined owns. goes before (record before { monitors = before.monitors ++ monitor ∷ [] }) refl (
+          all-push (Owner (text ++ before.told.lines) before.client.chain) before.monitors monitor owns.watched
+              (own-joined hash accepted verified Given Own (text ++ before.told.lines) before.client.chain marks key promised first name given monitor owns.formed once may.0 may.1 is joined),
+          all-followed before.monitors (monitor ∷ []),
+        ) owns;
         hears = λ before after held asked frame heard told hears tells monitors owns. told-more before after told (frame-chain hash accepted verified held before.client after.client asked frame heard hears) tells monitors owns;
         hands = hears-one;
       }

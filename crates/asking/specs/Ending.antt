@@ -17,7 +17,7 @@ use Rattle.asking.specs.Exchanges.{ExchangesFrames}
 use Rattle.asking.specs.Following.{StopsAfter, TakesSome}
 use Rattle.asking.specs.Joining.{own_for, BeginsSome}
 use Rattle.asking.specs.Reports.{Report}
-use Rattle.asking.specs.Runs.{AsksLines, StartsRun, DoesLine, emptied, Background, lines_asked, Prepares, RunsWhole, TakesNew, Writes}
+use Rattle.asking.specs.Runs.{AsksLines, StartsRun, DoesLine, DoesLineNoting, emptied, Background, lines_asked, Prepares, RunsWhole, TakesNew, Writes}
 use Rattle.asking.specs.Scenes.{Scene, StopsAtHead}
 use Rattle.asking.specs.Settling.{IsSettling, Settles, SettlesPart}
 use Rattle.asking.specs.Visiting.{TestsSome}
@@ -70,6 +70,20 @@ module _ (hash : List ℕ → List ℕ) (accepted verified : List ℕ → List �
     -- it is not asked, or wholly, or such a part of it
     abbrev pub DoesSome : ScriptLine → Scene T → Scene T → Type 0
     DoesSome said before reached = (reached ≡ before) ⊎ (DoesLine hash accepted verified exchanged background said before reached ⊎ DoesPart said before reached)
+
+    -- the same two, where the first promises are noted before it, and the second behind it
+    abbrev pub DoesPartNoting : ScriptLine → List SignedPromise → List SignedPromise → Scene T → Scene T → Type 0
+    DoesPartNoting Pass noted noted' before reached = ⊥
+    DoesPartNoting (Ask asked) noted noted' before reached = (StopsAsking hash accepted verified exchanged background.token asked before reached × (noted' ≡ noted))
+        ⊎ AsksSome hash accepted verified exchanged background.marks background.token asked noted noted' before reached
+    DoesPartNoting (Watch name given) noted noted' before reached =
+        BeginsSome hash accepted verified exchanged background.known background.marks background.key (own_for background.marks name background.earlier noted) name given before reached × (noted' ≡ noted)
+    DoesPartNoting (Piece session piece) noted noted' before reached = ⊥
+    DoesPartNoting (End session) noted noted' before reached = ⊥
+
+    abbrev pub DoesSomeNoting : ScriptLine → List SignedPromise → List SignedPromise → Scene T → Scene T → Type 0
+    DoesSomeNoting said noted noted' before reached = ((reached ≡ before) × (noted' ≡ noted))
+        ⊎ (DoesLineNoting hash accepted verified exchanged background said noted noted' before reached ⊎ DoesPartNoting said noted noted' before reached)
 
     abbrev pub AsksSomeLine : List ℕ → Scene T → Scene T → Type 0
     AsksSomeLine line before reached = (reached ≡ before) ⊎ ((said : ScriptLine) × (line_of line ≡ Some said) × DoesSome said before reached)

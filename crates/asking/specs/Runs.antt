@@ -108,6 +108,15 @@ module _ (hash : List ℕ → List ℕ) (accepted verified : List ℕ → List �
     DoesLine (Piece session piece) before after = ⊥
     DoesLine (End session) before after = ⊥
 
+    -- the same, where the first promises are noted before it, and the second behind it
+    abbrev pub DoesLineNoting : ScriptLine → List SignedPromise → List SignedPromise → Scene T → Scene T → Type 0
+    DoesLineNoting Pass noted noted' before after = (after ≡ before) × (noted' ≡ noted)
+    DoesLineNoting (Ask asked) noted noted' before after = AsksDirectory hash accepted verified exchanged background.marks background.token asked noted noted' before after
+    DoesLineNoting (Watch name given) noted noted' before after =
+        BeginsWatch hash accepted verified exchanged background.known background.marks background.key (own_for background.marks name background.earlier noted) name given before after × (noted' ≡ noted)
+    DoesLineNoting (Piece session piece) noted noted' before after = ⊥
+    DoesLineNoting (End session) noted noted' before after = ⊥
+
     abbrev pub AsksLine : List ℕ → Scene T → Scene T → Type 0
     AsksLine line before after = (said : ScriptLine) × (line_of line ≡ Some said) × DoesLine said before after
 

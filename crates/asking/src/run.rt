@@ -6,7 +6,8 @@ ghost use Rattle.textio.specs.Output.{WritesSome};
 ghost use Rattle.textio.specs.declared.program_fault.ProgramFault.TheVariants.{CannotWrite, NotACommand, OutOfMemory};
 ghost use Rattle.play.specs.Scripts.{line_of, line_seen};
 ghost use Rattle.asking.specs.AskOptions.{ask_values};
-ghost use Rattle.asking.specs.Ending.{AsksPart, AsksSomeLine, BeginsNone, DoesSome, end_status, EndsEarly, HoldsBack, PreparesSome, stopped_status, TakesSomeNew};
+ghost use Rattle.asking.specs.Askers.{asker_changes};
+ghost use Rattle.asking.specs.Ending.{AsksPart, AsksSomeLine, BeginsNone, DoesSome, DoesSomeNoting, end_status, EndsEarly, HoldsBack, PreparesSome, stopped_status, TakesSomeNew};
 ghost use Rattle.asking.specs.Exchanges.{ExchangesFrames};
 ghost use Rattle.asking.specs.Keeping.{AddsTo, IsSettled, KeepsUp, SavesTo};
 ghost use Rattle.asking.specs.Recalled.{evidence_again};
@@ -429,7 +430,10 @@ impl Run {
         S: Verifier + Drop,
         ensures prepares { OnOk result (Prepares H.digest_of V.accepted S.verified (ExchangesFrames T.contents T.remaining) (background_of asker.old) ((self.old).state ≡ None) (scene asker.old (self.old).said stream.old) (scene asker.new (self.new).said stream.new)) }
         ensures reaches { (reached : Scene T) × PreparesSome H.digest_of V.accepted S.verified (ExchangesFrames T.contents T.remaining) (background_of asker.old) ((self.old).state ≡ None) (scene asker.old (self.old).said stream.old) reached × (report_of (self.new).said ≡ reached.told) }
+        ensures stands { result ≢ Err NoMemory → (reached : Scene T) × PreparesSome H.digest_of V.accepted S.verified (ExchangesFrames T.contents T.remaining) (background_of asker.old) ((self.old).state ≡ None) (scene asker.old (self.old).said stream.old) reached
+            × (report_of (self.new).said ≡ reached.told) × (asker.new.client ≡ reached.client) × (asker.new.monitors.items ≡ reached.monitors) }
         ensures stays { background_of asker.new ≡ background_of asker.old }
+        ensures changes { asker.new.changes ≡ asker.old.changes }
         ensures rises { (self.old).said.status ≤ (self.new).said.status }
     {
         self.take_new(asker, stream)?;
@@ -450,7 +454,11 @@ impl Run {
         S: Verifier + Drop,
         ensures takes { OnOk result (TakesNew H.digest_of V.accepted S.verified (ExchangesFrames T.contents T.remaining) (background_of asker.old) ((self.old).state ≡ None) (scene asker.old (self.old).said stream.old) (scene asker.new (self.new).said stream.new)) }
         ensures part { OnErr result ((reached : Scene T) × TakesSomeNew H.digest_of V.accepted S.verified (ExchangesFrames T.contents T.remaining) (background_of asker.old) ((self.old).state ≡ None) (scene asker.old (self.old).said stream.old) reached × (report_of (self.new).said ≡ reached.told)) }
+        ensures stands { result ≢ Err NoMemory → (reached : Scene T) × (TakesSomeNew H.digest_of V.accepted S.verified (ExchangesFrames T.contents T.remaining) (background_of asker.old) ((self.old).state ≡ None) (scene asker.old (self.old).said stream.old) reached
+            ⊎ TakesNew H.digest_of V.accepted S.verified (ExchangesFrames T.contents T.remaining) (background_of asker.old) ((self.old).state ≡ None) (scene asker.old (self.old).said stream.old) reached)
+            × (report_of (self.new).said ≡ reached.told) × (asker.new.client ≡ reached.client) × (asker.new.monitors.items ≡ reached.monitors) }
         ensures stays { background_of asker.new ≡ background_of asker.old }
+        ensures changes { asker.new.changes ≡ asker.old.changes }
         ensures rises { (self.old).said.status ≤ (self.new).said.status }
     {
         if self.state.is_none() {
@@ -782,6 +790,8 @@ where
     S: Verifier + Drop,
     ensures does { IfSome result (λ asked. OnOk asked (DoesLine H.digest_of V.accepted S.verified (ExchangesFrames T.contents T.remaining) (background_of asker.old) (line_seen line.now) (scene asker.old said.old stream.old) (scene asker.new said.new stream.new))) }
     ensures reaches { (reached : Scene T) × DoesSome H.digest_of V.accepted S.verified (ExchangesFrames T.contents T.remaining) (background_of asker.old) (line_seen line.now) (scene asker.old said.old stream.old) reached × (report_of said.new ≡ reached.told) }
+    ensures stands { IfSome result (λ asked. asked ≢ Err NoMemory → (reached : Scene T) × DoesSomeNoting H.digest_of V.accepted S.verified (ExchangesFrames T.contents T.remaining) (background_of asker.old) (line_seen line.now) (asker_changes asker.old) (asker_changes asker.new)
+        (scene asker.old said.old stream.old) reached × (report_of said.new ≡ reached.told) × (asker.new.client ≡ reached.client) × (asker.new.monitors.items ≡ reached.monitors)) }
     ensures stays { background_of asker.new ≡ background_of asker.old }
     ensures none { MatchOption result (CannotBeAsked (Some (line_seen line.now))) (λ asked. ⊤) }
     ensures rises { said.old.status ≤ said.new.status }

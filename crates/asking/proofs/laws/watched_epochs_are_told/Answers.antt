@@ -1,4 +1,3 @@
-use Rattle.asking.proofs.OwnedScenes.{each-owned, owns-like, owns-written, own_for-own}
 use Rattle.std.proofs.Common.{◌≡◌, None}
 use Rattle.asking.specs.Exchanges.{ExchangesFrames}
 use Rattle.asking.proofs.ToldRuns.{whole-keeps}

@@ -1,13 +1,15 @@
-use Rattle.std.proofs.Common.{ℕ, List, Option, inl, refl, subst}
+use Rattle.std.proofs.Common.{ℕ, List, Option, Global, Vec, ap, inl, refl, subst}
 use Rattle.std.specs.Prelude.{OnOk}
 use Rattle.asking.specs.Exchanges.{ExchangesFrames}
 use Rattle.asking.specs.Joining.{own_for, BeginsWatch}
 use Rattle.asking.specs.Runs.{background_of}
 use Rattle.asking.specs.Scenes.{scene}
+use Rattle.rootchain.specs.declared.signed_promise.SignedPromise.{SignedPromise}
 use Rattle.play.specs.Scripts.{ask_seen}
 use Rattle.asking.proofs.Ended.{asked_reaches, watched_reaches}
 use Rattle.asking.proofs.Ran.{ok_then}
 use Rattle.asking.proofs.Rising.{ask_rises, watch_rises}
+use Rattle.asking.proofs.Standing.{asked_stands, watched_stands}
 use Rattle.asking.proofs.run.ask_said.Goals as goal
 
 pub returns-in-Watch-clause-does : goal.returns-in-Watch-clause-does
@@ -54,3 +56,19 @@ returns-in-Piece-clause-reaches g c = ((scene c.args.asker.now c.args.said.now c
 
 pub returns-in-End-clause-reaches : goal.returns-in-End-clause-reaches
 returns-in-End-clause-reaches g c = ((scene c.args.asker.now c.args.said.now c.args.stream.now), inl refl, refl)
+
+pub returns-in-Ask-clause-stands : goal.returns-in-Ask-clause-stands
+returns-in-Ask-clause-stands g c =
+    rw c.in-Ask.is (asked_stands g.H.NodeHash.digest_of g.V.VufCheck.accepted g.S.Verifier.verified (ExchangesFrames g.T.Write.contents g.T.Read.remaining) (background_of c.args.asker.now) (ask_seen c.in-Ask.ask)
+    c.args.asker.now.changes.items c.ask.new.self.changes.items c.ask.result (scene c.args.asker.now c.args.said.now c.args.stream.now) c.ask.new.self c.ask.new.said c.ask.new.stream
+    c.ask.ensures.asks c.ask.ensures.unnoted c.ask.ensures.stops c.ask.ensures.halts)
+
+pub returns-in-Watch-clause-stands : goal.returns-in-Watch-clause-stands
+returns-in-Watch-clause-stands g c =
+    rw c.in-Watch.is (watched_stands g.H.NodeHash.digest_of g.V.VufCheck.accepted g.S.Verifier.verified (ExchangesFrames g.T.Write.contents g.T.Read.remaining) (background_of c.args.asker.now) c.in-Watch.name _ _
+    c.args.asker.now.changes.items c.watch.new.self.changes.items c.watch.result (scene c.args.asker.now c.args.said.now c.args.stream.now) c.watch.new.self c.watch.new.said c.watch.new.stream
+    c.as_ref.ensures.value (ap (λ (changes : Vec SignedPromise Global). changes.items) c.watch.ensures.stays.4) c.watch.ensures.begins c.watch.ensures.err c.watch.ensures.halts)
+
+pub returns-in-Pass-clause-stands : goal.returns-in-Pass-clause-stands
+returns-in-Pass-clause-stands g c =
+    rw c.in-Pass.is (λ enough. ((scene c.args.asker.now c.args.said.now c.args.stream.now), inl (refl, refl), refl, refl, refl))
