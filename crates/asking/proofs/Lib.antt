@@ -1,5 +1,6 @@
 pub mod Adding
 pub mod Asked
+pub mod Begun
 pub mod Earlier
 pub mod Remembered
 pub mod Keeping
@@ -41,3 +42,4 @@ pub mod Stopped
 pub mod Telling
 pub mod Tested
 pub mod Whole
+pub mod Written

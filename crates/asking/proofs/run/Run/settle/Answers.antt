@@ -4,6 +4,14 @@ use Rattle.asking.specs.Reports.{report_of}
 use Rattle.asking.specs.declared.ask_fault.RunFault.TheVariants.{Ask}
 use Rattle.asking.proofs.Ended.{leaves_same, leaves_written}
 use Rattle.asking.proofs.Keeping.{kept_up, not_settled, was_asked}
+use Rattle.std.proofs.Common.{◌++◌, ◌⊎◌, [], Option, inl, inr}
+use Rattle.std.specs.Prelude.{IfSome}
+use Rattle.std.specs.Io.KnownBytes.{Appends}
+use Rattle.asking.specs.Reports.{Report}
+use Rattle.asking.specs.Saves.{Act}
+use Rattle.asking.specs.Standing.{standing, IsUpTo, StateIsKept, StateStands}
+use Rattle.asking.specs.declared.state.State.{State}
+use Rattle.asking.proofs.Written.{memory-cases, state-kept, state-stands-written, state-written}
 use Rattle.asking.proofs.run.Run.settle.Goals as goal
 
 pub returns-in_err-explain_stop-clause-leaves : goal.returns-in_err-explain_stop-clause-leaves
@@ -50,3 +58,102 @@ returns-clause-keeps g c = λ settled.
     let saves = subst (λ (t : List ℕ). SavesTo c.args.asker.now t c.write.new.self.state c.save.new.self.state) again (c.in_ok-save.ensures.saves (was_asked c.args.asked tt is)) in
     kept_up c.args.asker.now c.args.self.now.said.text.items c.deref-2.result.now c.args.self.now.state c.add.new.self.state c.write.new.self.state c.save.new.self.state
     told c.in_ok-add.ensures.adds (c.write.ensures.still ∙ c.explain_stop.ensures.still) saves
+
+pub returns-in_err-write-clause-kept : goal.returns-in_err-write-clause-kept
+returns-in_err-write-clause-kept g c = λ lines key start old acts kept enough.
+    let client = c.args.asker.now.client in
+    let monitors = c.args.asker.now.monitors.items in
+    let out = g.W.Write.contents c.args.writer.now in
+    let out' = g.W.Write.contents c.write.new.writer in
+    let said = c.args.self.now.said.text.items in
+    let after : List Act → Type 0 = λ done. g.K.Keeper.has c.add.new.keeper (done ++ acts) in
+    let still : c.write.new.self.state ≡ c.add.new.self.state = c.write.ensures.still ∙ c.explain_stop.ensures.still in
+    let same : c.explain_stop.new.self.said.text.items ≡ said = ap (λ (r : Report). r.lines) (c.explain_stop.ensures.said ∙ ap report_of c.add.ensures.said) in
+    let written = subst (λ (state : Option State). StateIsKept g.H.NodeHash.digest_of g.V.VufCheck.accepted g.S.Verifier.verified lines key start old after state out') (sym still)
+    (state-written g.H.NodeHash.digest_of g.V.VufCheck.accepted g.S.Verifier.verified lines key start old after c.add.new.self.state out out' c.explain_stop.new.self.said.text.items c.write.ensures.some (c.add.ensures.kept lines key start old acts kept)) in
+    written
+
+pub returns-in_err-save-clause-kept : goal.returns-in_err-save-clause-kept
+returns-in_err-save-clause-kept g c = λ lines key start old acts kept enough.
+    let client = c.args.asker.now.client in
+    let monitors = c.args.asker.now.monitors.items in
+    let out = g.W.Write.contents c.args.writer.now in
+    let out' = g.W.Write.contents c.write.new.writer in
+    let said = c.args.self.now.said.text.items in
+    let after : List Act → Type 0 = λ done. g.K.Keeper.has c.add.new.keeper (done ++ acts) in
+    let still : c.write.new.self.state ≡ c.add.new.self.state = c.write.ensures.still ∙ c.explain_stop.ensures.still in
+    let same : c.explain_stop.new.self.said.text.items ≡ said = ap (λ (r : Report). r.lines) (c.explain_stop.ensures.said ∙ ap report_of c.add.ensures.said) in
+    let written = subst (λ (state : Option State). StateIsKept g.H.NodeHash.digest_of g.V.VufCheck.accepted g.S.Verifier.verified lines key start old after state out') (sym still)
+    (state-written g.H.NodeHash.digest_of g.V.VufCheck.accepted g.S.Verifier.verified lines key start old after c.add.new.self.state out out' c.explain_stop.new.self.said.text.items c.write.ensures.some (c.add.ensures.kept lines key start old acts kept)) in
+    elim (memory-cases c.args.asked) [
+      | inl none ↦ let (state, keeper) = c.save.ensures.none none in rw (state, keeper) written
+      | inr some ↦
+          let stood = subst (λ (state : Option State). StateStands g.H.NodeHash.digest_of g.V.VufCheck.accepted g.S.Verifier.verified lines key start old after state out' (standing client monitors [])) (sym still)
+          (state-stands-written g.H.NodeHash.digest_of g.V.VufCheck.accepted g.S.Verifier.verified lines key start old after c.add.new.self.state out out' client monitors said (subst (λ (t : List ℕ). Appends out out' t) same (c.in_ok-write.ensures.writes.0)) (c.in_ok-add.ensures.stands lines key start old acts said (enough some))) in
+          let up-to = subst (λ (state : Option State). IfSome state (λ s. IsUpTo client s.epoch)) (sym still) c.in_ok-add.ensures.up_to in
+          let saved = c.save.ensures.kept lines key start old acts up-to stood in
+          state-kept g.H.NodeHash.digest_of g.V.VufCheck.accepted g.S.Verifier.verified lines key start old (λ (done : List Act). g.K.Keeper.has c.save.new.keeper (done ++ acts)) c.save.new.self.state out' (standing client monitors []) saved
+    ]
+
+pub returns-in_err-asked-clause-kept : goal.returns-in_err-asked-clause-kept
+returns-in_err-asked-clause-kept g c = λ lines key start old acts kept enough.
+    let client = c.args.asker.now.client in
+    let monitors = c.args.asker.now.monitors.items in
+    let out = g.W.Write.contents c.args.writer.now in
+    let out' = g.W.Write.contents c.write.new.writer in
+    let said = c.args.self.now.said.text.items in
+    let after : List Act → Type 0 = λ done. g.K.Keeper.has c.add.new.keeper (done ++ acts) in
+    let still : c.write.new.self.state ≡ c.add.new.self.state = c.write.ensures.still ∙ c.explain_stop.ensures.still in
+    let same : c.explain_stop.new.self.said.text.items ≡ said = ap (λ (r : Report). r.lines) (c.explain_stop.ensures.said ∙ ap report_of c.add.ensures.said) in
+    let written = subst (λ (state : Option State). StateIsKept g.H.NodeHash.digest_of g.V.VufCheck.accepted g.S.Verifier.verified lines key start old after state out') (sym still)
+    (state-written g.H.NodeHash.digest_of g.V.VufCheck.accepted g.S.Verifier.verified lines key start old after c.add.new.self.state out out' c.explain_stop.new.self.said.text.items c.write.ensures.some (c.add.ensures.kept lines key start old acts kept)) in
+    elim (memory-cases c.args.asked) [
+      | inl none ↦ let (state, keeper) = c.save.ensures.none none in rw (state, keeper) written
+      | inr some ↦
+          let stood = subst (λ (state : Option State). StateStands g.H.NodeHash.digest_of g.V.VufCheck.accepted g.S.Verifier.verified lines key start old after state out' (standing client monitors [])) (sym still)
+          (state-stands-written g.H.NodeHash.digest_of g.V.VufCheck.accepted g.S.Verifier.verified lines key start old after c.add.new.self.state out out' client monitors said (subst (λ (t : List ℕ). Appends out out' t) same (c.in_ok-write.ensures.writes.0)) (c.in_ok-add.ensures.stands lines key start old acts said (enough some))) in
+          let up-to = subst (λ (state : Option State). IfSome state (λ s. IsUpTo client s.epoch)) (sym still) c.in_ok-add.ensures.up_to in
+          let saved = c.save.ensures.kept lines key start old acts up-to stood in
+          state-kept g.H.NodeHash.digest_of g.V.VufCheck.accepted g.S.Verifier.verified lines key start old (λ (done : List Act). g.K.Keeper.has c.save.new.keeper (done ++ acts)) c.save.new.self.state out' (standing client monitors []) saved
+    ]
+
+pub returns-clause-kept : goal.returns-clause-kept
+returns-clause-kept g c = λ lines key start old acts kept enough.
+    let client = c.args.asker.now.client in
+    let monitors = c.args.asker.now.monitors.items in
+    let out = g.W.Write.contents c.args.writer.now in
+    let out' = g.W.Write.contents c.write.new.writer in
+    let said = c.args.self.now.said.text.items in
+    let after : List Act → Type 0 = λ done. g.K.Keeper.has c.add.new.keeper (done ++ acts) in
+    let still : c.write.new.self.state ≡ c.add.new.self.state = c.write.ensures.still ∙ c.explain_stop.ensures.still in
+    let same : c.explain_stop.new.self.said.text.items ≡ said = ap (λ (r : Report). r.lines) (c.explain_stop.ensures.said ∙ ap report_of c.add.ensures.said) in
+    let written = subst (λ (state : Option State). StateIsKept g.H.NodeHash.digest_of g.V.VufCheck.accepted g.S.Verifier.verified lines key start old after state out') (sym still)
+    (state-written g.H.NodeHash.digest_of g.V.VufCheck.accepted g.S.Verifier.verified lines key start old after c.add.new.self.state out out' c.explain_stop.new.self.said.text.items c.write.ensures.some (c.add.ensures.kept lines key start old acts kept)) in
+    elim (memory-cases c.args.asked) [
+      | inl none ↦ let (state, keeper) = c.save.ensures.none none in rw (state, keeper) written
+      | inr some ↦
+          let stood = subst (λ (state : Option State). StateStands g.H.NodeHash.digest_of g.V.VufCheck.accepted g.S.Verifier.verified lines key start old after state out' (standing client monitors [])) (sym still)
+          (state-stands-written g.H.NodeHash.digest_of g.V.VufCheck.accepted g.S.Verifier.verified lines key start old after c.add.new.self.state out out' client monitors said (subst (λ (t : List ℕ). Appends out out' t) same (c.in_ok-write.ensures.writes.0)) (c.in_ok-add.ensures.stands lines key start old acts said (enough some))) in
+          let up-to = subst (λ (state : Option State). IfSome state (λ s. IsUpTo client s.epoch)) (sym still) c.in_ok-add.ensures.up_to in
+          let saved = c.save.ensures.kept lines key start old acts up-to stood in
+          state-kept g.H.NodeHash.digest_of g.V.VufCheck.accepted g.S.Verifier.verified lines key start old (λ (done : List Act). g.K.Keeper.has c.save.new.keeper (done ++ acts)) c.save.new.self.state out' (standing client monitors []) saved
+    ]
+
+pub returns-clause-stands : goal.returns-clause-stands
+returns-clause-stands g c = λ lines key start old acts stands.
+    let kept = state-kept g.H.NodeHash.digest_of g.V.VufCheck.accepted g.S.Verifier.verified lines key start old (λ (done : List Act). g.K.Keeper.has c.args.keeper.now (done ++ acts)) c.args.self.now.state (g.W.Write.contents c.args.writer.now) (standing c.args.asker.now.client c.args.asker.now.monitors.items c.args.self.now.said.text.items) stands in
+    let client = c.args.asker.now.client in
+    let monitors = c.args.asker.now.monitors.items in
+    let out = g.W.Write.contents c.args.writer.now in
+    let out' = g.W.Write.contents c.write.new.writer in
+    let said = c.args.self.now.said.text.items in
+    let after : List Act → Type 0 = λ done. g.K.Keeper.has c.add.new.keeper (done ++ acts) in
+    let still : c.write.new.self.state ≡ c.add.new.self.state = c.write.ensures.still ∙ c.explain_stop.ensures.still in
+    let same : c.explain_stop.new.self.said.text.items ≡ said = ap (λ (r : Report). r.lines) (c.explain_stop.ensures.said ∙ ap report_of c.add.ensures.said) in
+    let written = subst (λ (state : Option State). StateIsKept g.H.NodeHash.digest_of g.V.VufCheck.accepted g.S.Verifier.verified lines key start old after state out') (sym still)
+    (state-written g.H.NodeHash.digest_of g.V.VufCheck.accepted g.S.Verifier.verified lines key start old after c.add.new.self.state out out' c.explain_stop.new.self.said.text.items c.write.ensures.some (c.add.ensures.kept lines key start old acts kept)) in
+    let stood = subst (λ (state : Option State). StateStands g.H.NodeHash.digest_of g.V.VufCheck.accepted g.S.Verifier.verified lines key start old after state out' (standing client monitors [])) (sym still)
+    (state-stands-written g.H.NodeHash.digest_of g.V.VufCheck.accepted g.S.Verifier.verified lines key start old after c.add.new.self.state out out' client monitors said (subst (λ (t : List ℕ). Appends out out' t) same (c.in_ok-write.ensures.writes.0)) (c.in_ok-add.ensures.stands lines key start old acts said stands)) in
+    let up-to = subst (λ (state : Option State). IfSome state (λ s. IsUpTo client s.epoch)) (sym still) c.in_ok-add.ensures.up_to in
+    let saved = c.save.ensures.kept lines key start old acts up-to stood in
+    saved

@@ -1,0 +1,63 @@
+-- How a run stands once more is written.
+use Rattle.std.proofs.Common.{◌≡◌, ◌≢◌, ◌∙◌, ◌⊎◌, ℕ, List, [], ◌++◌, Option, Some, None, Result, Ok, Err, ap, inl, inr, refl, subst, sym}
+use Rattle.std.specs.Prelude.{IfSome}
+use Rattle.std.specs.Io.KnownBytes.{Appends}
+use Rattle.textio.specs.Output.{WritesSome}
+use Rattle.client.specs.Clients.{Client}
+use Rattle.memory.specs.Memories.{Memory}
+use Rattle.monitor.specs.Monitors.{Monitor}
+use Rattle.asking.specs.Saves.{stored_after, Act, IsAsked, IsSignedBy, Stored}
+use Rattle.asking.specs.Scenes.{Scene}
+use Rattle.asking.specs.Standing.{standing, IsKept, IsUpTo, Stands, StateIsKept, StateStands}
+use Rattle.asking.specs.declared.ask_fault.AskFault.{AskFault}
+use Rattle.asking.specs.declared.ask_fault.AskFault.TheVariants as fault
+use Rattle.asking.specs.declared.state.State.{State}
+use Rattle.asking.proofs.OwnedScenes.{owns-written}
+use Rattle.asking.proofs.Stood.{kept-out}
+
+-- a question fails for want of memory, or it does not
+not-stopped : {A : Type 0} → ◌≡◌ {A = Result A AskFault} (Err fault.Stopped) (Err fault.OutOfMemory) → ⊥
+not-stopped e = cc
+
+not-silent : {A : Type 0} → ◌≡◌ {A = Result A AskFault} (Err fault.NoReply) (Err fault.OutOfMemory) → ⊥
+not-silent e = cc
+
+not-asked : {A : Type 0} (done : A) → ◌≡◌ {A = Result A AskFault} (Ok done) (Err fault.OutOfMemory) → ⊥
+not-asked done e = cc
+
+pub memory-cases : {A : Type 0} (asked : Result A AskFault) → (asked ≡ Err fault.OutOfMemory) ⊎ (asked ≢ Err fault.OutOfMemory)
+memory-cases (Ok done) = inr (not-asked done)
+memory-cases (Err fault.NoReply) = inr not-silent
+memory-cases (Err fault.Stopped) = inr not-stopped
+memory-cases (Err fault.OutOfMemory) = inl refl
+
+appended : (old more : List ℕ) (now : Option (List ℕ)) → Appends (Some old) now more → now ≡ Some (old ++ more)
+appended old more None appends = absurd appends
+appended old more (Some new) appends = ap Some appends
+
+module _ (hash : List ℕ → List ℕ) (accepted verified : List ℕ → List ℕ → List ℕ → Type 0) (lines : Option (List (List ℕ))) (key : List ℕ) (start : Stored) (old : List ℕ) (Happened : List Act → Type 0) where
+  -- some of a text is written
+  pub state-written : (state : Option State) (out out' : Option (List ℕ)) (text : List ℕ) → WritesSome out out' text → StateIsKept hash accepted verified lines key start old Happened state out
+      → StateIsKept hash accepted verified lines key start old Happened state out'
+  state-written None out out' text writes kept = kept
+  state-written (Some state) out out' text (rest, (front, parts, appends)) kept =
+      kept-out hash accepted verified lines key start old Happened state.epoch state.memory out kept out' front
+      (appended (old ++ kept.text) front out' (subst (λ (o : Option (List ℕ)). Appends o out' front) kept.is-out appends))
+
+  stands-written : (epoch : ℕ) (known : Memory) (out out' : Option (List ℕ)) (client : Client) (monitors : List Monitor) (said : List ℕ) → Appends out out' said
+      → Stands hash accepted verified lines key start old Happened epoch known out (standing client monitors said) → Stands hash accepted verified lines key start old Happened epoch known out' (standing client monitors [])
+  stands-written epoch known out out' client monitors said appends stands = record {
+    kept = kept-out hash accepted verified lines key start old Happened epoch known out stands.kept out' said
+        (appended (old ++ stands.kept.text) said out' (subst (λ (o : Option (List ℕ)). Appends o out' said) stands.kept.is-out appends));
+    owns = owns-written hash accepted verified (IsAsked lines) (IsSignedBy verified key) start.known.marks stands.kept.text (stored_after stands.kept.acts).roots known.marks (standing client monitors said) 0 stands.owns;
+  }
+
+  -- all that was said is
+  pub state-stands-written : (state : Option State) (out out' : Option (List ℕ)) (client : Client) (monitors : List Monitor) (said : List ℕ) → Appends out out' said
+      → StateStands hash accepted verified lines key start old Happened state out (standing client monitors said) → StateStands hash accepted verified lines key start old Happened state out' (standing client monitors [])
+  state-stands-written None out out' client monitors said appends stands = stands
+  state-stands-written (Some state) out out' client monitors said appends stands = stands-written state.epoch state.memory out out' client monitors said appends stands
+
+  pub state-kept : (state : Option State) (out : Option (List ℕ)) (now : Scene (Unit {0})) → StateStands hash accepted verified lines key start old Happened state out now → StateIsKept hash accepted verified lines key start old Happened state out
+  state-kept None out now stands = stands
+  state-kept (Some state) out now stands = stands.kept
