@@ -1,9 +1,32 @@
 -- How a run begins that has a state.
-use Rattle.std.proofs.Common.{◌≡◌, ◌∷◌, ℕ, List, [], Option, Some, None, Result, Ok, Err, refl}
+use Rattle.std.proofs.Common.{◌≡◌, ◌∙◌, ℕ, ◌≤◌, List, [], ◌∷◌, ◌++◌, Contains, Option, Some, None, Result, Ok, Err, ap, append-nil, arith, inl, inr, refl, subst, sym}
 use Rattle.std.specs.Prelude.{IfErr, IfOk, OnErr}
-use Rattle.asking.specs.Saves.{stored_nothing, Act, Loads}
-use Rattle.asking.specs.Standing.{HasBegun, HasFailed}
+use Rattle.std.specs.List.{AllByRecursion}
+use Rattle.rootchain.specs.Chains.{IsChain, IsHead, KeyedRoots}
+use Rattle.rootchain.specs.SignedRoots.{IsSignedRoot}
+use Rattle.rootchain.specs.declared.signed_promise.SignedPromise.{SignedPromise}
+use Rattle.rootchain.specs.declared.signed_root.SignedRoot.{SignedRoot}
+use Rattle.client.specs.Clients.{started, Client, IsPromised, IsSoundClient}
+use Rattle.client.specs.Starting.{Starts}
+use Rattle.memory.specs.Memories.{nothing, Memory}
+use Rattle.memory.specs.declared.mark.Mark.{Mark}
+use Rattle.monitor.specs.Monitors.{Monitor}
+use Rattle.asking.specs.Owning.{IsHeld, IsOwn, Owns}
+use Rattle.asking.specs.Remembering.{AreWithin}
+use Rattle.asking.specs.Runs.{background_of, new_background, Background, IsSoundFor, KeepsAll}
+use Rattle.asking.specs.Saves.{stored_by, stored_nothing, Act, HasOneOfEachName, IsAsked, IsHeadEpoch, IsSignedBy, Loads, Stored}
+use Rattle.asking.specs.Standing.{standing, Fits, HasBegun, HasFailed, HasLoaded, IsFresh, IsKept, IsLeft, IsReady, RunStands, Stands}
+use Rattle.wire.specs.Frames.{Frame}
+use Rattle.wire.specs.Requests.{RequestContent}
+use Rattle.asking.specs.Scenes.{StartsAtHead}
+use Rattle.asking.specs.declared.asker.Asker.{Asker}
 use Rattle.asking.specs.declared.state.State.{State}
+use Rattle.asking.proofs.Adding.{all-self}
+use Rattle.asking.proofs.Ended.{err_so}
+use Rattle.asking.proofs.KeptTold.{loads-kept}
+use Rattle.asking.proofs.OwnedRoots.{one-chain}
+use Rattle.asking.proofs.OwnRoots.{some-same}
+use Rattle.asking.proofs.Stood.{all-in}
 
 pub state_begun : {A B E : Type 0} (result : Result (Result A B) E) (Before After : List Act → Type 0) (before after : State)
     → IfOk result (λ loaded. IfErr loaded (λ unused. (acts : List Act) → Before acts → After (Loads stored_nothing ∷ acts)))
@@ -17,3 +40,158 @@ pub state_failed : {A E : Type 0} (result : Result A E) (Before After : List Act
     → OnErr result (((acts : List Act) → Before acts → After acts) × (after.is_loaded ≡ before.is_loaded)) → OnErr result (HasFailed Before After (Some before) (Some after))
 state_failed (Ok done) Before After before after fails = tt
 state_failed (Err fault) Before After before after fails = (after, refl, fails.0, fails.1)
+
+-- marks that are not above the head
+within-fits : (chain : KeyedRoots) (known : Memory) (epoch : ℕ) → AreWithin chain known → IsHeadEpoch chain epoch → Fits epoch known
+within-fits chain known epoch within (head, at, is) mark has =
+    let (other, at', low) = within mark has in
+    inr (omega (arith, low, is, ap (λ (root : SignedRoot). root.body.epoch) (some-same other head (sym at' ∙ at))))
+
+none-fits : (epoch : ℕ) → Fits epoch nothing
+none-fits epoch mark (place, within, at) = absurd (omega (arith, within))
+
+-- what a client keeps is signed
+kept-signed : (hash : List ℕ → List ℕ) (accepted verified : List ℕ → List ℕ → List ℕ → Type 0) (client : Client) → IsSoundClient hash accepted verified client → (promises : List SignedPromise) → KeepsAll client promises
+    → AllByRecursion (IsSignedBy verified client.chain.key) promises
+kept-signed hash accepted verified client sound [] keeps = tt
+kept-signed hash accepted verified client sound (signed ∷ promises) keeps =
+    let promised = all-in (IsPromised hash verified client.chain) client.promises signed sound.promises keeps.0 in
+    ((promised.form, promised.verifies), kept-signed hash accepted verified client sound promises keeps.1)
+
+module _ (hash : List ℕ → List ℕ) (accepted verified : List ℕ → List ℕ → List ℕ → Type 0) (lines : Option (List (List ℕ))) (key : List ℕ) (old : List ℕ) where
+  -- where this is loaded, all that it says was watched was watched before
+  loads-all : (start : Stored) (Happened : List Act → Type 0) (epoch : ℕ) → Happened (Loads start ∷ []) → Fits epoch start.known → HasOneOfEachName start.known → IsKept hash accepted verified lines key start old Happened epoch start.known (Some old)
+  loads-all start Happened epoch happened fits once = record {
+    acts = Loads start ∷ [];
+    happened = happened;
+    text = [];
+    is-out = ap Some (sym (append-nil old));
+    all = (refl, refl);
+    now = loads-kept hash accepted (IsAsked lines) (IsSignedBy verified key) start [];
+    next = loads-kept hash accepted (IsAsked lines) (IsSignedBy verified key) start [];
+    early = λ mark has root among above below. among;
+    low-start = fits;
+    low = fits;
+    low-next = fits;
+    begun = once;
+    once = once;
+  }
+
+  -- and a client without monitors stands so to it
+  owns-all : (start : Stored) (client : Client) (said : List ℕ) → IsChain hash verified client.chain → AllByRecursion IsSignedRoot client.chain.roots → AllByRecursion (Contains client.chain.roots) start.roots → AreWithin client.chain start.known
+      → Owns hash accepted verified (IsAsked lines) (IsSignedBy verified key) [] start.roots start.known.marks start.known.marks (standing client [] said)
+  owns-all start client said chain formed stores within = record {
+    chain = chain;
+    formed = formed;
+    stores = stores;
+    watched = tt;
+    held = λ mark has. record {
+      low = inr (within mark has);
+      told = λ root among above below. inr (mark, has, refl, above, below);
+      link = inl has;
+    };
+  }
+
+  -- ---- a state that is loaded
+
+  module _ {H V S : Type 0} (asker : Asker H V S) (Before After : List Act → Type 0) (acts : List Act) (before : Before acts) where
+    pub loaded-kept : (state : Option State) → HasLoaded Before After asker state → IsLeft hash accepted verified lines key old (λ done. After (done ++ acts)) state (Some old)
+    loaded-kept None loaded = absurd loaded
+    loaded-kept (Some state) (goes, same, marks, none, within, once, at) = inr (
+      stored_by asker,
+      subst (λ (known : Memory). IsKept hash accepted verified lines key (stored_by asker) old (λ done. After (done ++ acts)) state.epoch known (Some old)) (sym same)
+          (loads-all (stored_by asker) (λ done. After (done ++ acts)) state.epoch (goes acts before) (within-fits asker.client.chain asker.known state.epoch within at) once),
+    )
+
+    pub loaded-stands : (state : Option State) (said : List ℕ) → HasLoaded Before After asker state → IsSoundFor hash accepted verified key asker.client → KeepsAll asker.client asker.earlier.items → asker.key ≡ key → asker.monitors.items ≡ []
+        → (start : Stored) × RunStands hash accepted verified lines start old (λ done. After (done ++ acts)) asker said state (Some old)
+    unfolding loads-all
+    loaded-stands None said loaded sound keeps same-key none = absurd loaded
+    loaded-stands (Some state) said (goes, same, marks, changes, within, once, at) (keyed, chain, is) keeps same-key none = (
+      stored_by asker,
+      (subst (λ (k : List ℕ). Stands hash accepted verified lines k (stored_by asker) old (λ done. After (done ++ acts)) state.epoch state.memory (Some old) (standing asker.client asker.monitors.items said)) (sym same-key)
+          (subst (λ (known : Memory). Stands hash accepted verified lines key (stored_by asker) old (λ done. After (done ++ acts)) state.epoch known (Some old) (standing asker.client asker.monitors.items said)) (sym same) (record {
+            kept = loads-all (stored_by asker) (λ done. After (done ++ acts)) state.epoch (goes acts before) (within-fits asker.client.chain asker.known state.epoch within at) once;
+            owns = subst (λ (ms : List Monitor). Owns hash accepted verified (IsAsked lines) (IsSignedBy verified key) [] asker.client.chain.roots asker.known.marks asker.known.marks (standing asker.client ms said)) (sym none)
+                (owns-all (stored_by asker) asker.client said chain is.roots (all-self asker.client.chain.roots) within);
+          })),
+      sym marks,
+      (
+        keyed ∙ sym same-key,
+        subst (λ (own : List SignedPromise). AllByRecursion (IsSignedBy verified asker.key) (asker.earlier.items ++ own)) (sym changes)
+            (subst (λ (own : List SignedPromise). AllByRecursion (IsSignedBy verified asker.key) own) (sym (append-nil asker.earlier.items))
+            (subst (λ (k : List ℕ). AllByRecursion (IsSignedBy verified k) asker.earlier.items) (keyed ∙ sym same-key) (kept-signed hash accepted verified asker.client is asker.earlier.items keeps))),
+      )),
+    )
+
+  -- ---- a state that begins
+
+  begun-kept : (state : State) (Happened : List Act → Type 0) → state.memory ≡ nothing → Happened (Loads stored_nothing ∷ []) → IsKept hash accepted verified lines key stored_nothing old Happened state.epoch state.memory (Some old)
+  begun-kept state Happened none happened =
+      subst (λ (known : Memory). IsKept hash accepted verified lines key stored_nothing old Happened state.epoch known (Some old)) (sym none) (loads-all stored_nothing Happened state.epoch happened (none-fits state.epoch) tt)
+
+  module _ (Before After : List Act → Type 0) (acts : List Act) (before : Before acts) where
+    pub begun-left : (first state : Option State) → IsFresh first → HasBegun Before After first state → IsLeft hash accepted verified lines key old (λ done. After (done ++ acts)) state (Some old)
+    begun-left None state fresh (none, goes) = subst (λ (s : Option State). IsLeft hash accepted verified lines key old (λ done. After (done ++ acts)) s (Some old)) (sym none) (goes acts before)
+    begun-left (Some was) state fresh (now, is, goes, same, at) =
+        subst (λ (s : Option State). IsLeft hash accepted verified lines key old (λ done. After (done ++ acts)) s (Some old)) (sym is)
+        (inr (stored_nothing, begun-kept now (λ done. After (done ++ acts)) (same ∙ fresh.0) (goes acts before)))
+
+    module _ {H V S : Type 0} (asker : Asker H V S) (said : List ℕ) (same-key : asker.key ≡ key) (token : List ℕ) (knows : (background_of asker ≡ new_background key token) × (asker.monitors.items ≡ []) × (asker.changes.items ≡ [])) (frame : List ℕ) (starts : Starts verified key frame (Ok asker.client)) where
+      abbrev root : SignedRoot
+      root = starts.0
+
+      is-chain : IsChain hash verified asker.client.chain
+      is-chain = subst (λ (c : Client). IsChain hash verified c.chain) (sym starts.2) (one-chain hash verified key root starts.1.1)
+
+      is-formed : AllByRecursion IsSignedRoot asker.client.chain.roots
+      is-formed = subst (λ (c : Client). AllByRecursion IsSignedRoot c.chain.roots) (sym starts.2) (starts.1.0.1, tt)
+
+      marks-none : asker.marks.items ≡ []
+      marks-none = ap (λ (b : Background). b.marks) knows.0
+
+      earlier-none : asker.earlier.items ≡ []
+      earlier-none = ap (λ (b : Background). b.earlier) knows.0
+
+      none-within : AreWithin asker.client.chain nothing
+      none-within mark (place, within, at) = absurd (omega (arith, within))
+
+      begun-ready : IsReady verified asker
+      begun-ready = (
+        ap (λ (c : Client). c.chain.key) starts.2 ∙ sym same-key,
+        subst (λ (own : List SignedPromise). AllByRecursion (IsSignedBy verified asker.key) (own ++ asker.changes.items)) (sym earlier-none) (subst (λ (own : List SignedPromise). AllByRecursion (IsSignedBy verified asker.key) own) (sym knows.2) tt),
+      )
+
+      pub begun-stands : (first state : Option State) → IsFresh first → HasBegun Before After first state → (start : Stored) × RunStands hash accepted verified lines start old (λ done. After (done ++ acts)) asker said state (Some old)
+      unfolding loads-all
+      begun-stands None state fresh (none, goes) = (stored_nothing, subst (λ (s : Option State). RunStands hash accepted verified lines stored_nothing old (λ done. After (done ++ acts)) asker said s (Some old)) (sym none) tt)
+      begun-stands (Some was) state fresh (now, is, goes, same, at) = (
+        stored_nothing,
+        subst (λ (s : Option State). RunStands hash accepted verified lines stored_nothing old (λ done. After (done ++ acts)) asker said s (Some old)) (sym is) (
+          subst (λ (k : List ℕ). Stands hash accepted verified lines k stored_nothing old (λ done. After (done ++ acts)) now.epoch now.memory (Some old) (standing asker.client asker.monitors.items said)) (sym same-key)
+              (subst (λ (known : Memory). Stands hash accepted verified lines key stored_nothing old (λ done. After (done ++ acts)) now.epoch known (Some old) (standing asker.client asker.monitors.items said)) (sym (same ∙ fresh.0)) (record {
+                kept = loads-all stored_nothing (λ done. After (done ++ acts)) now.epoch (goes acts before) (none-fits now.epoch) tt;
+                owns = subst (λ (ms : List Monitor). Owns hash accepted verified (IsAsked lines) (IsSignedBy verified key) [] [] [] [] (standing asker.client ms said)) (sym knows.1)
+                    (owns-all stored_nothing asker.client said is-chain is-formed tt none-within);
+              })),
+          sym marks-none,
+          begun-ready,
+        ),
+      )
+
+-- what is left by a run that begins, and what one stands on
+module _ (hash : List ℕ → List ℕ) (accepted verified : List ℕ → List ℕ → List ℕ → Type 0) (key : List ℕ) (Before After : List Act → Type 0) (first state : Option State) where
+  abbrev pub LeavesBegun : Type 0
+  LeavesBegun = IsFresh first → (lines : Option (List (List ℕ))) (old : List ℕ) (acts : List Act) → Before acts → IsLeft hash accepted verified lines key old (λ done. After (done ++ acts)) state (Some old)
+
+  pub left_so : {A E : Type 0} (result : Result A E) → LeavesBegun → OnErr result LeavesBegun
+  left_so result leaves = err_so result leaves
+
+  pub begun_run : {H V S T E : Type 0} (result : Result (Asker H V S) E) (exchanged : T → RequestContent → Frame → T → Type 0) (stream after : T) (said token : List ℕ)
+      → IfOk result (λ asker. StartsAtHead verified exchanged key stream asker.client after) → IfOk result (λ asker. (background_of asker ≡ new_background key token) × (asker.monitors.items ≡ []))
+      → IfOk result (λ asker. asker.changes.items ≡ []) → HasBegun Before After first state
+      → IfOk result (λ asker. IsFresh first → (lines : Option (List (List ℕ))) (old : List ℕ) (acts : List Act) → Before acts
+          → (start : Stored) × RunStands hash accepted verified lines start old (λ done. After (done ++ acts)) asker said state (Some old))
+  begun_run (Ok asker) exchanged stream after said token (frame, exchange, answers, starts) knows changes begun = λ fresh lines old acts has.
+      begun-stands hash accepted verified lines key old Before After acts has asker said (ap (λ (b : Background). b.key) knows.0) token (knows.0, knows.1, changes) frame.body starts first state fresh begun
+  begun_run (Err fault) exchanged stream after said token starts knows changes begun = tt

@@ -31,6 +31,7 @@ use Rattle.asking.specs.Ending.{DoesPartNoting, DoesSomeNoting, PreparesSome, Ta
 use Rattle.asking.specs.Following.{asks_roots, Follows, StopsAfter, StopsFollowing, TakesList, TakesLists, TakesSome}
 use Rattle.asking.specs.Joining.{own_for, BeginsAt, BeginsSome, BeginsWatch, WatchesNew, WatchesSome}
 use Rattle.asking.specs.Reports.{Report, told_after}
+use Rattle.asking.specs.Saves.{IsSignedBy}
 use Rattle.asking.specs.Runs.{Background, DoesLineNoting, Prepares, TakesNew}
 use Rattle.asking.specs.Scenes.{Scene}
 use Rattle.asking.specs.Visiting.{ShowsDue, TestsAll, TestsFrom, TestsSome, Visits, VisitsOn}
@@ -47,10 +48,6 @@ last-is xs x last at =
     let long = length_push xs x in
     let place : length (xs ++ x ∷ []) - 1 ≡ length xs = omega (arith, long) in
     sym (get_or_push xs x x (length xs) refl) ∙ get_or_from_slice_get (xs ++ x ∷ []) (length xs) last x (subst (λ k. slice_get (xs ++ x ∷ []) k ≡ Some last) place at)
-
--- a signed promise of the provider with this key
-abbrev pub IsSignedBy : (List ℕ → List ℕ → List ℕ → Type 0) → List ℕ → SignedPromise → Type 0
-IsSignedBy verified key signed = IsSignedPromise signed × PromiseVerifies verified key signed
 
 abbrev pub AllSignedBy : (List ℕ → List ℕ → List ℕ → Type 0) → List ℕ → List SignedPromise → Type 0
 AllSignedBy verified key promises = AllByRecursion (IsSignedBy verified key) promises

@@ -39,7 +39,7 @@ each-of : {A : Type 0} (P : A → Type 0) (xs : List A) → ((x : A) → Contain
 each-of P [] each = tt
 each-of P (x ∷ xs) each = (each x (0, omega arith, refl), each-of P xs (λ y has. each y (suc has.0, omega (arith, has.1), has.2)))
 
-all-in : {A : Type 0} (P : A → Type 0) (xs : List A) (x : A) → AllByRecursion P xs → Contains xs x → P x
+pub all-in : {A : Type 0} (P : A → Type 0) (xs : List A) (x : A) → AllByRecursion P xs → Contains xs x → P x
 all-in P xs x all has = All-contains P xs x (All-from_recursion P xs all) has
 
 all-join : {A : Type 0} (P : A → Type 0) (xs ys : List A) → AllByRecursion P xs → AllByRecursion P ys → AllByRecursion P (xs ++ ys)

@@ -295,7 +295,7 @@ impl Run {
         ensures none { OnErr result (BeginsNone S.verified (ExchangesFrames T.contents T.remaining) keys.now.signing_key stream.old (report_of (self.old).said) (report_of (self.new).said)) }
         ensures faults { IfErr result (StopsOr (λ fault. ((¬ ((self.old).state ≡ None)) × IsFaultOfState fault) ⊎ (fault ≡ OutOfMemory))) }
         ensures stands { IfOk result (λ asker. IsFresh (self.old).state → (lines : Option (List (List ℕ))) (old : List ℕ) (acts : List Act) → K.has keeper.old acts
-            → (start : Stored) × RunStands H.digest_of V.accepted S.verified lines start old (λ done. K.has keeper.new (done ++ acts)) asker [] (self.new).state (Some old)) }
+            → (start : Stored) × RunStands H.digest_of V.accepted S.verified lines start old (λ done. K.has keeper.new (done ++ acts)) asker (self.new).said.text.items (self.new).state (Some old)) }
         ensures left { OnErr result (IsFresh (self.old).state → (lines : Option (List (List ℕ))) (old : List ℕ) (acts : List Act) → K.has keeper.old acts
             → IsLeft H.digest_of V.accepted S.verified lines keys.now.signing_key old (λ done. K.has keeper.new (done ++ acts)) (self.new).state (Some old)) }
         ensures still { ((self.new).state ≡ None) ↔ ((self.old).state ≡ None) }
@@ -363,6 +363,7 @@ impl Run {
         S: Verifier + Drop,
         ensures begins { IfOk result (λ asker. StartsAtHead S.verified (ExchangesFrames T.contents T.remaining) keys.now.signing_key stream.old asker.client stream.new) }
         ensures knows { IfOk result (λ asker. (background_of asker ≡ new_background keys.now.signing_key keys.now.token) × (asker.monitors.items ≡ [])) }
+        ensures changes { IfOk result (λ asker. asker.changes.items ≡ []) }
         ensures said { IfOk result (λ asker. report_of (self.new).said ≡ report_of (self.old).said) }
         ensures none { OnErr result (BeginsNone S.verified (ExchangesFrames T.contents T.remaining) keys.now.signing_key stream.old (report_of (self.old).said) (report_of (self.new).said)) }
         ensures faults { IfErr result (StopsOr (λ fault. fault ≡ OutOfMemory)) }

@@ -5,6 +5,7 @@ use Rattle.asking.specs.Ending.{BeginsNone}
 use Rattle.asking.specs.Exchanges.{ExchangesFrames}
 use Rattle.asking.specs.RunFaults.{IsFaultOfState}
 use Rattle.asking.specs.Reports.{report_of, Report}
+use Rattle.asking.proofs.Begun.{begun-left, begun_run, left_so, loaded-kept, loaded-stands}
 use Rattle.asking.proofs.Ended.{err_so}
 use Rattle.asking.proofs.Faulty.{stops_more}
 use Rattle.asking.proofs.Ran.{begins_at_head}
@@ -30,3 +31,26 @@ pub returns-in-Err-clause-none : goal.returns-in-Err-clause-none
 returns-in-Err-clause-none g c =
     subst (λ (r : Report). OnErr c.begin_at_head.result (BeginsNone g.S.Verifier.verified (ExchangesFrames g.T.Write.contents g.T.Read.remaining) c.args.keys.now.signing_key c.args.stream.now r (report_of c.begin_at_head.new.self.said)))
     c.load.ensures.said c.begin_at_head.ensures.none
+
+pub returns-in_err-tell_evidence-in-Ok-clause-left : goal.returns-in_err-tell_evidence-in-Ok-clause-left
+returns-in_err-tell_evidence-in-Ok-clause-left g c = left_so g.H.NodeHash.digest_of g.V.VufCheck.accepted g.S.Verifier.verified c.args.keys.now.signing_key (g.K.Keeper.has c.args.keeper.now) (g.K.Keeper.has c.load.new.keeper) c.args.self.now.state c.tell_evidence.new.self.state _ (λ fresh lines old acts has.
+    let loaded = rw c.in-Ok.is at c.in_ok-asker.ensures.loads in
+    rw c.tell_evidence.ensures.still (loaded-kept g.H.NodeHash.digest_of g.V.VufCheck.accepted g.S.Verifier.verified lines c.args.keys.now.signing_key old c.in-Ok.asker (g.K.Keeper.has c.args.keeper.now) (g.K.Keeper.has c.load.new.keeper) acts has c.load.new.self.state loaded))
+
+pub returns-in_ok-tell_evidence-in-Ok-clause-stands : goal.returns-in_ok-tell_evidence-in-Ok-clause-stands
+returns-in_ok-tell_evidence-in-Ok-clause-stands g c = λ fresh lines old acts has.
+    let loaded = rw c.in-Ok.is at c.in_ok-asker.ensures.loads in
+    let knows = rw c.in-Ok.is at c.in_ok-asker.ensures.knows in
+    rw c.tell_evidence.ensures.still (loaded-stands g.H.NodeHash.digest_of g.V.VufCheck.accepted g.S.Verifier.verified lines c.args.keys.now.signing_key old c.in-Ok.asker (g.K.Keeper.has c.args.keeper.now) (g.K.Keeper.has c.load.new.keeper) acts has c.load.new.self.state
+    c.tell_evidence.new.self.said.text.items loaded (rw c.in-Ok.is at c.in_ok-asker.ensures.sound) (rw c.in-Ok.is at c.in_ok-asker.ensures.kept) knows.0 knows.2)
+
+pub returns-in-Err-clause-left : goal.returns-in-Err-clause-left
+returns-in-Err-clause-left g c = left_so g.H.NodeHash.digest_of g.V.VufCheck.accepted g.S.Verifier.verified c.args.keys.now.signing_key (g.K.Keeper.has c.args.keeper.now) (g.K.Keeper.has c.load.new.keeper) c.args.self.now.state c.begin_at_head.new.self.state _ (λ fresh lines old acts has.
+    let begun = rw c.in-Err.is at c.in_ok-asker.ensures.fresh in
+    rw c.begin_at_head.ensures.still (begun-left g.H.NodeHash.digest_of g.V.VufCheck.accepted g.S.Verifier.verified lines c.args.keys.now.signing_key old (g.K.Keeper.has c.args.keeper.now) (g.K.Keeper.has c.load.new.keeper) acts has c.args.self.now.state c.load.new.self.state fresh begun))
+
+pub returns-in-Err-clause-stands : goal.returns-in-Err-clause-stands
+returns-in-Err-clause-stands g c =
+    let begun = rw c.in-Err.is at c.in_ok-asker.ensures.fresh in
+    rw c.begin_at_head.ensures.still (begun_run g.H.NodeHash.digest_of g.V.VufCheck.accepted g.S.Verifier.verified c.args.keys.now.signing_key (g.K.Keeper.has c.args.keeper.now) (g.K.Keeper.has c.load.new.keeper) c.args.self.now.state c.load.new.self.state c.begin_at_head.result (ExchangesFrames g.T.Write.contents g.T.Read.remaining) c.args.stream.now c.begin_at_head.new.stream
+    c.begin_at_head.new.self.said.text.items c.args.keys.now.token c.begin_at_head.ensures.begins c.begin_at_head.ensures.knows c.begin_at_head.ensures.changes begun)
