@@ -27,6 +27,7 @@ pub mod PutMarks
 pub mod KeptTold
 pub mod HeldMarks
 pub mod StateRuns
+pub mod RunSteps
 pub mod Saving
 pub mod OwnedRoots
 pub mod OwnedMonitors

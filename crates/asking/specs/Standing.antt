@@ -75,10 +75,9 @@ IsFresh None = ⊤
 IsFresh (Some state) = (state.memory ≡ nothing) × (state.epoch ≡ 0) × (state.is_loaded ≡ false)
 
 module _ (hash : List ℕ → List ℕ) (accepted verified : List ℕ → List ℕ → List ℕ → Type 0) (lines : Option (List (List ℕ))) where
-  -- so a run stands that has a state, where the lines of what was said are not yet written
+  -- so a run stands, where the lines of what was said are not yet written
   abbrev pub RunStands : {H V S : Type 0} → Stored → List ℕ → (List Act → Type 0) → Asker H V S → List ℕ → Option State → Option (List ℕ) → Type 0
-  RunStands start old Happened asker said None out = ⊤
-  RunStands start old Happened asker said (Some state) out = Stands hash accepted verified lines asker.key start old Happened state.epoch state.memory out (standing asker.client asker.monitors.items said)
+  RunStands start old Happened asker said state out = StateStands hash accepted verified lines asker.key start old Happened state out (standing asker.client asker.monitors.items said)
       × (start.known.marks ≡ asker.marks.items) × IsReady verified asker
 
   -- what a run leaves: nothing was loaded, or all that was kept was told before

@@ -434,6 +434,7 @@ impl Run {
         ensures stands { result ≢ Err NoMemory → (reached : Scene T) × PreparesSome H.digest_of V.accepted S.verified (ExchangesFrames T.contents T.remaining) (background_of asker.old) ((self.old).state ≡ None) (scene asker.old (self.old).said stream.old) reached
             × (report_of (self.new).said ≡ reached.told) × (asker.new.client ≡ reached.client) × (asker.new.monitors.items ≡ reached.monitors) }
         ensures stays { background_of asker.new ≡ background_of asker.old }
+        ensures still { (self.new).state ≡ (self.old).state }
         ensures changes { asker.new.changes ≡ asker.old.changes }
         ensures rises { (self.old).said.status ≤ (self.new).said.status }
     {
@@ -459,6 +460,7 @@ impl Run {
             ⊎ TakesNew H.digest_of V.accepted S.verified (ExchangesFrames T.contents T.remaining) (background_of asker.old) ((self.old).state ≡ None) (scene asker.old (self.old).said stream.old) reached)
             × (report_of (self.new).said ≡ reached.told) × (asker.new.client ≡ reached.client) × (asker.new.monitors.items ≡ reached.monitors) }
         ensures stays { background_of asker.new ≡ background_of asker.old }
+        ensures still { (self.new).state ≡ (self.old).state }
         ensures changes { asker.new.changes ≡ asker.old.changes }
         ensures rises { (self.old).said.status ≤ (self.new).said.status }
     {

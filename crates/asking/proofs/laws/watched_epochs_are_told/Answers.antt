@@ -1,4 +1,4 @@
-use Rattle.asking.proofs.Begun.{begun-left, begun-stands, loaded-kept, loaded-stands}
+use Rattle.asking.proofs.RunSteps.{line-ready, line-stands, prepared-ready, prepared-stands}
 use Rattle.std.proofs.Common.{◌≡◌, None}
 use Rattle.asking.specs.Exchanges.{ExchangesFrames}
 use Rattle.asking.proofs.ToldRuns.{whole-keeps}
