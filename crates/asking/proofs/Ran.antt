@@ -1,6 +1,7 @@
 -- The lines of a run, one after another.
-use Rattle.std.proofs.Common.{◌≡◌, ◌∙◌, ℕ, true, false, List, [], ◌∷◌, Option, None, Some, Result, Ok, Err, Bor, Global, Vec, ap, append-nil, append_assoc, inl, inr, option_map, refl, subst, sym}
-use Rattle.std.specs.Prelude.{◌++◌, IfOk, IfSome, OnOk}
+use Rattle.std.proofs.Common.{◌≡◌, ◌∙◌, ℕ, true, false, List, [], ◌∷◌, Option, None, Some, Result, Ok, Err, Bor, Global, Vec, ap, append-nil, append_assoc, arith, inl, inr, option_map, refl, subst, sym}
+use Rattle.std.specs.Prelude.{◌++◌, Contains, IfOk, IfSome, OnOk}
+use Rattle.std.proofs.lemmas.List.Elements.{Contains-append_right}
 use Rattle.std.specs.Io.KnownBytes.{Appends}
 use Rattle.std.proofs.KnownBytes.{Appends-nil, Appends-trans}
 use Rattle.rootchain.specs.Chains.{KeyedRoots}
@@ -23,6 +24,7 @@ use Rattle.asking.specs.Recalled.{evidence_again}
 use Rattle.asking.specs.Reports.{Report, report_of, told_after}
 use Rattle.asking.specs.Runs.{AsksLine, AsksLines, BeginsAsking, StartsRun, emptied, Background, new_background, background_of, lines_asked, Prepares, RunsWhole, words_line, Writes}
 use Rattle.asking.specs.Scenes.{Scene, scene, Remains, StartsAtHead}
+use Rattle.asking.specs.Standing.{AsksAmong}
 use Rattle.asking.proofs.Joined.{scene_of}
 use Rattle.asking.proofs.Telling.{worse_none}
 
@@ -64,6 +66,18 @@ module _ (hash : List ℕ → List ℕ) (accepted verified : List ℕ → List �
 
   pub leads_first : (start : Scene T) (input old : Option (List ℕ)) → LeadsOn start input old start input old
   leads_first start input old = λ all is. (all, is, [], refl, (Appends-nil old, refl))
+
+  -- a line that is taken is one of the input's
+  pub leads_among : (start here : Scene T) (input old left left' now : Option (List ℕ)) (line : List ℕ) → LeadsOn start input old here left now → TakesWholeLine left left' true line → AsksAmong (option_map lines_of input) line
+  leads_among start here None old left left' now line leads takes = λ name given seen. tt
+  leads_among start here (Some all) old left left' now line leads takes =
+      let (rest, at, done, parts, asks) = leads all refl in
+      by rest done parts left' (subst (λ (l : Option (List ℕ)). TakesWholeLine l left' true line) at takes)
+    where
+      by : (rest : List ℕ) (done : List (List ℕ)) → lines_of all ≡ done ++ lines_of rest → (left' : Option (List ℕ)) → TakesWholeLine (Some rest) left' true line → AsksAmong (Some (lines_of all)) line
+      by rest done parts None bad = absurd bad
+      by rest done parts (Some rest') is = λ name given seen.
+          (line, subst (λ (ls : List (List ℕ)). Contains ls line) (sym (parts ∙ ap (λ (ls : List (List ℕ)). done ++ ls) is)) (Contains-append_right done (line ∷ lines_of rest') line (0, omega arith, refl)), seen)
 
   -- one line more is asked
   pub leads_next : (start here next : Scene T) (input old left left' now now' : Option (List ℕ)) (line : List ℕ) → LeadsOn start input old here left now → TakesWholeLine left left' true line

@@ -175,3 +175,6 @@ module _ {H V S : Type 0} (hash : List ℕ → List ℕ) (accepted verified : Li
 pub told-so : {A E : Type 0} (result : Result A E) (old new : Option (List ℕ)) (text : List ℕ) (said : Said) (status : ℕ) → OnOk result (Appends old new text × (report_of said ≡ emptied status)) → OnOk result (report_of said ≡ emptied status)
 told-so (Ok done) old new text said status both = both.1
 told-so (Err fault) old new text said status both = tt
+
+pub ok_have : {A E P : Type 0} (result : Result A E) {done : A} → result ≡ Ok done → OnOk result P → P
+ok_have {A} {E} {P} result was holds = subst (λ (r : Result A E). OnOk r P) was holds

@@ -7,6 +7,14 @@ use Rattle.asking.proofs.Ended.{leaves_same, line_known, part_here, part_line}
 use Rattle.asking.proofs.Faulty.{asked_can, counts_first, counts_next, grows_not, grows_on, line_fault}
 use Rattle.asking.proofs.Ran.{leads_first, leads_next, leads_out}
 use Rattle.asking.proofs.Rising.{rises_on}
+use Rattle.std.proofs.Common.{◌++◌, ℕ, List, ap}
+use Rattle.std.specs.Prelude.{option_map}
+use Rattle.textio.specs.Lines.{lines_of}
+use Rattle.asking.specs.Saves.{Act}
+use Rattle.asking.specs.Standing.{standing, StateIsKept}
+use Rattle.asking.proofs.Ran.{leads_among}
+use Rattle.asking.proofs.RunSteps.{ok_have}
+use Rattle.asking.proofs.Written.{state-kept}
 use Rattle.asking.proofs.run.Run.ask_lines.Goals as goal
 
 pub returns-then-not-branch-clause-asks : goal.returns-then-not-branch-clause-asks
@@ -32,6 +40,10 @@ loop-number-preserved g c =
       counts = counts_next (g.R.Read.remaining c.args.reader.now) (g.R.Read.remaining c.loop-number.reader) (g.R.Read.remaining c.next_line.new.reader) c.loop-number.number c.deref.result.now c.loop-number.invariant.counts takes
           (asked_can g.H.NodeHash.digest_of g.V.VufCheck.accepted g.S.Verifier.verified (ExchangesFrames g.T.Write.contents g.T.Read.remaining) (background_of c.args.asker.now) here next (g.W.Write.contents c.loop-number.writer) (g.W.Write.contents c.ask_line.new.writer) c.deref.result.now writes);
       grows = grows_on (g.W.Write.contents c.args.writer.now) (g.W.Write.contents c.loop-number.writer) (g.W.Write.contents c.ask_line.new.writer) c.loop-number.invariant.grows c.in_ok-ask_line.ensures.grows;
+      stands = λ start old acts stands.
+          let among = leads_among g.H.NodeHash.digest_of g.V.VufCheck.accepted g.S.Verifier.verified (ExchangesFrames g.T.Write.contents g.T.Read.remaining) (background_of c.args.asker.now) (scene c.args.asker.now c.args.self.now.said c.args.stream.now) here
+          (g.R.Read.remaining c.args.reader.now) (g.W.Write.contents c.args.writer.now) (g.R.Read.remaining c.loop-number.reader) (g.R.Read.remaining c.next_line.new.reader) (g.W.Write.contents c.loop-number.writer) c.deref.result.now c.loop-number.invariant.asks takes in
+          ok_have c.ask_line.result (c.in_ok-ask_line.was) (c.ask_line.ensures.stands (option_map lines_of (g.R.Read.remaining c.args.reader.now)) start old acts among (c.loop-number.invariant.stands start old acts stands)).1;
       rises = rises_on c.args.self.now.said.status c.loop-number.self.said.status c.ask_line.new.self.said.status c.loop-number.invariant.rises c.in_ok-ask_line.ensures.rises;
     }
 
@@ -43,6 +55,7 @@ loop-number-init g c = record {
   counts = counts_first (g.R.Read.remaining c.args.reader.now);
   grows = grows_not (g.W.Write.contents c.args.writer.now);
   rises = omega arith;
+  stands = λ start old acts stands. stands;
 }
 
 pub returns-in_err-ask_line-clause-faults : goal.returns-in_err-ask_line-clause-faults
@@ -78,3 +91,34 @@ returns-in_err-ask_line-clause-part g c =
     c.loop-number.invariant.same c.in_err-ask_line.ensures.part in
     part_line g.H.NodeHash.digest_of g.V.VufCheck.accepted g.S.Verifier.verified (ExchangesFrames g.T.Write.contents g.T.Read.remaining) (background_of c.args.asker.now) (scene c.args.asker.now c.args.self.now.said c.args.stream.now) (scene c.loop-number.asker c.loop-number.self.said c.loop-number.stream) (g.R.Read.remaining c.args.reader.now) (g.W.Write.contents c.args.writer.now) (g.R.Read.remaining c.loop-number.reader) (g.R.Read.remaining c.next_line.new.reader) (g.W.Write.contents c.loop-number.writer) (g.W.Write.contents c.ask_line.new.writer) c.deref.result.now c.ask_line.new.self.said
     c.loop-number.invariant.asks takes part
+
+pub returns-in_err-next_line-clause-stands : goal.returns-in_err-next_line-clause-stands
+returns-in_err-next_line-clause-stands g c = λ start old acts stands.
+    let key = ap (λ (b : Background). b.key) c.loop-number.invariant.same in
+    let lines = option_map lines_of (g.R.Read.remaining c.args.reader.now) in
+    subst (λ (k : List ℕ). StateIsKept g.H.NodeHash.digest_of g.V.VufCheck.accepted g.S.Verifier.verified lines k start old (λ (done : List Act). g.K.Keeper.has c.loop-number.keeper (done ++ acts)) c.loop-number.self.state (g.W.Write.contents c.loop-number.writer)) key (state-kept g.H.NodeHash.digest_of g.V.VufCheck.accepted g.S.Verifier.verified (option_map lines_of (g.R.Read.remaining c.args.reader.now)) c.loop-number.asker.key start old (λ (done : List Act). g.K.Keeper.has c.loop-number.keeper (done ++ acts)) c.loop-number.self.state (g.W.Write.contents c.loop-number.writer)
+    (standing c.loop-number.asker.client c.loop-number.asker.monitors.items c.loop-number.self.said.text.items) (c.loop-number.invariant.stands start old acts stands).0)
+
+pub returns-then-not-branch-clause-stands : goal.returns-then-not-branch-clause-stands
+returns-then-not-branch-clause-stands g c = λ start old acts stands.
+    let key = ap (λ (b : Background). b.key) c.loop-number.invariant.same in
+    let lines = option_map lines_of (g.R.Read.remaining c.args.reader.now) in
+    subst (λ (k : List ℕ). StateIsKept g.H.NodeHash.digest_of g.V.VufCheck.accepted g.S.Verifier.verified lines k start old (λ (done : List Act). g.K.Keeper.has c.loop-number.keeper (done ++ acts)) c.loop-number.self.state (g.W.Write.contents c.loop-number.writer)) key (state-kept g.H.NodeHash.digest_of g.V.VufCheck.accepted g.S.Verifier.verified (option_map lines_of (g.R.Read.remaining c.args.reader.now)) c.loop-number.asker.key start old (λ (done : List Act). g.K.Keeper.has c.loop-number.keeper (done ++ acts)) c.loop-number.self.state (g.W.Write.contents c.loop-number.writer)
+    (standing c.loop-number.asker.client c.loop-number.asker.monitors.items c.loop-number.self.said.text.items) (c.loop-number.invariant.stands start old acts stands).0)
+
+pub returns-clause-stands : goal.returns-clause-stands
+returns-clause-stands g c = λ start old acts stands.
+    let key = ap (λ (b : Background). b.key) c.loop-number.invariant.same in
+    let lines = option_map lines_of (g.R.Read.remaining c.args.reader.now) in
+    subst (λ (k : List ℕ). StateIsKept g.H.NodeHash.digest_of g.V.VufCheck.accepted g.S.Verifier.verified lines k start old (λ (done : List Act). g.K.Keeper.has c.loop-number.keeper (done ++ acts)) c.loop-number.self.state (g.W.Write.contents c.loop-number.writer)) key (state-kept g.H.NodeHash.digest_of g.V.VufCheck.accepted g.S.Verifier.verified (option_map lines_of (g.R.Read.remaining c.args.reader.now)) c.loop-number.asker.key start old (λ (done : List Act). g.K.Keeper.has c.loop-number.keeper (done ++ acts)) c.loop-number.self.state (g.W.Write.contents c.loop-number.writer)
+    (standing c.loop-number.asker.client c.loop-number.asker.monitors.items c.loop-number.self.said.text.items) (c.loop-number.invariant.stands start old acts stands).0)
+
+pub returns-in_err-ask_line-clause-stands : goal.returns-in_err-ask_line-clause-stands
+returns-in_err-ask_line-clause-stands g c = λ start old acts stands.
+    let key = ap (λ (b : Background). b.key) c.loop-number.invariant.same in
+    let lines = option_map lines_of (g.R.Read.remaining c.args.reader.now) in
+    let takes = rw (c.if-not-branch.false, ← c.deref.ensures.value) at c.in_ok-next_line.ensures.ok in
+    let among = leads_among g.H.NodeHash.digest_of g.V.VufCheck.accepted g.S.Verifier.verified (ExchangesFrames g.T.Write.contents g.T.Read.remaining) (background_of c.args.asker.now) (scene c.args.asker.now c.args.self.now.said c.args.stream.now) (scene c.loop-number.asker c.loop-number.self.said c.loop-number.stream)
+    (g.R.Read.remaining c.args.reader.now) (g.W.Write.contents c.args.writer.now) (g.R.Read.remaining c.loop-number.reader) (g.R.Read.remaining c.next_line.new.reader) (g.W.Write.contents c.loop-number.writer) c.deref.result.now c.loop-number.invariant.asks takes in
+    subst (λ (k : List ℕ). StateIsKept g.H.NodeHash.digest_of g.V.VufCheck.accepted g.S.Verifier.verified lines k start old (λ (done : List Act). g.K.Keeper.has c.ask_line.new.keeper (done ++ acts)) c.ask_line.new.self.state (g.W.Write.contents c.ask_line.new.writer)) key
+    (c.ask_line.ensures.stands lines start old acts among (c.loop-number.invariant.stands start old acts stands)).0
