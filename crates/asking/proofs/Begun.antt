@@ -164,7 +164,7 @@ module _ (hash : List ℕ → List ℕ) (accepted verified : List ℕ → List �
 
       pub begun-stands : (first state : Option State) → IsFresh first → HasBegun Before After first state → (start : Stored) × RunStands hash accepted verified lines start old (λ done. After (done ++ acts)) asker said state (Some old)
       unfolding loads-all
-      begun-stands None state fresh (none, goes) = (stored_nothing, subst (λ (s : Option State). RunStands hash accepted verified lines stored_nothing old (λ done. After (done ++ acts)) asker said s (Some old)) (sym none) (tt, sym marks-none, begun-ready))
+      begun-stands None state fresh (none, goes) = (stored_nothing, subst (λ (s : Option State). RunStands hash accepted verified lines stored_nothing old (λ done. After (done ++ acts)) asker said s (Some old)) (sym none) (goes acts before, sym marks-none, begun-ready))
       begun-stands (Some was) state fresh (now, is, goes, same, at) = (
         stored_nothing,
         subst (λ (s : Option State). RunStands hash accepted verified lines stored_nothing old (λ done. After (done ++ acts)) asker said s (Some old)) (sym is) (

@@ -201,3 +201,16 @@ asks_words Asked (Ok done) input order word some asks =
 pub none_before : {A B : Type 0} (f : A → B) (x : Option A) → option_map f x ≡ None → x ≡ None
 none_before f None is = refl
 none_before f (Some a) is = absurd cc
+
+-- what is asked, where the order has words and where it has none
+pub words_asked : (input : Option (List ℕ)) (order : AskOrder) (word : Bor (List ℕ)) → order.command ≡ Some word → lines_asked (ask_values order).words input ≡ Some (words_line (ask_values order).words ∷ [])
+words_asked input order word some =
+    subst (λ (command : Option (Bor (List ℕ))). lines_asked (option_map (λ text. text.now) command ∷ option_map (λ text. text.now) order.first ∷ option_map (λ text. text.now) order.second ∷ []) input
+    ≡ Some (words_line (option_map (λ text. text.now) command ∷ option_map (λ text. text.now) order.first ∷ option_map (λ text. text.now) order.second ∷ []) ∷ [])) (sym some) refl
+
+pub input_asked : (input : Option (List ℕ)) (order : AskOrder) → order.command ≡ None → lines_asked (ask_values order).words input ≡ option_map lines_of input
+input_asked input order none =
+    subst (λ (command : Option (Bor (List ℕ))). lines_asked (option_map (λ text. text.now) command ∷ option_map (λ text. text.now) order.first ∷ option_map (λ text. text.now) order.second ∷ []) input ≡ option_map lines_of input) (sym none) refl
+
+pub words_among : (lines : Option (List (List ℕ))) (line line' : List ℕ) → lines ≡ Some (line ∷ []) → line' ≡ line → AsksAmong lines line'
+words_among lines line line' is same = subst (λ (l : List ℕ). AsksAmong lines l) (sym same) (subst (λ (ls : Option (List (List ℕ))). AsksAmong ls line) (sym is) (λ name given seen. (line, (0, omega arith, refl), seen)))

@@ -106,7 +106,7 @@ module _ {T H V S : Type 0} (hash : List ℕ → List ℕ) (accepted verified : 
   -- what is new is taken and tested
   pub prepared-stands : (HasNoState : Type 0) (state : Option State) → PreparesSome hash accepted verified exchanged (background_of before) HasNoState (scene before said stream) reached
       → RunStands hash accepted verified lines start old Happened before said.text.items state out → StateStands hash accepted verified lines before.key start old Happened state out (standing after.client after.monitors.items said'.text.items)
-  prepared-stands HasNoState None prepares stands = tt
+  prepared-stands HasNoState None prepares stands = stands.0
   prepared-stands HasNoState (Some state) prepares (stands, same, ready) =
       stepped state (λ text stored known once owns. prepared-owned hash accepted verified exchanged lines before.key (background_of before) text stored known once HasNoState (scene before said stream) reached prepares owns) stands same
 
@@ -114,7 +114,7 @@ module _ {T H V S : Type 0} (hash : List ℕ → List ℕ) (accepted verified : 
   pub line-stands : (line : ScriptLine) (state : Option State) → ((name : List ℕ) (given : Option (List ℕ)) → line ≡ Watch name given → IsAsked lines name given)
       → DoesSomeNoting hash accepted verified exchanged (background_of before) line before.changes.items after.changes.items (scene before said stream) reached
       → RunStands hash accepted verified lines start old Happened before said.text.items state out → StateStands hash accepted verified lines before.key start old Happened state out (standing after.client after.monitors.items said'.text.items)
-  line-stands line None asked does stands = tt
+  line-stands line None asked does stands = stands.0
   line-stands line (Some state) asked does (stands, same, (keyed, ready)) =
       let signs = signs_for hash accepted verified exchanged before.key before.changes.items after.changes.items (scene before said stream) reached
       (some_signs hash accepted verified exchanged (background_of before) line before.changes.items after.changes.items (scene before said stream) reached does) keyed in
@@ -155,7 +155,7 @@ module _ {H V S : Type 0} (hash : List ℕ → List ℕ) (accepted verified : Li
     (key : List ℕ) (asker : Asker H V S) (same : asker.key ≡ key) (said : Said) (status : ℕ) where
   pub settled-stands : (state : Option State) (out : Option (List ℕ)) → report_of said ≡ emptied status → start.known.marks ≡ asker.marks.items → IsReady verified asker
       → StateStands hash accepted verified lines key start old Happened state out (standing asker.client asker.monitors.items []) → RunStands hash accepted verified lines start old Happened asker said.text.items state out
-  settled-stands None out told marks ready stands = (tt, marks, ready)
+  settled-stands None out told marks ready stands = (stands, marks, ready)
   settled-stands (Some state) out told marks ready stands = (
     subst (λ (k : List ℕ). Stands hash accepted verified lines k start old Happened state.epoch state.memory out (standing asker.client asker.monitors.items said.text.items)) (sym same)
         (subst (λ (t : List ℕ). Stands hash accepted verified lines key start old Happened state.epoch state.memory out (standing asker.client asker.monitors.items t)) (sym (ap (λ (r : Report). r.lines) told)) stands),

@@ -8,7 +8,7 @@ use Rattle.memory.specs.Memories.{Memory}
 use Rattle.monitor.specs.Monitors.{Monitor}
 use Rattle.asking.specs.Saves.{stored_after, Act, IsAsked, IsSignedBy, Stored}
 use Rattle.asking.specs.Scenes.{Scene}
-use Rattle.asking.specs.Standing.{standing, IsKept, IsUpTo, Stands, StateIsKept, StateStands}
+use Rattle.asking.specs.Standing.{standing, IsKept, IsLeft, Stands, StateIsKept, StateStands}
 use Rattle.asking.specs.declared.ask_fault.AskFault.{AskFault}
 use Rattle.asking.specs.declared.ask_fault.AskFault.TheVariants as fault
 use Rattle.asking.specs.declared.state.State.{State}
@@ -61,3 +61,7 @@ module _ (hash : List ℕ → List ℕ) (accepted verified : List ℕ → List �
   pub state-kept : (state : Option State) (out : Option (List ℕ)) (now : Scene (Unit {0})) → StateStands hash accepted verified lines key start old Happened state out now → StateIsKept hash accepted verified lines key start old Happened state out
   state-kept None out now stands = stands
   state-kept (Some state) out now stands = stands.kept
+
+  pub state-left : (state : Option State) (out : Option (List ℕ)) → StateIsKept hash accepted verified lines key start old Happened state out → IsLeft hash accepted verified lines key old Happened state out
+  state-left None out kept = kept
+  state-left (Some state) out kept = inr (start, kept)

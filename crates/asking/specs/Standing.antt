@@ -52,13 +52,13 @@ module _ (hash : List ℕ → List ℕ) (accepted verified : List ℕ → List �
     pub kept : IsKept Happened epoch known out
     pub owns : Owns hash accepted verified (IsAsked lines) (IsSignedBy verified key) kept.text (stored_after kept.acts).roots start.known.marks known.marks now
 
-  -- where there is a state
+  -- where there is a state; without one, nothing happens
   abbrev pub StateIsKept : (List Act → Type 0) → Option State → Option (List ℕ) → Type 0
-  StateIsKept Happened None out = ⊤
+  StateIsKept Happened None out = Happened []
   StateIsKept Happened (Some state) out = IsKept Happened state.epoch state.memory out
 
   abbrev pub StateStands : (List Act → Type 0) → Option State → Option (List ℕ) → Scene (Unit {0}) → Type 0
-  StateStands Happened None out now = ⊤
+  StateStands Happened None out now = Happened []
   StateStands Happened (Some state) out now = Stands Happened state.epoch state.memory out now
 
 -- the head of the client's chain is not above this epoch

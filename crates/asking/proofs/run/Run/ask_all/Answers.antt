@@ -12,6 +12,13 @@ use Rattle.asking.specs.declared.ask_fault.RunFault.{RunFault}
 use Rattle.asking.proofs.Ended.{early_asking, early_none, early_preparing, line_not, part_once, some_prepares_with, writes_with}
 use Rattle.asking.proofs.Faulty.{beginning_with, grows_not, grows_on, input_fault, reads_input, saving_with, stops_more, words_fault}
 use Rattle.asking.proofs.Ran.{asks_input, asks_words, begins_run, leads_once, ok_then, whole}
+use Rattle.std.proofs.Common.{◌∙◌, ◌++◌, ap, subst, sym}
+use Rattle.asking.specs.Runs.{Background}
+use Rattle.asking.specs.Saves.{Act}
+use Rattle.asking.specs.Standing.{IsLeft, RunStands, StateIsKept}
+use Rattle.asking.proofs.Ran.{input_asked, words_among, words_asked}
+use Rattle.asking.proofs.RunSteps.{ok_have}
+use Rattle.asking.proofs.Written.{state-left}
 use Rattle.asking.proofs.run.Run.ask_all.Goals as goal
 
 pub returns-in-Some-clause-runs : goal.returns-in-Some-clause-runs
@@ -139,3 +146,65 @@ returns-clause-part g c =
     (g.W.Write.contents c.args.writer.now) (g.W.Write.contents c.prepare.new.writer) (scene c.prepare.new.asker c.prepare.new.self.said c.prepare.new.stream) c.in_ok-prepare.ensures.prepares) c.in_ok-prepare.ensures.stays
     (asks_input {E = RunFault} (λ lines. (told : Report) × (next : Option (List ℕ)) × AsksPart g.H.NodeHash.digest_of g.V.VufCheck.accepted g.S.Verifier.verified (ExchangesFrames g.T.Write.contents g.T.Read.remaining) (background_of c.prepare.new.asker) lines ready told (g.W.Write.contents c.prepare.new.writer) next
     × HoldsBack (g.W.Write.contents c.ask_lines.new.writer) c.ask_lines.new.self.said told next) (Ok tt) (g.R.Read.remaining c.args.reader.now) c.args.order c.in-None.is c.ask_lines.ensures.part)
+
+pub returns-in_err-asker-clause-kept : goal.returns-in_err-asker-clause-kept
+returns-in_err-asker-clause-kept g c = λ fresh old acts is has.
+    let lines = lines_asked (ask_values c.args.order).words (g.R.Read.remaining c.args.reader.now) in
+    subst (λ (o : Option (List ℕ)). IsLeft g.H.NodeHash.digest_of g.V.VufCheck.accepted g.S.Verifier.verified lines c.args.keys.now.signing_key old (λ (done : List Act). g.K.Keeper.has c.begin.new.keeper (done ++ acts)) c.begin.new.self.state o) (sym is) (c.in_err-asker.ensures.left fresh lines old acts has)
+
+pub returns-in_err-prepare-clause-kept : goal.returns-in_err-prepare-clause-kept
+returns-in_err-prepare-clause-kept g c = λ fresh old acts is has.
+    let lines = lines_asked (ask_values c.args.order).words (g.R.Read.remaining c.args.reader.now) in
+    let asker = c.in_ok-asker.asker in
+    let (start, begun) = c.in_ok-asker.ensures.stands fresh lines old acts has in
+    let happened : List Act → Type 0 = λ done. g.K.Keeper.has c.begin.new.keeper (done ++ acts) in
+    let stands = subst (λ (o : Option (List ℕ)). RunStands g.H.NodeHash.digest_of g.V.VufCheck.accepted g.S.Verifier.verified lines start old happened asker c.begin.new.self.said.text.items c.begin.new.self.state o) (sym is) begun in
+    let prepared = c.prepare.ensures.stands lines start old acts stands in
+    let key = c.in_ok-asker.ensures.knows.0 in
+    state-left g.H.NodeHash.digest_of g.V.VufCheck.accepted g.S.Verifier.verified lines c.args.keys.now.signing_key start old (λ (done : List Act). g.K.Keeper.has c.prepare.new.keeper (done ++ acts)) c.prepare.new.self.state (g.W.Write.contents c.prepare.new.writer)
+    (subst (λ (k : List ℕ). StateIsKept g.H.NodeHash.digest_of g.V.VufCheck.accepted g.S.Verifier.verified lines k start old (λ (done : List Act). g.K.Keeper.has c.prepare.new.keeper (done ++ acts)) c.prepare.new.self.state (g.W.Write.contents c.prepare.new.writer)) (key) (prepared.0))
+
+pub returns-in_err-line-in-Some-clause-kept : goal.returns-in_err-line-in-Some-clause-kept
+returns-in_err-line-in-Some-clause-kept g c = λ fresh old acts is has.
+    let lines = lines_asked (ask_values c.args.order).words (g.R.Read.remaining c.args.reader.now) in
+    let asker = c.in_ok-asker.asker in
+    let (start, begun) = c.in_ok-asker.ensures.stands fresh lines old acts has in
+    let happened : List Act → Type 0 = λ done. g.K.Keeper.has c.begin.new.keeper (done ++ acts) in
+    let stands = subst (λ (o : Option (List ℕ)). RunStands g.H.NodeHash.digest_of g.V.VufCheck.accepted g.S.Verifier.verified lines start old happened asker c.begin.new.self.said.text.items c.begin.new.self.state o) (sym is) begun in
+    let prepared = c.prepare.ensures.stands lines start old acts stands in
+    let key = c.in_ok-asker.ensures.knows.0 in
+    state-left g.H.NodeHash.digest_of g.V.VufCheck.accepted g.S.Verifier.verified lines c.args.keys.now.signing_key start old (λ (done : List Act). g.K.Keeper.has c.prepare.new.keeper (done ++ acts)) c.prepare.new.self.state (g.W.Write.contents c.prepare.new.writer)
+    (subst (λ (k : List ℕ). StateIsKept g.H.NodeHash.digest_of g.V.VufCheck.accepted g.S.Verifier.verified lines k start old (λ (done : List Act). g.K.Keeper.has c.prepare.new.keeper (done ++ acts)) c.prepare.new.self.state (g.W.Write.contents c.prepare.new.writer)) (key) (prepared.0))
+
+pub returns-in-Some-clause-kept : goal.returns-in-Some-clause-kept
+returns-in-Some-clause-kept g c = λ fresh old acts is has.
+    let lines = lines_asked (ask_values c.args.order).words (g.R.Read.remaining c.args.reader.now) in
+    let asker = c.in_ok-asker.asker in
+    let (start, begun) = c.in_ok-asker.ensures.stands fresh lines old acts has in
+    let happened : List Act → Type 0 = λ done. g.K.Keeper.has c.begin.new.keeper (done ++ acts) in
+    let stands = subst (λ (o : Option (List ℕ)). RunStands g.H.NodeHash.digest_of g.V.VufCheck.accepted g.S.Verifier.verified lines start old happened asker c.begin.new.self.said.text.items c.begin.new.self.state o) (sym is) begun in
+    let prepared = c.prepare.ensures.stands lines start old acts stands in
+    let key = c.in_ok-asker.ensures.knows.0 in
+    let ready = ok_have c.prepare.result c.in_ok-prepare.was prepared.1 in
+    let key' = ap (λ (b : Background). b.key) c.in_ok-prepare.ensures.stays ∙ key in
+    let among = words_among lines (words_line (ask_values c.args.order).words) c.deref.result.now (words_asked (g.R.Read.remaining c.args.reader.now) c.args.order c.in-Some.field-0 c.in-Some.is) (c.deref.ensures.value ∙ c.in_ok-line-in-Some.ensures) in
+    state-left g.H.NodeHash.digest_of g.V.VufCheck.accepted g.S.Verifier.verified lines c.args.keys.now.signing_key start old (λ (done : List Act). g.K.Keeper.has c.ask_line.new.keeper (done ++ acts)) c.ask_line.new.self.state (g.W.Write.contents c.ask_line.new.writer)
+    (subst (λ (k : List ℕ). StateIsKept g.H.NodeHash.digest_of g.V.VufCheck.accepted g.S.Verifier.verified lines k start old (λ (done : List Act). g.K.Keeper.has c.ask_line.new.keeper (done ++ acts)) c.ask_line.new.self.state (g.W.Write.contents c.ask_line.new.writer)) (key') ((c.ask_line.ensures.stands lines start old acts among ready).0))
+
+pub returns-clause-kept : goal.returns-clause-kept
+returns-clause-kept g c = λ fresh old acts is has.
+    let lines = lines_asked (ask_values c.args.order).words (g.R.Read.remaining c.args.reader.now) in
+    let asker = c.in_ok-asker.asker in
+    let (start, begun) = c.in_ok-asker.ensures.stands fresh lines old acts has in
+    let happened : List Act → Type 0 = λ done. g.K.Keeper.has c.begin.new.keeper (done ++ acts) in
+    let stands = subst (λ (o : Option (List ℕ)). RunStands g.H.NodeHash.digest_of g.V.VufCheck.accepted g.S.Verifier.verified lines start old happened asker c.begin.new.self.said.text.items c.begin.new.self.state o) (sym is) begun in
+    let prepared = c.prepare.ensures.stands lines start old acts stands in
+    let key = c.in_ok-asker.ensures.knows.0 in
+    let ready = ok_have c.prepare.result c.in_ok-prepare.was prepared.1 in
+    let key' = ap (λ (b : Background). b.key) c.in_ok-prepare.ensures.stays ∙ key in
+    let same = input_asked (g.R.Read.remaining c.args.reader.now) c.args.order c.in-None.is in
+    let here = subst (λ (ls : Option (List (List ℕ))). RunStands g.H.NodeHash.digest_of g.V.VufCheck.accepted g.S.Verifier.verified ls start old (λ (done : List Act). g.K.Keeper.has c.prepare.new.keeper (done ++ acts)) c.prepare.new.asker c.prepare.new.self.said.text.items c.prepare.new.self.state (g.W.Write.contents c.prepare.new.writer)) same ready in
+    let kept = c.ask_lines.ensures.stands start old acts here in
+    let back = subst (λ (ls : Option (List (List ℕ))). StateIsKept g.H.NodeHash.digest_of g.V.VufCheck.accepted g.S.Verifier.verified ls c.prepare.new.asker.key start old (λ (done : List Act). g.K.Keeper.has c.ask_lines.new.keeper (done ++ acts)) c.ask_lines.new.self.state (g.W.Write.contents c.ask_lines.new.writer)) (sym same) kept in
+    state-left g.H.NodeHash.digest_of g.V.VufCheck.accepted g.S.Verifier.verified lines c.args.keys.now.signing_key start old (λ (done : List Act). g.K.Keeper.has c.ask_lines.new.keeper (done ++ acts)) c.ask_lines.new.self.state (g.W.Write.contents c.ask_lines.new.writer)
+    (subst (λ (k : List ℕ). StateIsKept g.H.NodeHash.digest_of g.V.VufCheck.accepted g.S.Verifier.verified lines k start old (λ (done : List Act). g.K.Keeper.has c.ask_lines.new.keeper (done ++ acts)) c.ask_lines.new.self.state (g.W.Write.contents c.ask_lines.new.writer)) (key') (back))
