@@ -109,19 +109,21 @@ module _ (hash : List ℕ → List ℕ) (accepted verified : List ℕ → List �
     loaded-stands None said loaded sound keeps same-key none = absurd loaded
     loaded-stands (Some state) said (goes, same, marks, changes, within, once, at) (keyed, chain, is) keeps same-key none = (
       stored_by asker,
-      (subst (λ (k : List ℕ). Stands hash accepted verified lines k (stored_by asker) old (λ done. After (done ++ acts)) state.epoch state.memory (Some old) (standing asker.client asker.monitors.items said)) (sym same-key)
-          (subst (λ (known : Memory). Stands hash accepted verified lines key (stored_by asker) old (λ done. After (done ++ acts)) state.epoch known (Some old) (standing asker.client asker.monitors.items said)) (sym same) (record {
-            kept = loads-all (stored_by asker) (λ done. After (done ++ acts)) state.epoch (goes acts before) (within-fits asker.client.chain asker.known state.epoch within at) once;
-            owns = subst (λ (ms : List Monitor). Owns hash accepted verified (IsAsked lines) (IsSignedBy verified key) [] asker.client.chain.roots asker.known.marks asker.known.marks (standing asker.client ms said)) (sym none)
-                (owns-all (stored_by asker) asker.client said chain is.roots (all-self asker.client.chain.roots) within);
-          })),
-      sym marks,
       (
-        keyed ∙ sym same-key,
-        subst (λ (own : List SignedPromise). AllByRecursion (IsSignedBy verified asker.key) (asker.earlier.items ++ own)) (sym changes)
-            (subst (λ (own : List SignedPromise). AllByRecursion (IsSignedBy verified asker.key) own) (sym (append-nil asker.earlier.items))
-            (subst (λ (k : List ℕ). AllByRecursion (IsSignedBy verified k) asker.earlier.items) (keyed ∙ sym same-key) (kept-signed hash accepted verified asker.client is asker.earlier.items keeps))),
-      )),
+        subst (λ (k : List ℕ). Stands hash accepted verified lines k (stored_by asker) old (λ done. After (done ++ acts)) state.epoch state.memory (Some old) (standing asker.client asker.monitors.items said)) (sym same-key)
+            (subst (λ (known : Memory). Stands hash accepted verified lines key (stored_by asker) old (λ done. After (done ++ acts)) state.epoch known (Some old) (standing asker.client asker.monitors.items said)) (sym same) (record {
+              kept = loads-all (stored_by asker) (λ done. After (done ++ acts)) state.epoch (goes acts before) (within-fits asker.client.chain asker.known state.epoch within at) once;
+              owns = subst (λ (ms : List Monitor). Owns hash accepted verified (IsAsked lines) (IsSignedBy verified key) [] asker.client.chain.roots asker.known.marks asker.known.marks (standing asker.client ms said)) (sym none)
+                  (owns-all (stored_by asker) asker.client said chain is.roots (all-self asker.client.chain.roots) within);
+            })),
+        sym marks,
+        (
+          keyed ∙ sym same-key,
+          subst (λ (own : List SignedPromise). AllByRecursion (IsSignedBy verified asker.key) (asker.earlier.items ++ own)) (sym changes)
+              (subst (λ (own : List SignedPromise). AllByRecursion (IsSignedBy verified asker.key) own) (sym (append-nil asker.earlier.items))
+              (subst (λ (k : List ℕ). AllByRecursion (IsSignedBy verified k) asker.earlier.items) (keyed ∙ sym same-key) (kept-signed hash accepted verified asker.client is asker.earlier.items keeps))),
+        ),
+      ),
     )
 
   -- ---- a state that begins
@@ -191,7 +193,7 @@ module _ (hash : List ℕ → List ℕ) (accepted verified : List ℕ → List �
       → IfOk result (λ asker. StartsAtHead verified exchanged key stream asker.client after) → IfOk result (λ asker. (background_of asker ≡ new_background key token) × (asker.monitors.items ≡ []))
       → IfOk result (λ asker. asker.changes.items ≡ []) → HasBegun Before After first state
       → IfOk result (λ asker. IsFresh first → (lines : Option (List (List ℕ))) (old : List ℕ) (acts : List Act) → Before acts
-          → (start : Stored) × RunStands hash accepted verified lines start old (λ done. After (done ++ acts)) asker said state (Some old))
+      → (start : Stored) × RunStands hash accepted verified lines start old (λ done. After (done ++ acts)) asker said state (Some old))
   begun_run (Ok asker) exchanged stream after said token (frame, exchange, answers, starts) knows changes begun = λ fresh lines old acts has.
       begun-stands hash accepted verified lines key old Before After acts has asker said (ap (λ (b : Background). b.key) knows.0) token (knows.0, knows.1, changes) frame.body starts first state fresh begun
   begun_run (Err fault) exchanged stream after said token starts knows changes begun = tt

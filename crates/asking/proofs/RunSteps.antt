@@ -1,6 +1,5 @@
 -- How a run stands after each step of it.
 use Rattle.std.proofs.Common.{◌≡◌, ◌≢◌, ◌∙◌, ℕ, List, [], ◌∷◌, ◌++◌, map, Option, Some, None, Result, Ok, Err, ap, inl, inr, refl, subst, sym}
-
 use Rattle.std.specs.Prelude.{OnOk}
 use Rattle.std.specs.List.{AllByRecursion}
 use Rattle.std.specs.Io.KnownBytes.{Appends}
@@ -87,7 +86,7 @@ module _ {T H V S : Type 0} (hash : List ℕ → List ℕ) (accepted verified : 
     (before after : Asker H V S) (said said' : Said) (stream : T) (out : Option (List ℕ)) (reached : Scene T) (told : report_of said' ≡ reached.told) (client : after.client ≡ reached.client) (monitors : after.monitors.items ≡ reached.monitors) where
   -- a step that keeps what is owned
   stepped : (state : State) → ((text : List ℕ) (stored : List SignedRoot) (known : List Mark) → HasNoRepeat (map name_of before.marks.items) → Owns hash accepted verified (IsAsked lines) (IsSignedBy verified before.key) text stored before.marks.items known (scene before said stream)
-          → Owns hash accepted verified (IsAsked lines) (IsSignedBy verified before.key) text stored before.marks.items known reached)
+      → Owns hash accepted verified (IsAsked lines) (IsSignedBy verified before.key) text stored before.marks.items known reached)
       → Stands hash accepted verified lines before.key start old Happened state.epoch state.memory out (standing before.client before.monitors.items said.text.items) → start.known.marks ≡ before.marks.items
       → Stands hash accepted verified lines before.key start old Happened state.epoch state.memory out (standing after.client after.monitors.items said'.text.items)
   stepped state keeps stands same =

@@ -5,7 +5,7 @@ use Rattle.asking.specs.RunFaults.{AsksInput, IsFaultWith, IsFirstUnasked}
 use Rattle.asking.specs.Runs.{lines_asked}
 use Rattle.asking.proofs.Ended.{err_so}
 use Rattle.asking.proofs.Faulty.{saving_with}
-use Rattle.asking.proofs.Left.{asked_left, faults_left}
+use Rattle.asking.proofs.Left.{asked_left, faults_left, leaves_told}
 use Rattle.asking.proofs.run.Run.ask.Goals as goal
 
 pub returns-clause-runs : goal.returns-clause-runs
@@ -20,3 +20,8 @@ pub returns-clause-part : goal.returns-clause-part
 returns-clause-part g c =
     let part = rw (← c.leave.ensures.said) at c.ask_all-asked.ensures.part in
     err_so c.leave.result part
+
+pub returns-clause-kept : goal.returns-clause-kept
+returns-clause-kept g c = λ fresh old acts is has.
+    leaves_told g.H.NodeHash.digest_of g.V.VufCheck.accepted g.S.Verifier.verified (lines_asked (ask_values c.args.order).words (g.R.Read.remaining c.args.reader.now)) c.args.keys.now.signing_key old (g.K.Keeper.has c.ask_all-asked.new.keeper) (g.K.Keeper.has c.leave.new.keeper) acts
+    (g.W.Write.contents c.ask_all-asked.new.writer) c.ask_all-asked.new.self.state (c.ask_all-asked.ensures.kept fresh old acts is has) c.leave.ensures.hands
