@@ -30,7 +30,10 @@ pub use alarm::Alarm;
 pub use evidence_line::EvidenceLine;
 pub use item::Item;
 pub use kind::Kind;
-pub use laws::{line_is_one_item, text_is_one_memory, text_spells_memory};
+pub use laws::{
+    changed_memory_is_spelled, line_is_one_item, lines_extend_memory, memory_stays_sound,
+    memory_text_is_whole_lines, spelled_memory_is_sound, text_is_one_memory, text_spells_memory,
+};
 pub use mark::Mark;
 pub use memory::Memory;
 pub use promised::Promised;
