@@ -1,4 +1,4 @@
-ghost use Rattle.std.specs.Prelude.{◌≡◌, ◌++◌, ℕ, List, Result, Ok};
+ghost use Rattle.std.specs.Prelude.{◌≡◌, ◌++◌, [], ℕ, List, Result, Ok};
 ghost use Rattle.rootchain.specs.declared.signed_promise.SignedPromise.{SignedPromise};
 ghost use Rattle.memory.specs.declared.item.Item.{Item};
 ghost use Rattle.memory.specs.Leaving.{Leaves, Settles};
@@ -23,9 +23,10 @@ pub fn text_is_one_memory()
 {}
 
 /// Whole lines that spell a memory, with the lines of items that it takes behind them, spell the memory as it is then.
-/// They are whole lines again.
+/// They are whole lines again. Without lines it takes nothing.
 pub fn lines_extend_memory()
     ensures spells { (text : List ℕ) (before after : Memory) (news : List Item) → HasWholeLines text → Spells text (Ok before) → TakesAll news before after → Spells (text ++ items_text news) (Ok after) }
+    ensures none { (before after : Memory) (news : List Item) → TakesAll news before after → items_text news ≡ [] → after ≡ before }
     ensures whole { (text : List ℕ) (items : List Item) → HasWholeLines text → HasWholeLines (text ++ items_text items) }
 {}
 

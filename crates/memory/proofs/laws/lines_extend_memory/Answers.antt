@@ -1,3 +1,4 @@
+use Rattle.memory.proofs.Taken.{unchanged-taken}
 use Rattle.memory.proofs.WholeLines.{spells-more, whole-more}
 use Rattle.memory.proofs.laws.lines_extend_memory.Goals as goal
 
@@ -6,3 +7,6 @@ returns-clause-spells c = spells-more
 
 pub returns-clause-whole : goal.returns-clause-whole
 returns-clause-whole c = whole-more
+
+pub returns-clause-none : goal.returns-clause-none
+returns-clause-none c = unchanged-taken
