@@ -1,21 +1,18 @@
 -- What a memory holds has lines, and nothing is there twice.
-use Rattle.std.proofs.Common.{◌≡◌, ◌≢◌, ℕ, List, [], ◌∷◌, ◌++◌, map, Ok, sym, subst, inl, inr}
+use Rattle.std.proofs.Common.{◌≢◌, ℕ, List, [], ◌∷◌, ◌++◌, map, Ok, sym, subst, inl, inr}
 use Rattle.std.specs.List.{AllByRecursion}
 use Rattle.rootchain.specs.declared.signed_promise.SignedPromise.{SignedPromise}
 use Rattle.memory.specs.Leaving.{IsNeeded, Leaves, Settles}
 use Rattle.memory.specs.Lines.{IsSound}
-use Rattle.memory.specs.Lists.{HasNoRepeat, IsLeft, Puts}
+use Rattle.memory.specs.Lists.{Puts}
 use Rattle.memory.specs.Memories.{Memory, name_of, nothing, signed_of, HoldsEachOnce}
 use Rattle.memory.specs.Taking.{either, later, Takes}
-use Rattle.memory.specs.Texts.{memory_items, memory_text, HasWholeLines, HoldsSound, Spells, TakesAll}
+use Rattle.memory.specs.Texts.{HoldsSound, Spells, TakesAll}
 use Rattle.memory.specs.declared.alarm.Alarm.{Alarm as AlarmMade}
 use Rattle.memory.specs.declared.item.Item.{Item}
 use Rattle.memory.specs.declared.item.Item.TheVariants.{Promised, Watched, Alarm, Evidence}
-use Rattle.memory.specs.declared.mark.Mark.{Mark}
-use Rattle.memory.specs.declared.promised.Promised.{Promised as PromisedMade}
 use Rattle.memory.proofs.Left.{left-all, left-no_repeat, left-once}
 use Rattle.memory.proofs.OneMemory.{takes-once}
-use Rattle.memory.proofs.Recalled.{spells-memory}
 use Rattle.memory.proofs.Taken.{spelled-taken}
 
 -- ---- lists
@@ -63,12 +60,12 @@ parts : (memory : Memory) → HoldsSound memory → ArePartsSound memory
 parts memory sound =
     let behind = all-back IsSound (map Promised memory.promises) _ sound in
     let last = all-back IsSound (map Watched memory.marks) _ behind in (
-      record {
-        promises = all-front IsSound (map Promised memory.promises) _ sound;
-        marks = all-front IsSound (map Watched memory.marks) _ behind;
-        alarms = all-front IsSound (map Alarm memory.alarms) _ last;
-        evidence = all-back IsSound (map Alarm memory.alarms) _ last;
-      }
+    record {
+      promises = all-front IsSound (map Promised memory.promises) _ sound;
+      marks = all-front IsSound (map Watched memory.marks) _ behind;
+      alarms = all-front IsSound (map Alarm memory.alarms) _ last;
+      evidence = all-back IsSound (map Alarm memory.alarms) _ last;
+    }
     )
 
 whole : (memory : Memory) → ArePartsSound memory → HoldsSound memory

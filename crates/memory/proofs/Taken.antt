@@ -28,7 +28,7 @@ none-taken news before after none same = subst (λ (items : List Item). TakesAll
 -- ---- what is learned is taken
 
 -- if the item is sound
-learned-taken : (item : Item) (before after : Memory) (news : List Item) → IsSound item → LearnsOne item before news after → TakesAll news before after
+pub learned-taken : (item : Item) (before after : Memory) (news : List Item) → IsSound item → LearnsOne item before news after → TakesAll news before after
 learned-taken item before after news sound (takes, inl (same, none)) = none-taken news before after none same
 learned-taken item before after news sound (takes, inr (differs, one)) =
     subst (λ (items : List Item). TakesAll items before after) (sym one) (after, sound, takes, refl)

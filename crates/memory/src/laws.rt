@@ -26,7 +26,7 @@ pub fn text_is_one_memory()
 /// They are whole lines again. Without lines it takes nothing.
 pub fn lines_extend_memory()
     ensures spells { (text : List ℕ) (before after : Memory) (news : List Item) → HasWholeLines text → Spells text (Ok before) → TakesAll news before after → Spells (text ++ items_text news) (Ok after) }
-    ensures none { (before after : Memory) (news : List Item) → TakesAll news before after → items_text news ≡ [] → after ≡ before }
+    ensures none { (news : List Item) (before after : Memory) → TakesAll news before after → items_text news ≡ [] → after ≡ before }
     ensures whole { (text : List ℕ) (items : List Item) → HasWholeLines text → HasWholeLines (text ++ items_text items) }
 {}
 
@@ -48,8 +48,10 @@ pub fn memory_stays_sound()
     ensures settles { (name : List ℕ) (before after : Memory) → Settles name before after → HoldsSound before → HoldsSound after }
 {}
 
-/// If a text spells a memory, which takes items and then loses promises, the text of what is left spells it.
+/// If a text spells a memory, which takes items and then loses promises or alarms, the text of what is left spells it.
 pub fn changed_memory_is_spelled()
-    ensures { (text : List ℕ) (before learned after : Memory) (news : List Item) (tested : List SignedPromise) → Spells text (Ok before) → TakesAll news before learned
+    ensures leaves { (text : List ℕ) (before learned after : Memory) (news : List Item) (tested : List SignedPromise) → Spells text (Ok before) → TakesAll news before learned
         → Leaves tested learned after → Spells (memory_text after) (Ok after) }
+    ensures settles { (text : List ℕ) (before learned after : Memory) (news : List Item) (name : List ℕ) → Spells text (Ok before) → TakesAll news before learned
+        → Settles name learned after → Spells (memory_text after) (Ok after) }
 {}

@@ -7,7 +7,7 @@ ghost use Rattle.std.specs.List.{AllByRecursion};
 ghost use Rattle.rootchain.specs.Promises.{IsSignedPromise};
 ghost use Rattle.textio.specs.Lines.{lines_of};
 ghost use Rattle.memory.specs.Learning.{promised_item, AreGone, BeginsBehind, BeginsOne, Each, EachOfSome, IsFresh, IsOfKind, IsSince, LearnsLine, LearnsOne, MarksOne};
-ghost use Rattle.memory.specs.Lines.{IsNamed};
+ghost use Rattle.memory.specs.Lines.{IsNamed, IsSound};
 ghost use Rattle.memory.specs.Texts.{items_text, TakesAll};
 ghost use Rattle.memory.specs.declared.item.Item.{Item as Remembered};
 ghost use Rattle.memory.specs.declared.mark.Mark.{Mark as Marked};
@@ -30,6 +30,7 @@ impl Memory {
     /// `AllocError` if memory runs out. The memory then stays as it was, and the text may have grown.
     pub fn learn(&mut self, item: Item, lines: &mut Vec<u8>) -> Result<(), AllocError>
         ensures ok { OnOk result ((news : List Remembered) × LearnsOne item self.old news self.new × (lines.new.items ≡ lines.old.items ++ items_text news)) }
+        ensures takes { IsSound item → OnOk result ((news : List Remembered) × TakesAll news self.old self.new × (lines.new.items ≡ lines.old.items ++ items_text news)) }
         ensures named { IsNamed item }
         ensures err { OnErr result (self.new ≡ self.old) }
         ensures grows { StartsWith lines.new.items lines.old.items }

@@ -3,7 +3,8 @@
 //!
 //! Callers can rely on this: a line is of one item, and `read_item` reads exactly the lines of items. `take` changes the
 //! memory by one item, `leave` drops exactly the promises that nobody needs, `settle` exactly the alarms of a
-//! name. No item is kept twice.
+//! name. No item is kept twice. Whole lines that spell a memory, with those behind them that it appends as it learns, spell
+//! it as it is then, and so does the text of `write`.
 #![tactic(auto)]
 
 mod alarm;

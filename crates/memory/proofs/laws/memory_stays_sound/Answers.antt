@@ -1,4 +1,4 @@
-use Rattle.memory.proofs.Sound.{leaves-once, leaves-sound, settles-once, settles-sound, taken-once, taken-sound}
+use Rattle.memory.proofs.Sound.{leaves-sound, settles-sound, taken-sound}
 use Rattle.memory.proofs.laws.memory_stays_sound.Goals as goal
 
 pub returns-clause-takes : goal.returns-clause-takes
