@@ -14,7 +14,7 @@ use Rattle.memory.proofs.Learned.{text_grows, EachSoFar}
 
 -- ---- items
 
-taken-append : (xs ys : List Item) (a b c : Memory) → TakesAll xs a b → TakesAll ys b c → TakesAll (xs ++ ys) a c
+pub taken-append : (xs ys : List Item) (a b c : Memory) → TakesAll xs a b → TakesAll ys b c → TakesAll (xs ++ ys) a c
 taken-append [] ys a b c same rest = subst (λ (m : Memory). TakesAll ys m c) same rest
 taken-append (x ∷ xs) ys a b c (middle, sound, takes, more) rest = (middle, sound, takes, taken-append xs ys middle b c more rest)
 
