@@ -14,7 +14,7 @@ use Rattle.monitor.specs.Monitors.{Monitor}
 use Rattle.asking.specs.Owning.{IsHeld, IsOwn, Owns}
 use Rattle.asking.specs.Remembering.{AreWithin}
 use Rattle.asking.specs.Runs.{background_of, new_background, Background, IsSoundFor, KeepsAll}
-use Rattle.asking.specs.Saves.{stored_by, stored_nothing, Act, HasOneOfEachName, IsAsked, IsHeadEpoch, IsSignedBy, Loads, Stored}
+use Rattle.asking.specs.Saves.{stored_by, stored_nothing, Act, HasOneOfEachName, IsAsked, IsHeadEpoch, IsOwnPromise, Loads, Stored, WasOwn}
 use Rattle.asking.specs.Standing.{standing, Fits, HasBegun, HasFailed, HasLoaded, IsFresh, IsKept, IsLeft, IsReady, RunStands, Stands}
 use Rattle.wire.specs.Frames.{Frame}
 use Rattle.wire.specs.Requests.{RequestContent}
@@ -50,13 +50,13 @@ within-fits chain known epoch within (head, at, is) mark has =
 none-fits : (epoch : ℕ) → Fits epoch nothing
 none-fits epoch mark (place, within, at) = absurd (omega (arith, within))
 
--- what a client keeps is signed
-kept-signed : (hash : List ℕ → List ℕ) (accepted verified : List ℕ → List ℕ → List ℕ → Type 0) (client : Client) → IsSoundClient hash accepted verified client → (promises : List SignedPromise) → KeepsAll client promises
-    → AllByRecursion (IsSignedBy verified client.chain.key) promises
-kept-signed hash accepted verified client sound [] keeps = tt
-kept-signed hash accepted verified client sound (signed ∷ promises) keeps =
+-- what a client keeps is signed, and so the owner's own where it is remembered as that
+kept-own : (hash : List ℕ → List ℕ) (accepted verified : List ℕ → List ℕ → List ℕ → Type 0) (client : Client) → IsSoundClient hash accepted verified client → (lines : Option (List (List ℕ))) (known : Memory) (promises : List SignedPromise)
+    → KeepsAll client promises → AllByRecursion (WasOwn known) promises → AllByRecursion (IsOwnPromise verified client.chain.key lines known) promises
+kept-own hash accepted verified client sound lines known [] keeps own = tt
+kept-own hash accepted verified client sound lines known (signed ∷ promises) keeps own =
     let promised = all-in (IsPromised hash verified client.chain) client.promises signed sound.promises keeps.0 in
-    ((promised.form, promised.verifies), kept-signed hash accepted verified client sound promises keeps.1)
+    (((promised.form, promised.verifies), inl own.0), kept-own hash accepted verified client sound lines known promises keeps.1 own.1)
 
 module _ (hash : List ℕ → List ℕ) (accepted verified : List ℕ → List ℕ → List ℕ → Type 0) (lines : Option (List (List ℕ))) (key : List ℕ) (old : List ℕ) where
   -- where this is loaded, all that it says was watched was watched before
@@ -67,8 +67,8 @@ module _ (hash : List ℕ → List ℕ) (accepted verified : List ℕ → List �
     text = [];
     is-out = ap Some (sym (append-nil old));
     all = (refl, refl);
-    now = loads-kept hash accepted (IsAsked lines) (IsSignedBy verified key) start [];
-    next = loads-kept hash accepted (IsAsked lines) (IsSignedBy verified key) start [];
+    now = loads-kept hash accepted (IsAsked lines) (IsOwnPromise verified key lines start.known) start [];
+    next = loads-kept hash accepted (IsAsked lines) (IsOwnPromise verified key lines start.known) start [];
     early = λ mark has root among above below. among;
     low-start = fits;
     low = fits;
@@ -79,7 +79,7 @@ module _ (hash : List ℕ → List ℕ) (accepted verified : List ℕ → List �
 
   -- and a client without monitors stands so to it
   owns-all : (start : Stored) (client : Client) (said : List ℕ) → IsChain hash verified client.chain → AllByRecursion IsSignedRoot client.chain.roots → AllByRecursion (Contains client.chain.roots) start.roots → AreWithin client.chain start.known
-      → Owns hash accepted verified (IsAsked lines) (IsSignedBy verified key) [] start.roots start.known.marks start.known.marks (standing client [] said)
+      → Owns hash accepted verified (IsAsked lines) (IsOwnPromise verified key lines start.known) [] start.roots start.known.marks start.known.marks (standing client [] said)
   owns-all start client said chain formed stores within = record {
     chain = chain;
     formed = formed;
@@ -97,7 +97,7 @@ module _ (hash : List ℕ → List ℕ) (accepted verified : List ℕ → List �
   module _ {H V S : Type 0} (asker : Asker H V S) (Before After : List Act → Type 0) (acts : List Act) (before : Before acts) where
     pub loaded-kept : (state : Option State) → HasLoaded Before After asker state → IsLeft hash accepted verified lines key old (λ done. After (done ++ acts)) state (Some old)
     loaded-kept None loaded = absurd loaded
-    loaded-kept (Some state) (goes, same, marks, none, within, once, at) = inr (
+    loaded-kept (Some state) (goes, same, marks, none, within, once, at, own) = inr (
       stored_by asker,
       subst (λ (known : Memory). IsKept hash accepted verified lines key (stored_by asker) old (λ done. After (done ++ acts)) state.epoch known (Some old)) (sym same)
           (loads-all (stored_by asker) (λ done. After (done ++ acts)) state.epoch (goes acts before) (within-fits asker.client.chain asker.known state.epoch within at) once),
@@ -107,21 +107,22 @@ module _ (hash : List ℕ → List ℕ) (accepted verified : List ℕ → List �
         → (start : Stored) × RunStands hash accepted verified lines start old (λ done. After (done ++ acts)) asker said state (Some old)
     unfolding loads-all
     loaded-stands None said loaded sound keeps same-key none = absurd loaded
-    loaded-stands (Some state) said (goes, same, marks, changes, within, once, at) (keyed, chain, is) keeps same-key none = (
+    loaded-stands (Some state) said (goes, same, marks, changes, within, once, at, own) (keyed, chain, is) keeps same-key none = (
       stored_by asker,
       (
         subst (λ (k : List ℕ). Stands hash accepted verified lines k (stored_by asker) old (λ done. After (done ++ acts)) state.epoch state.memory (Some old) (standing asker.client asker.monitors.items said)) (sym same-key)
             (subst (λ (known : Memory). Stands hash accepted verified lines key (stored_by asker) old (λ done. After (done ++ acts)) state.epoch known (Some old) (standing asker.client asker.monitors.items said)) (sym same) (record {
               kept = loads-all (stored_by asker) (λ done. After (done ++ acts)) state.epoch (goes acts before) (within-fits asker.client.chain asker.known state.epoch within at) once;
-              owns = subst (λ (ms : List Monitor). Owns hash accepted verified (IsAsked lines) (IsSignedBy verified key) [] asker.client.chain.roots asker.known.marks asker.known.marks (standing asker.client ms said)) (sym none)
+              owns = subst (λ (ms : List Monitor). Owns hash accepted verified (IsAsked lines) (IsOwnPromise verified key lines asker.known) [] asker.client.chain.roots asker.known.marks asker.known.marks (standing asker.client ms said)) (sym none)
                   (owns-all (stored_by asker) asker.client said chain is.roots (all-self asker.client.chain.roots) within);
             })),
         sym marks,
         (
           keyed ∙ sym same-key,
-          subst (λ (own : List SignedPromise). AllByRecursion (IsSignedBy verified asker.key) (asker.earlier.items ++ own)) (sym changes)
-              (subst (λ (own : List SignedPromise). AllByRecursion (IsSignedBy verified asker.key) own) (sym (append-nil asker.earlier.items))
-              (subst (λ (k : List ℕ). AllByRecursion (IsSignedBy verified k) asker.earlier.items) (keyed ∙ sym same-key) (kept-signed hash accepted verified asker.client is asker.earlier.items keeps))),
+          subst (λ (new : List SignedPromise). AllByRecursion (IsOwnPromise verified asker.key lines asker.known) (asker.earlier.items ++ new)) (sym changes)
+              (subst (λ (all : List SignedPromise). AllByRecursion (IsOwnPromise verified asker.key lines asker.known) all) (sym (append-nil asker.earlier.items))
+              (subst (λ (k : List ℕ). AllByRecursion (IsOwnPromise verified k lines asker.known) asker.earlier.items) (keyed ∙ sym same-key)
+              (kept-own hash accepted verified asker.client is lines asker.known asker.earlier.items keeps own))),
         ),
       ),
     )
@@ -158,10 +159,11 @@ module _ (hash : List ℕ → List ℕ) (accepted verified : List ℕ → List �
       none-within : AreWithin asker.client.chain nothing
       none-within mark (place, within, at) = absurd (omega (arith, within))
 
-      begun-ready : IsReady verified asker
+      begun-ready : IsReady verified lines nothing asker
       begun-ready = (
         ap (λ (c : Client). c.chain.key) starts.2 ∙ sym same-key,
-        subst (λ (own : List SignedPromise). AllByRecursion (IsSignedBy verified asker.key) (own ++ asker.changes.items)) (sym earlier-none) (subst (λ (own : List SignedPromise). AllByRecursion (IsSignedBy verified asker.key) own) (sym knows.2) tt),
+        subst (λ (old : List SignedPromise). AllByRecursion (IsOwnPromise verified asker.key lines nothing) (old ++ asker.changes.items)) (sym earlier-none)
+            (subst (λ (new : List SignedPromise). AllByRecursion (IsOwnPromise verified asker.key lines nothing) new) (sym knows.2) tt),
       )
 
       pub begun-stands : (first state : Option State) → IsFresh first → HasBegun Before After first state → (start : Stored) × RunStands hash accepted verified lines start old (λ done. After (done ++ acts)) asker said state (Some old)
@@ -173,7 +175,7 @@ module _ (hash : List ℕ → List ℕ) (accepted verified : List ℕ → List �
           subst (λ (k : List ℕ). Stands hash accepted verified lines k stored_nothing old (λ done. After (done ++ acts)) now.epoch now.memory (Some old) (standing asker.client asker.monitors.items said)) (sym same-key)
               (subst (λ (known : Memory). Stands hash accepted verified lines key stored_nothing old (λ done. After (done ++ acts)) now.epoch known (Some old) (standing asker.client asker.monitors.items said)) (sym (same ∙ fresh.0)) (record {
                 kept = loads-all stored_nothing (λ done. After (done ++ acts)) now.epoch (goes acts before) (none-fits now.epoch) tt;
-                owns = subst (λ (ms : List Monitor). Owns hash accepted verified (IsAsked lines) (IsSignedBy verified key) [] [] [] [] (standing asker.client ms said)) (sym knows.1)
+                owns = subst (λ (ms : List Monitor). Owns hash accepted verified (IsAsked lines) (IsOwnPromise verified key lines nothing) [] [] [] [] (standing asker.client ms said)) (sym knows.1)
                     (owns-all stored_nothing asker.client said is-chain is-formed tt none-within);
               })),
           sym marks-none,

@@ -1,19 +1,20 @@
 -- What each single step keeps, every relation between the scenes of a run keeps.
-use Rattle.std.proofs.Common.{◌≡◌, ◌⊎◌, ℕ, zero, suc, true, false, Bool, List, [], ◌∷◌, ◌++◌, length, Option, Some, None, inl, inr, subst, sym}
+use Rattle.std.proofs.Common.{◌≡◌, ◌⊎◌, ℕ, zero, suc, true, false, Bool, List, [], ◌∷◌, ◌++◌, length, Option, Some, None, inl, inr, refl, subst, sym}
 use Rattle.rootchain.specs.declared.signed_promise.SignedPromise.{SignedPromise}
 use Rattle.rootchain.specs.declared.signed_root.SignedRoot.{SignedRoot}
 use Rattle.commands.specs.Operations.{Head}
 use Rattle.wire.specs.Frames.{Frame}
 use Rattle.wire.specs.Requests.{RequestContent, Query}
+use Rattle.play.specs.Scripts.{ScriptLine, Pass, Ask, Watch, Piece, End}
 use Rattle.memory.specs.Memories.{Memory}
 use Rattle.memory.specs.declared.mark.Mark.{Mark}
 use Rattle.monitor.specs.Monitors.{Monitor}
 use Rattle.asking.specs.Asking.{replied, AsksDirectory, AsksOn, AsksSome, CatchesSome, CatchesUp, FindsHead, FindsSome, GoesOnAbove, HearsOne, HearsOnly, HearsSome, Notes, StopsAsking}
 use Rattle.asking.specs.Checking.{HearsFrame}
 use Rattle.asking.specs.Following.{Follows, StopsAfter, StopsList, TakesList, TakesLists, TakesSome}
-use Rattle.asking.specs.Joining.{BeginsAt, BeginsSome, BeginsSomeAt, BeginsWatch, IsJoined, IsUnwatched, WatchesNew, WatchesSome}
+use Rattle.asking.specs.Joining.{own_for, BeginsAt, BeginsSome, BeginsSomeAt, BeginsWatch, IsJoined, IsUnwatched, WatchesNew, WatchesSome}
 use Rattle.asking.specs.Reports.{Report, told_after, unless_fine}
-use Rattle.asking.specs.Ending.{PreparesSome, TakesSomeNew}
+use Rattle.asking.specs.Ending.{DoesSomeNoting, PreparesSome, TakesSomeNew}
 use Rattle.asking.specs.Runs.{Background, Prepares, TakesNew}
 use Rattle.asking.specs.Scenes.{Scene}
 use Rattle.asking.specs.Visiting.{AsksDue, TestsAll, TestsFrom, TestsSome, Visits, VisitsOn}
@@ -218,25 +219,48 @@ module _ {T : Type 0} (hash : List ℕ → List ℕ) (accepted verified : List �
     finds_some-keeps token before after (inr (reply, inl (head, is, high, some))) = behind before after reply.stream (takes_some-keeps (replied reply) after some)
     finds_some-keeps token before after (inr (reply, inr catches)) = behind before after reply.stream (catches_up-keeps reply.epoch (replied reply) after catches)
 
--- ---- before the lines
+-- ---- before the lines, and a line
 
 module _ {T : Type 0} (hash : List ℕ → List ℕ) (accepted verified : List ℕ → List ℕ → List ℕ → Type 0) (exchanged : T → RequestContent → Frame → T → Type 0) (background : Background)
     {MayNote : List SignedPromise → Type 0} {MayJoin : List SignedPromise → List ℕ → Option (List ℕ) → Type 0} {Keeps : Scene T → Scene T → Type 0}
-    (each : EachKeeps hash accepted verified exchanged background.marks MayNote MayJoin Keeps) (HasNoState : Type 0) where
-  takes_new-keeps : (before after : Scene T) → TakesNew hash accepted verified exchanged background HasNoState before after → Keeps before after
-  takes_new-keeps before after (inl (none, count, follows)) = follows-keeps hash accepted verified exchanged background.marks each count before after follows
-  takes_new-keeps before after (inr (some, finds)) = finds_head-keeps hash accepted verified exchanged background.marks each background.token before after finds
+    (each : EachKeeps hash accepted verified exchanged background.marks MayNote MayJoin Keeps) where
+  module _ (HasNoState : Type 0) where
+    takes_new-keeps : (before after : Scene T) → TakesNew hash accepted verified exchanged background HasNoState before after → Keeps before after
+    takes_new-keeps before after (inl (none, count, follows)) = follows-keeps hash accepted verified exchanged background.marks each count before after follows
+    takes_new-keeps before after (inr (some, finds)) = finds_head-keeps hash accepted verified exchanged background.marks each background.token before after finds
 
-  pub prepares-keeps : (before after : Scene T) → Prepares hash accepted verified exchanged background HasNoState before after → Keeps before after
-  prepares-keeps before after (middle, takes, tests) = each.both before middle after (takes_new-keeps before middle takes) (tests_all-keeps hash accepted verified exchanged background.marks each middle after tests)
+    pub prepares-keeps : (before after : Scene T) → Prepares hash accepted verified exchanged background HasNoState before after → Keeps before after
+    prepares-keeps before after (middle, takes, tests) = each.both before middle after (takes_new-keeps before middle takes) (tests_all-keeps hash accepted verified exchanged background.marks each middle after tests)
 
-  takes_some_new-keeps : (before after : Scene T) → TakesSomeNew hash accepted verified exchanged background HasNoState before after → Keeps before after
-  takes_some_new-keeps before after (inl (none, inl some)) = takes_some-keeps hash accepted verified exchanged background.marks each before after some
-  takes_some_new-keeps before after (inl (none, inr (count, stops))) = stops-keep hash accepted verified exchanged background.marks each count before after stops
-  takes_some_new-keeps before after (inr (there, inl some)) = finds_some-keeps hash accepted verified exchanged background.marks each background.token before after some
-  takes_some_new-keeps before after (inr (there, inr stops)) = stops_asking-keeps hash accepted verified exchanged background.marks each background.token (Query Head) before after stops
+    takes_some_new-keeps : (before after : Scene T) → TakesSomeNew hash accepted verified exchanged background HasNoState before after → Keeps before after
+    takes_some_new-keeps before after (inl (none, inl some)) = takes_some-keeps hash accepted verified exchanged background.marks each before after some
+    takes_some_new-keeps before after (inl (none, inr (count, stops))) = stops-keep hash accepted verified exchanged background.marks each count before after stops
+    takes_some_new-keeps before after (inr (there, inl some)) = finds_some-keeps hash accepted verified exchanged background.marks each background.token before after some
+    takes_some_new-keeps before after (inr (there, inr stops)) = stops_asking-keeps hash accepted verified exchanged background.marks each background.token (Query Head) before after stops
 
-  pub prepares_some-keeps : (before after : Scene T) → PreparesSome hash accepted verified exchanged background HasNoState before after → Keeps before after
-  prepares_some-keeps before after (inl prepares) = prepares-keeps before after prepares
-  prepares_some-keeps before after (inr (inl some)) = takes_some_new-keeps before after some
-  prepares_some-keeps before after (inr (inr (middle, takes, tests))) = each.both before middle after (takes_new-keeps before middle takes) (tests_some-keeps hash accepted verified exchanged background.marks each middle after tests)
+    pub prepares_some-keeps : (before after : Scene T) → PreparesSome hash accepted verified exchanged background HasNoState before after → Keeps before after
+    prepares_some-keeps before after (inl prepares) = prepares-keeps before after prepares
+    prepares_some-keeps before after (inr (inl some)) = takes_some_new-keeps before after some
+    prepares_some-keeps before after (inr (inr (middle, takes, tests))) = each.both before middle after (takes_new-keeps before middle takes) (tests_some-keeps hash accepted verified exchanged background.marks each middle after tests)
+
+  -- ---- and what a line says
+
+  pub does_some-keeps : (said : ScriptLine) (noted noted' : List SignedPromise) (before after : Scene T) → MayNote noted'
+      → ((name : List ℕ) (given : Option (List ℕ)) → said ≡ Watch name given → MayJoin (own_for background.marks name background.earlier noted) name given)
+      → DoesSomeNoting hash accepted verified exchanged background said noted noted' before after → Keeps before after
+  does_some-keeps said noted noted' before after may join (inl (same, none)) = subst (Keeps before) (sym same) (each.none before)
+  does_some-keeps Pass noted noted' before after may join (inr (inl (same, none))) = subst (Keeps before) (sym same) (each.none before)
+  does_some-keeps Pass noted noted' before after may join (inr (inr part)) = absurd part
+  does_some-keeps (Ask asked) noted noted' before after may join (inr (inl asks)) =
+      asks_directory-keeps hash accepted verified exchanged background.marks each background.token asked noted noted' before after may asks
+  does_some-keeps (Ask asked) noted noted' before after may join (inr (inr (inl (stops, none)))) = stops_asking-keeps hash accepted verified exchanged background.marks each background.token asked before after stops
+  does_some-keeps (Ask asked) noted noted' before after may join (inr (inr (inr some))) =
+      asks_some-keeps hash accepted verified exchanged background.marks each background.token asked noted noted' before after may some
+  does_some-keeps (Watch name given) noted noted' before after may join (inr (inl (begins, none))) =
+      begins_watch-keeps hash accepted verified exchanged background.marks each background.key (own_for background.marks name background.earlier noted) name given (join name given refl) background.known before after begins
+  does_some-keeps (Watch name given) noted noted' before after may join (inr (inr (begins, none))) =
+      begins_some-keeps hash accepted verified exchanged background.marks each background.key (own_for background.marks name background.earlier noted) name given (join name given refl) background.known before after begins
+  does_some-keeps (Piece session piece) noted noted' before after may join (inr (inl none)) = absurd none
+  does_some-keeps (Piece session piece) noted noted' before after may join (inr (inr none)) = absurd none
+  does_some-keeps (End session) noted noted' before after may join (inr (inl none)) = absurd none
+  does_some-keeps (End session) noted noted' before after may join (inr (inr none)) = absurd none

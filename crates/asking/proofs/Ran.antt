@@ -69,14 +69,14 @@ module _ (hash : List ℕ → List ℕ) (accepted verified : List ℕ → List �
 
   -- a line that is taken is one of the input's
   pub leads_among : (start here : Scene T) (input old left left' now : Option (List ℕ)) (line : List ℕ) → LeadsOn start input old here left now → TakesWholeLine left left' true line → AsksAmong (option_map lines_of input) line
-  leads_among start here None old left left' now line leads takes = λ name given seen. tt
+  leads_among start here None old left left' now line leads takes = λ said seen. tt
   leads_among start here (Some all) old left left' now line leads takes =
       let (rest, at, done, parts, asks) = leads all refl in
       by rest done parts left' (subst (λ (l : Option (List ℕ)). TakesWholeLine l left' true line) at takes)
     where
       by : (rest : List ℕ) (done : List (List ℕ)) → lines_of all ≡ done ++ lines_of rest → (left' : Option (List ℕ)) → TakesWholeLine (Some rest) left' true line → AsksAmong (Some (lines_of all)) line
       by rest done parts None bad = absurd bad
-      by rest done parts (Some rest') is = λ name given seen.
+      by rest done parts (Some rest') is = λ said seen.
           (line, subst (λ (ls : List (List ℕ)). Contains ls line) (sym (parts ∙ ap (λ (ls : List (List ℕ)). done ++ ls) is)) (Contains-append_right done (line ∷ lines_of rest') line (0, omega arith, refl)), seen)
 
   -- one line more is asked
@@ -213,4 +213,4 @@ input_asked input order none =
     subst (λ (command : Option (Bor (List ℕ))). lines_asked (option_map (λ text. text.now) command ∷ option_map (λ text. text.now) order.first ∷ option_map (λ text. text.now) order.second ∷ []) input ≡ option_map lines_of input) (sym none) refl
 
 pub words_among : (lines : Option (List (List ℕ))) (line line' : List ℕ) → lines ≡ Some (line ∷ []) → line' ≡ line → AsksAmong lines line'
-words_among lines line line' is same = subst (λ (l : List ℕ). AsksAmong lines l) (sym same) (subst (λ (ls : Option (List (List ℕ))). AsksAmong ls line) (sym is) (λ name given seen. (line, (0, omega arith, refl), seen)))
+words_among lines line line' is same = subst (λ (l : List ℕ). AsksAmong lines l) (sym same) (subst (λ (ls : Option (List (List ℕ))). AsksAmong ls line) (sym is) (λ said seen. (line, (0, omega arith, refl), seen)))

@@ -1,17 +1,24 @@
 -- What lines of earlier runs have of the owner's own changes.
-use Rattle.std.proofs.Common.{◌≡◌, ◌∙◌, ℕ, Bool, true, false, List, [], ◌∷◌, ◌++◌, Ok, refl, sym, ap, subst, append_assoc, append-nil}
+use Rattle.std.proofs.Common.{◌≡◌, ◌∙◌, ℕ, ◌+◌, ◌||◌, Bool, true, false, List, [], ◌∷◌, ◌++◌, Contains, Result, Ok, Err, refl, sym, ap, arith, inl, inr, subst, append_assoc, append-nil}
+use Rattle.std.proofs.lemmas.List.Elements.{Contains-append_cases, Contains-append_left, Contains-append_right, Contains-push, Contains-push_cases}
+use Rattle.textio.specs.Lines.{lines_of}
 use Rattle.std.specs.Prelude.{if◌then◌else◌}
 use Rattle.std.specs.List.{AllByRecursion}
 use Rattle.rootchain.specs.Promises.{IsSignedPromise}
 use Rattle.rootchain.specs.declared.signed_promise.SignedPromise.{SignedPromise}
 use Rattle.memory.specs.Lines.{IsSound}
-use Rattle.memory.specs.Memories.{Memory}
-use Rattle.memory.specs.Texts.{Spells}
+use Rattle.memory.specs.Memories.{nothing, Memory}
+use Rattle.memory.specs.Taking.{either, Takes}
+use Rattle.memory.specs.Texts.{Recalls, Spells}
 use Rattle.memory.specs.declared.item.Item.{Item}
 use Rattle.memory.specs.declared.item.Item.TheVariants.{Promised, Watched, Alarm, Evidence}
+use Rattle.memory.specs.declared.promised.Promised.{Promised as PromisedMade}
+use Rattle.memory.specs.declared.read_fault.ReadFault.{ReadFault}
+use Rattle.memory.proofs.OneItem.{one_item}
 use Rattle.memory.proofs.OneMemory.{one_memory}
 use Rattle.asking.specs.Remembering.{own_of, AreOwnOf, IsOwnOf}
 use Rattle.asking.specs.Runs.{IsSameAsker}
+use Rattle.asking.specs.Saves.{WasOwn}
 use Rattle.asking.specs.declared.asker.Asker.{Asker}
 
 -- one line more
@@ -77,3 +84,91 @@ same_on first middle last (key, token, monitors, chain) (key', token', monitors'
 -- a text spells one memory
 pub one_spelled : (text : List ℕ) (one other : Memory) → Spells text (Ok one) → Spells text (Ok other) → one ≡ other
 one_spelled text one other spells also = let same = one_memory text (Ok one) (Ok other) spells also in cc
+
+-- ---- each of them is remembered as that
+
+-- one more is remembered
+stays-own : (item : Item) (before after : Memory) (signed : SignedPromise) → Takes item before after → WasOwn before signed → WasOwn after signed
+stays-own (Promised new) before after signed (inl (front, kept, behind, was, same, be), is) (promised, has, this, own) =
+    elim (Contains-append_cases front (kept ∷ behind) promised (subst (λ (all : List PromisedMade). Contains all promised) was has)) [
+      | inl early ↦ (promised, there (Contains-append_left front (either kept new ∷ behind) promised early), this, own)
+      | inr late ↦ elim (Contains-append_cases (kept ∷ []) behind promised late) [
+        | inl one ↦ elim (Contains-push_cases [] kept promised one) [
+          | inl none ↦ absurd (omega (arith, none.1))
+          | inr at ↦ (
+            either kept new,
+            there (Contains-append_right front (either kept new ∷ behind) (either kept new) (0, omega arith, refl)),
+            ap (λ (p : PromisedMade). p.signed) at ∙ this,
+            ap (λ (b : Bool). b || new.is_own) (ap (λ (p : PromisedMade). p.is_own) at ∙ own),
+          )
+        ]
+        | inr more ↦ (promised, there (Contains-append_right front (either kept new ∷ behind) promised (Contains-append_right (either kept new ∷ []) behind promised more)), this, own)
+      ]
+    ]
+  where
+    there : {p : PromisedMade} → Contains (front ++ either kept new ∷ behind) p → Contains after.promises p
+    there {p} at = subst (λ (all : List PromisedMade). Contains all p) (sym be) at
+stays-own (Promised new) before after signed (inr (none, be), is) (promised, has, this, own) =
+    (promised, subst (λ (all : List PromisedMade). Contains all promised) (sym be) (Contains-append_left before.promises (new ∷ []) promised has), this, own)
+stays-own (Watched mark) before after signed (puts, is) (promised, has, this, own) = (promised, subst (λ (memory : Memory). Contains memory.promises promised) (sym is) has, this, own)
+stays-own (Alarm alarm) before after signed (puts, is) (promised, has, this, own) = (promised, subst (λ (memory : Memory). Contains memory.promises promised) (sym is) has, this, own)
+stays-own (Evidence line) before after signed (puts, is) (promised, has, this, own) = (promised, subst (λ (memory : Memory). Contains memory.promises promised) (sym is) has, this, own)
+
+or-true : (b : Bool) → b || true ≡ true
+or-true true = refl
+or-true false = refl
+
+-- one that is taken is
+takes-own : (new : PromisedMade) (before after : Memory) → Takes (Promised new) before after → new.is_own ≡ true → WasOwn after new.signed
+takes-own new before after (inl (front, kept, behind, was, same, be), is) own = (
+  either kept new,
+  subst (λ (all : List PromisedMade). Contains all (either kept new)) (sym be) (Contains-append_right front (either kept new ∷ behind) (either kept new) (0, omega arith, refl)),
+  same,
+  ap (λ (b : Bool). kept.is_own || b) own ∙ or-true kept.is_own,
+)
+takes-own new before after (inr (none, be), is) own = (new, subst (λ (all : List PromisedMade). Contains all new) (sym be) (Contains-push before.promises new), refl, own)
+
+own-if : (memory : Memory) (is_own : Bool) (signed : SignedPromise) → (is_own ≡ true → WasOwn memory signed) → AllByRecursion (WasOwn memory) (if is_own then signed ∷ [] else [])
+own-if memory true signed is = (is refl, tt)
+own-if memory false signed is = tt
+
+own-item : (item : Item) (before after : Memory) → Takes item before after → AllByRecursion (WasOwn after) (own_of item)
+own-item (Promised new) before after takes = own-if after new.is_own new.signed (takes-own new before after takes)
+own-item (Watched mark) before after takes = tt
+own-item (Alarm alarm) before after takes = tt
+own-item (Evidence line) before after takes = tt
+
+one-read : (one other : Memory) → ◌≡◌ {A = Result Memory ReadFault} (Ok one) (Ok other) → one ≡ other
+one-read one other e = cc
+
+none-read : (one : Memory) (fault : ReadFault) → ◌≡◌ {A = Result Memory ReadFault} (Ok one) (Err fault) → ⊥
+none-read one fault e = cc
+
+recalls-stay : (number : ℕ) (lines : List (List ℕ)) (before memory : Memory) (signed : SignedPromise) → Recalls number lines before (Ok memory) → WasOwn before signed → WasOwn memory signed
+recalls-stay number [] before memory signed is own = subst (λ (m : Memory). WasOwn m signed) (sym (one-read memory before is)) own
+recalls-stay number ([] ∷ lines) before memory signed recalls own = recalls-stay (number + 1) lines before memory signed recalls own
+recalls-stay number ((byte ∷ line) ∷ lines) before memory signed (inl (item, after, is, takes, recalls)) own = recalls-stay (number + 1) lines after memory signed recalls (stays-own item before after signed takes own)
+recalls-stay number ((byte ∷ line) ∷ lines) before memory signed (inr (none, is)) own = absurd (none-read memory _ is)
+
+all-stay : (number : ℕ) (lines : List (List ℕ)) (before memory : Memory) (own : List SignedPromise) → Recalls number lines before (Ok memory) → AllByRecursion (WasOwn before) own → AllByRecursion (WasOwn memory) own
+all-stay number lines before memory [] recalls all = tt
+all-stay number lines before memory (signed ∷ own) recalls all = (recalls-stay number lines before memory signed recalls all.0, all-stay number lines before memory own recalls all.1)
+
+own-append : (memory : Memory) (some more : List SignedPromise) → AllByRecursion (WasOwn memory) some → AllByRecursion (WasOwn memory) more → AllByRecursion (WasOwn memory) (some ++ more)
+own-append memory [] more none all = all
+own-append memory (signed ∷ some) more (is, rest) all = (is, own-append memory some more rest all)
+
+recalls-own : (number : ℕ) (lines : List (List ℕ)) (before memory : Memory) (own : List SignedPromise) → Recalls number lines before (Ok memory) → AreOwnOf lines own → AllByRecursion (WasOwn memory) own
+recalls-own number [] before memory own is none = subst (AllByRecursion (WasOwn memory)) (sym none) tt
+recalls-own number ([] ∷ lines) before memory own recalls (first, rest, none, more, whole) =
+    let rest-own = recalls-own (number + 1) lines before memory rest recalls more in
+    subst (AllByRecursion (WasOwn memory)) (sym (whole ∙ ap (λ (all : List SignedPromise). all ++ rest) none)) rest-own
+recalls-own number ((byte ∷ line) ∷ lines) before memory own (inl (item, after, is, takes, recalls)) (first, rest, (read, also, here), more, whole) =
+    let one : first ≡ own_of item = here ∙ ap own_of (one_item (byte ∷ line) read item also is) in
+    let first-own = all-stay (number + 1) lines after memory first recalls (subst (AllByRecursion (WasOwn after)) (sym one) (own-item item before after takes)) in
+    subst (AllByRecursion (WasOwn memory)) (sym whole) (own-append memory first rest first-own (recalls-own (number + 1) lines after memory rest recalls more))
+recalls-own number ((byte ∷ line) ∷ lines) before memory own (inr (none, is)) are = absurd (none-read memory _ is)
+
+pub remembered_own : (text : List ℕ) (memory : Memory) (before after : List SignedPromise) → Spells text (Ok memory) → (own : List SignedPromise) × AreOwnOf (lines_of text) own × (after ≡ before ++ own)
+    → AllByRecursion (WasOwn memory) before → AllByRecursion (WasOwn memory) after
+remembered_own text memory before after spells (own, are, grown) all = subst (AllByRecursion (WasOwn memory)) (sym grown) (own-append memory before own all (recalls-own 1 (lines_of text) nothing memory own spells are))

@@ -18,7 +18,7 @@ use Rattle.asking.specs.Joining.{own_for}
 use Rattle.asking.specs.Owning.{Owns}
 use Rattle.asking.specs.Reports.{report_of, Report}
 use Rattle.asking.specs.Runs.{background_of, emptied, Background}
-use Rattle.asking.specs.Saves.{stored_after, Act, IsAsked, IsSignedBy, Stored}
+use Rattle.asking.specs.Saves.{stored_after, Act, IsAsked, IsOwnPromise, IsSaid, Stored}
 use Rattle.asking.specs.Scenes.{scene, Scene}
 use Rattle.asking.specs.Standing.{standing, IsKept, IsReady, RunStands, Stands, StateIsKept, StateStands}
 use Rattle.asking.specs.declared.ask_fault.AskFault.{AskFault}
@@ -27,9 +27,9 @@ use Rattle.asking.specs.declared.ask_fault.RunFault.{RunFault}
 use Rattle.asking.specs.declared.asker.Asker.{Asker}
 use Rattle.asking.specs.declared.said.Said.{Said}
 use Rattle.asking.specs.declared.state.State.{State}
-use Rattle.asking.proofs.EveryStep.{asks_directory-keeps, asks_some-keeps, begins_some-keeps, begins_watch-keeps, prepares_some-keeps, stops_asking-keeps}
+use Rattle.asking.proofs.EveryStep.{does_some-keeps, prepares_some-keeps}
 use Rattle.asking.proofs.Keeping.{was_asked}
-use Rattle.asking.proofs.NotedOwn.{prepares_some_key, signs_for, some_signs}
+use Rattle.asking.proofs.NotedOwn.{prepares_some_key, some_key, some_notes, NotesOwn}
 use Rattle.asking.proofs.OwnedScenes.{each-owned, own_for-own, owns-like}
 
 front-all : {A : Type 0} (P : A → Type 0) (xs ys : List A) → AllByRecursion P (xs ++ ys) → AllByRecursion P xs
@@ -44,49 +44,34 @@ join-all : {A : Type 0} (P : A → Type 0) (xs ys : List A) → AllByRecursion P
 join-all P [] ys one other = other
 join-all P (x ∷ xs) ys one other = (one.0, join-all P xs ys one.1 other)
 
-module _ {T : Type 0} (hash : List ℕ → List ℕ) (accepted verified : List ℕ → List ℕ → List ℕ → Type 0) (exchanged : T → RequestContent → Frame → T → Type 0) (lines : Option (List (List ℕ))) (key : List ℕ) where
+-- what is noted is the owner's own, where what was noted before is, and one of the lines says what is asked
+own-noted : (verified : List ℕ → List ℕ → List ℕ → Type 0) (key : List ℕ) (lines : Option (List (List ℕ))) (known : Memory) (said : ScriptLine) (noted noted' : List SignedPromise) → NotesOwn verified key said noted noted' → IsSaid lines said
+    → AllByRecursion (IsOwnPromise verified key lines known) noted → AllByRecursion (IsOwnPromise verified key lines known) noted'
+own-noted verified key lines known said noted noted' (inl same) asked all = subst (AllByRecursion (IsOwnPromise verified key lines known)) (sym same) all
+own-noted verified key lines known said noted noted' (inr (signed, by, (verb, is), grown)) asked all = subst (AllByRecursion (IsOwnPromise verified key lines known)) (sym grown)
+    (join-all (IsOwnPromise verified key lines known) noted (signed ∷ []) all ((by, inr (verb, subst (IsSaid lines) is asked)), tt))
+
+module _ {T : Type 0} (hash : List ℕ → List ℕ) (accepted verified : List ℕ → List ℕ → List ℕ → Type 0) (exchanged : T → RequestContent → Frame → T → Type 0) (lines : Option (List (List ℕ))) (Own : SignedPromise → Type 0) where
   abbrev OwnsNow : {U : Type 0} → List ℕ → List SignedRoot → List Mark → List Mark → Scene U → Type 0
-  OwnsNow = Owns hash accepted verified (IsAsked lines) (IsSignedBy verified key)
+  OwnsNow = Owns hash accepted verified (IsAsked lines) Own
 
   module _ (background : Background) (text : List ℕ) (stored : List SignedRoot) (known : List Mark) (once : HasNoRepeat (map name_of background.marks)) where
     -- what is asked of a line, wholly or in part
-    line-owned : (said : ScriptLine) (noted noted' : List SignedPromise) (before after : Scene T) → AllByRecursion (IsSignedBy verified key) background.earlier → AllByRecursion (IsSignedBy verified key) noted
-        → AllByRecursion (IsSignedBy verified key) noted' → ((name : List ℕ) (given : Option (List ℕ)) → said ≡ Watch name given → IsAsked lines name given)
+    line-owned : (said : ScriptLine) (noted noted' : List SignedPromise) (before after : Scene T) → AllByRecursion Own background.earlier → AllByRecursion Own noted → AllByRecursion Own noted' → IsSaid lines said
         → DoesSomeNoting hash accepted verified exchanged background said noted noted' before after → OwnsNow text stored background.marks known before → OwnsNow text stored background.marks known after
-    line-owned said noted noted' before after old new new' asked (inl (same, none)) owns = subst (OwnsNow text stored background.marks known) (sym same) owns
-    line-owned Pass noted noted' before after old new new' asked (inr (inl (same, none))) owns = subst (OwnsNow text stored background.marks known) (sym same) owns
-    line-owned Pass noted noted' before after old new new' asked (inr (inr part)) owns = absurd part
-    line-owned (Ask wanted) noted noted' before after old new new' asked (inr (inl asks)) owns =
-        asks_directory-keeps hash accepted verified exchanged background.marks (each-owned hash accepted verified (IsAsked lines) (IsSignedBy verified key) background.marks text stored known exchanged once)
-        background.token wanted noted noted' before after new' asks owns
-    line-owned (Ask wanted) noted noted' before after old new new' asked (inr (inr (inl (stops, none)))) owns =
-        stops_asking-keeps hash accepted verified exchanged background.marks (each-owned hash accepted verified (IsAsked lines) (IsSignedBy verified key) background.marks text stored known exchanged once)
-        background.token wanted before after stops owns
-    line-owned (Ask wanted) noted noted' before after old new new' asked (inr (inr (inr some))) owns =
-        asks_some-keeps hash accepted verified exchanged background.marks (each-owned hash accepted verified (IsAsked lines) (IsSignedBy verified key) background.marks text stored known exchanged once)
-        background.token wanted noted noted' before after new' some owns
-    line-owned (Watch name given) noted noted' before after old new new' asked (inr (inl (begins, none))) owns =
-        begins_watch-keeps hash accepted verified exchanged background.marks (each-owned hash accepted verified (IsAsked lines) (IsSignedBy verified key) background.marks text stored known exchanged once)
-        background.key (own_for background.marks name background.earlier noted) name given (asked name given refl, own_for-own (IsSignedBy verified key) background.marks name background.earlier noted old new)
-        background.known before after begins owns
-    line-owned (Watch name given) noted noted' before after old new new' asked (inr (inr (begins, none))) owns =
-        begins_some-keeps hash accepted verified exchanged background.marks (each-owned hash accepted verified (IsAsked lines) (IsSignedBy verified key) background.marks text stored known exchanged once)
-        background.key (own_for background.marks name background.earlier noted) name given (asked name given refl, own_for-own (IsSignedBy verified key) background.marks name background.earlier noted old new)
-        background.known before after begins owns
-    line-owned (Piece session piece) noted noted' before after old new new' asked (inr (inl none)) owns = absurd none
-    line-owned (Piece session piece) noted noted' before after old new new' asked (inr (inr none)) owns = absurd none
-    line-owned (End session) noted noted' before after old new new' asked (inr (inl none)) owns = absurd none
-    line-owned (End session) noted noted' before after old new new' asked (inr (inr none)) owns = absurd none
+    line-owned said noted noted' before after old new new' asked does owns =
+        does_some-keeps hash accepted verified exchanged background (each-owned hash accepted verified (IsAsked lines) Own background.marks text stored known exchanged once) said noted noted' before after new'
+        (λ name given is. (subst (IsSaid lines) is asked, own_for-own Own background.marks name background.earlier noted old new)) does owns
 
     prepared-owned : (HasNoState : Type 0) (before after : Scene T) → PreparesSome hash accepted verified exchanged background HasNoState before after → OwnsNow text stored background.marks known before → OwnsNow text stored background.marks known after
     prepared-owned HasNoState before after prepares owns =
-        prepares_some-keeps hash accepted verified exchanged background (each-owned hash accepted verified (IsAsked lines) (IsSignedBy verified key) background.marks text stored known exchanged once) HasNoState before after prepares owns
+        prepares_some-keeps hash accepted verified exchanged background (each-owned hash accepted verified (IsAsked lines) Own background.marks text stored known exchanged once) HasNoState before after prepares owns
 
 module _ {T H V S : Type 0} (hash : List ℕ → List ℕ) (accepted verified : List ℕ → List ℕ → List ℕ → Type 0) (exchanged : T → RequestContent → Frame → T → Type 0) (lines : Option (List (List ℕ))) (start : Stored) (old : List ℕ) (Happened : List Act → Type 0)
     (before after : Asker H V S) (said said' : Said) (stream : T) (out : Option (List ℕ)) (reached : Scene T) (told : report_of said' ≡ reached.told) (client : after.client ≡ reached.client) (monitors : after.monitors.items ≡ reached.monitors) where
   -- a step that keeps what is owned
-  stepped : (state : State) → ((text : List ℕ) (stored : List SignedRoot) (known : List Mark) → HasNoRepeat (map name_of before.marks.items) → Owns hash accepted verified (IsAsked lines) (IsSignedBy verified before.key) text stored before.marks.items known (scene before said stream)
-      → Owns hash accepted verified (IsAsked lines) (IsSignedBy verified before.key) text stored before.marks.items known reached)
+  stepped : (state : State) → ((text : List ℕ) (stored : List SignedRoot) (known : List Mark) → HasNoRepeat (map name_of before.marks.items) → Owns hash accepted verified (IsAsked lines) (IsOwnPromise verified before.key lines start.known) text stored before.marks.items known (scene before said stream)
+      → Owns hash accepted verified (IsAsked lines) (IsOwnPromise verified before.key lines start.known) text stored before.marks.items known reached)
       → Stands hash accepted verified lines before.key start old Happened state.epoch state.memory out (standing before.client before.monitors.items said.text.items) → start.known.marks ≡ before.marks.items
       → Stands hash accepted verified lines before.key start old Happened state.epoch state.memory out (standing after.client after.monitors.items said'.text.items)
   stepped state keeps stands same =
@@ -94,11 +79,11 @@ module _ {T H V S : Type 0} (hash : List ℕ → List ℕ) (accepted verified : 
       let stored = (stored_after stands.kept.acts).roots in
       let known = state.memory.marks in
       let once = subst (λ (ms : List Mark). HasNoRepeat (map name_of ms)) same stands.kept.begun in
-      let here = owns-like hash accepted verified (IsAsked lines) (IsSignedBy verified before.key) start.known.marks text stored known (standing before.client before.monitors.items said.text.items) (scene before said stream) refl refl refl stands.owns in
-      let now = keeps text stored known once (subst (λ (ms : List Mark). Owns hash accepted verified (IsAsked lines) (IsSignedBy verified before.key) text stored ms known (scene before said stream)) same here) in
-      let back = subst (λ (ms : List Mark). Owns hash accepted verified (IsAsked lines) (IsSignedBy verified before.key) text stored ms known reached) (sym same) now in record {
+      let here = owns-like hash accepted verified (IsAsked lines) (IsOwnPromise verified before.key lines start.known) start.known.marks text stored known (standing before.client before.monitors.items said.text.items) (scene before said stream) refl refl refl stands.owns in
+      let now = keeps text stored known once (subst (λ (ms : List Mark). Owns hash accepted verified (IsAsked lines) (IsOwnPromise verified before.key lines start.known) text stored ms known (scene before said stream)) same here) in
+      let back = subst (λ (ms : List Mark). Owns hash accepted verified (IsAsked lines) (IsOwnPromise verified before.key lines start.known) text stored ms known reached) (sym same) now in record {
         kept = stands.kept;
-        owns = owns-like hash accepted verified (IsAsked lines) (IsSignedBy verified before.key) start.known.marks text stored known reached (standing after.client after.monitors.items said'.text.items)
+        owns = owns-like hash accepted verified (IsAsked lines) (IsOwnPromise verified before.key lines start.known) start.known.marks text stored known reached (standing after.client after.monitors.items said'.text.items)
             (ap (λ (c : Client). c.chain) client) monitors (ap (λ (r : Report). r.lines) told) back;
       }
 
@@ -107,52 +92,54 @@ module _ {T H V S : Type 0} (hash : List ℕ → List ℕ) (accepted verified : 
       → RunStands hash accepted verified lines start old Happened before said.text.items state out → StateStands hash accepted verified lines before.key start old Happened state out (standing after.client after.monitors.items said'.text.items)
   prepared-stands HasNoState None prepares stands = stands.0
   prepared-stands HasNoState (Some state) prepares (stands, same, ready) =
-      stepped state (λ text stored known once owns. prepared-owned hash accepted verified exchanged lines before.key (background_of before) text stored known once HasNoState (scene before said stream) reached prepares owns) stands same
+      stepped state (λ text stored known once owns. prepared-owned hash accepted verified exchanged lines (IsOwnPromise verified before.key lines start.known) (background_of before) text stored known once HasNoState (scene before said stream) reached prepares owns) stands same
+
+  -- what is noted of a line is the owner's own
+  noted-ready : (line : ScriptLine) → IsSaid lines line → DoesSomeNoting hash accepted verified exchanged (background_of before) line before.changes.items after.changes.items (scene before said stream) reached → IsReady verified lines start.known before
+      → AllByRecursion (IsOwnPromise verified before.key lines start.known) after.changes.items
+  noted-ready line asked does (keyed, ready) = own-noted verified before.key lines start.known line before.changes.items after.changes.items
+      (subst (λ (k : List ℕ). NotesOwn verified k line before.changes.items after.changes.items) keyed (some_notes hash accepted verified exchanged (background_of before) line before.changes.items after.changes.items (scene before said stream) reached does))
+      asked (back-all (IsOwnPromise verified before.key lines start.known) before.earlier.items before.changes.items ready)
 
   -- what the line says is asked
-  pub line-stands : (line : ScriptLine) (state : Option State) → ((name : List ℕ) (given : Option (List ℕ)) → line ≡ Watch name given → IsAsked lines name given)
+  pub line-stands : (line : ScriptLine) (state : Option State) → IsSaid lines line
       → DoesSomeNoting hash accepted verified exchanged (background_of before) line before.changes.items after.changes.items (scene before said stream) reached
       → RunStands hash accepted verified lines start old Happened before said.text.items state out → StateStands hash accepted verified lines before.key start old Happened state out (standing after.client after.monitors.items said'.text.items)
   line-stands line None asked does stands = stands.0
-  line-stands line (Some state) asked does (stands, same, (keyed, ready)) =
-      let signs = signs_for hash accepted verified exchanged before.key before.changes.items after.changes.items (scene before said stream) reached
-      (some_signs hash accepted verified exchanged (background_of before) line before.changes.items after.changes.items (scene before said stream) reached does) keyed in
-      let new = back-all (IsSignedBy verified before.key) before.earlier.items before.changes.items ready in
-      stepped state (λ text stored known once owns. line-owned hash accepted verified exchanged lines before.key (background_of before) text stored known once line before.changes.items after.changes.items (scene before said stream) reached
-      (front-all (IsSignedBy verified before.key) before.earlier.items before.changes.items ready) new (signs.1 new) asked does owns) stands same
+  line-stands line (Some state) asked does (stands, same, ready) =
+      let Own = IsOwnPromise verified before.key lines start.known in
+      stepped state (λ text stored known once owns. line-owned hash accepted verified exchanged lines Own (background_of before) text stored known once line before.changes.items after.changes.items (scene before said stream) reached
+      (front-all Own before.earlier.items before.changes.items ready.1) (back-all Own before.earlier.items before.changes.items ready.1) (noted-ready line asked does ready) asked does owns) stands same
 
   -- ---- and it is ready for the next
 
   pub prepared-ready : (HasNoState : Type 0) → PreparesSome hash accepted verified exchanged (background_of before) HasNoState (scene before said stream) reached → background_of after ≡ background_of before → after.changes ≡ before.changes
-      → IsReady verified before → IsReady verified after
+      → IsReady verified lines start.known before → IsReady verified lines start.known after
   prepared-ready HasNoState prepares stays same (keyed, ready) =
       let key = ap (λ (b : Background). b.key) stays in
       let earlier = ap (λ (b : Background). b.earlier) stays in (
         ap (λ (c : Client). c.chain.key) client ∙ prepares_some_key hash accepted verified exchanged (background_of before) HasNoState (scene before said stream) reached prepares ∙ keyed ∙ sym key,
-        subst (λ (k : List ℕ). AllByRecursion (IsSignedBy verified k) (after.earlier.items ++ after.changes.items)) (sym key)
-            (subst (λ (xs : List SignedPromise). AllByRecursion (IsSignedBy verified before.key) (xs ++ after.changes.items)) (sym earlier)
-            (subst (λ (xs : List SignedPromise). AllByRecursion (IsSignedBy verified before.key) (before.earlier.items ++ xs)) (sym (ap (λ cs. cs.items) same)) ready)),
+        subst (λ (k : List ℕ). AllByRecursion (IsOwnPromise verified k lines start.known) (after.earlier.items ++ after.changes.items)) (sym key)
+            (subst (λ (xs : List SignedPromise). AllByRecursion (IsOwnPromise verified before.key lines start.known) (xs ++ after.changes.items)) (sym earlier)
+            (subst (λ (xs : List SignedPromise). AllByRecursion (IsOwnPromise verified before.key lines start.known) (before.earlier.items ++ xs)) (sym (ap (λ cs. cs.items) same)) ready)),
       )
 
-  pub line-ready : (line : ScriptLine) → DoesSomeNoting hash accepted verified exchanged (background_of before) line before.changes.items after.changes.items (scene before said stream) reached → background_of after ≡ background_of before
-      → IsReady verified before → IsReady verified after
-  line-ready line does stays (keyed, ready) =
-      let signs = signs_for hash accepted verified exchanged before.key before.changes.items after.changes.items (scene before said stream) reached
-      (some_signs hash accepted verified exchanged (background_of before) line before.changes.items after.changes.items (scene before said stream) reached does) keyed in
+  pub line-ready : (line : ScriptLine) → IsSaid lines line → DoesSomeNoting hash accepted verified exchanged (background_of before) line before.changes.items after.changes.items (scene before said stream) reached → background_of after ≡ background_of before
+      → IsReady verified lines start.known before → IsReady verified lines start.known after
+  line-ready line asked does stays ready =
       let key = ap (λ (b : Background). b.key) stays in
       let earlier = ap (λ (b : Background). b.earlier) stays in
-      let old-ones = front-all (IsSignedBy verified before.key) before.earlier.items before.changes.items ready in
-      let new-ones = signs.1 (back-all (IsSignedBy verified before.key) before.earlier.items before.changes.items ready) in (
-        ap (λ (c : Client). c.chain.key) client ∙ signs.0 ∙ sym key,
-        subst (λ (k : List ℕ). AllByRecursion (IsSignedBy verified k) (after.earlier.items ++ after.changes.items)) (sym key)
-            (subst (λ (xs : List SignedPromise). AllByRecursion (IsSignedBy verified before.key) (xs ++ after.changes.items)) (sym earlier)
-            (join-all (IsSignedBy verified before.key) before.earlier.items after.changes.items old-ones new-ones)),
+      let old-ones = front-all (IsOwnPromise verified before.key lines start.known) before.earlier.items before.changes.items ready.1 in (
+        ap (λ (c : Client). c.chain.key) client ∙ some_key hash accepted verified exchanged (background_of before) line before.changes.items after.changes.items (scene before said stream) reached does ∙ ready.0 ∙ sym key,
+        subst (λ (k : List ℕ). AllByRecursion (IsOwnPromise verified k lines start.known) (after.earlier.items ++ after.changes.items)) (sym key)
+            (subst (λ (xs : List SignedPromise). AllByRecursion (IsOwnPromise verified before.key lines start.known) (xs ++ after.changes.items)) (sym earlier)
+            (join-all (IsOwnPromise verified before.key lines start.known) before.earlier.items after.changes.items old-ones (noted-ready line asked does ready))),
       )
 
 -- a question that settled stands for the next, once all is written
 module _ {H V S : Type 0} (hash : List ℕ → List ℕ) (accepted verified : List ℕ → List ℕ → List ℕ → Type 0) (lines : Option (List (List ℕ))) (start : Stored) (old : List ℕ) (Happened : List Act → Type 0)
     (key : List ℕ) (asker : Asker H V S) (same : asker.key ≡ key) (said : Said) (status : ℕ) where
-  pub settled-stands : (state : Option State) (out : Option (List ℕ)) → report_of said ≡ emptied status → start.known.marks ≡ asker.marks.items → IsReady verified asker
+  pub settled-stands : (state : Option State) (out : Option (List ℕ)) → report_of said ≡ emptied status → start.known.marks ≡ asker.marks.items → IsReady verified lines start.known asker
       → StateStands hash accepted verified lines key start old Happened state out (standing asker.client asker.monitors.items []) → RunStands hash accepted verified lines start old Happened asker said.text.items state out
   settled-stands None out told marks ready stands = (stands, marks, ready)
   settled-stands (Some state) out told marks ready stands = (
@@ -166,7 +153,7 @@ module _ {H V S : Type 0} (hash : List ℕ → List ℕ) (accepted verified : Li
   ok-not asked is none = was_asked asked tt is none
 
   pub settled-run : {A : Type 0} (result : Result A RunFault) (asked : Result (Unit {0}) AskFault) (state : Option State) (out : Option (List ℕ)) → OnOk result (asked ≡ Ok tt) → OnOk result (report_of said ≡ emptied status) → start.known.marks ≡ asker.marks.items
-      → (asked ≢ Err NoMemory → IsReady verified asker) → OnOk result (asked ≢ Err NoMemory → StateStands hash accepted verified lines key start old Happened state out (standing asker.client asker.monitors.items []))
+      → (asked ≢ Err NoMemory → IsReady verified lines start.known asker) → OnOk result (asked ≢ Err NoMemory → StateStands hash accepted verified lines key start old Happened state out (standing asker.client asker.monitors.items []))
       → OnOk result (RunStands hash accepted verified lines start old Happened asker said.text.items state out)
   settled-run (Ok done) asked state out is told marks ready stands = settled-stands state out told marks (ready (ok-not asked is)) (stands (ok-not asked is))
   settled-run (Err fault) asked state out is told marks ready stands = tt

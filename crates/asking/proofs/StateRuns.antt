@@ -34,13 +34,13 @@ module _ (hash : List ℕ → List ℕ) (accepted : List ℕ → List ℕ → Li
     kept-after (AddsRoots more out ∷ acts) all = all.1
     kept-after (Remembers known out ∷ acts) all = all.1
 
-  module _ {X : Type 0} (Given : X → List ℕ → Option (List ℕ) → Type 0) (Own : X → SignedPromise → Type 0) where
-    kept-by : (run : StateRun X) (found : Stored) → FirstLoads run.acts found → (start : Stored) × AllKeepTold hash accepted (Given run.asked) (Own run.asked) start run.old run.acts → AreFirst run.acts run.left
-        → (text : List ℕ) × WasWritten run.old run.left text × KeepsTold hash accepted (Given run.asked) (Own run.asked) found text (stored_after run.left)
+  module _ {X : Type 0} (Given : X → List ℕ → Option (List ℕ) → Type 0) (Own : X → Stored → SignedPromise → Type 0) where
+    kept-by : (run : StateRun X) (found : Stored) → FirstLoads run.acts found → (start : Stored) × AllKeepTold hash accepted (Given run.asked) (Own run.asked start) start run.old run.acts → AreFirst run.acts run.left
+        → (text : List ℕ) × WasWritten run.old run.left text × KeepsTold hash accepted (Given run.asked) (Own run.asked found) found text (stored_after run.left)
     kept-by run found (later, loads) (start, all) (some, (more, is)) =
-        let same : found ≡ start = first-start (Given run.asked) (Own run.asked) start run.old later found (subst (AllKeepTold hash accepted (Given run.asked) (Own run.asked) start run.old) loads all) in
-        let first = first-kept (Given run.asked) (Own run.asked) start run.old more run.left some (subst (AllKeepTold hash accepted (Given run.asked) (Own run.asked) start run.old) is all) in
-        kept-after (Given run.asked) (Own run.asked) found run.old run.left (subst (λ (from : Stored). AllKeepTold hash accepted (Given run.asked) (Own run.asked) from run.old run.left) (sym same) first)
+        let same : found ≡ start = first-start (Given run.asked) (Own run.asked start) start run.old later found (subst (AllKeepTold hash accepted (Given run.asked) (Own run.asked start) start run.old) loads all) in
+        let first = first-kept (Given run.asked) (Own run.asked start) start run.old more run.left some (subst (AllKeepTold hash accepted (Given run.asked) (Own run.asked start) start run.old) is all) in
+        kept-after (Given run.asked) (Own run.asked found) found run.old run.left (subst (λ (from : Stored). AllKeepTold hash accepted (Given run.asked) (Own run.asked from) from run.old run.left) (sym same) first)
 
     -- each root up to a mark was told
     pub told-over-runs : (runs : List (StateRun X)) → AllRun hash accepted Given Own runs → (mark : Mark) → Contains (left_by runs).known.marks mark → (root : SignedRoot) → Contains (left_by runs).roots root

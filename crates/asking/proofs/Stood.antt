@@ -11,7 +11,7 @@ use Rattle.memory.specs.Memories.{Memory}
 use Rattle.memory.specs.declared.mark.Mark.{Mark}
 use Rattle.monitor.specs.Monitors.{Monitor}
 use Rattle.asking.specs.Owning.{IsHeld, IsOwn, Owns, WasWatched}
-use Rattle.asking.specs.Saves.{roots_above, stored_after, Act, AddsRoots, AllKeepTold, HasMark, IsAsked, IsSignedBy, KeepsTold, Remembers, Stored, WasStored}
+use Rattle.asking.specs.Saves.{roots_above, stored_after, Act, AddsRoots, AllKeepTold, HasMark, IsAsked, IsOwnPromise, KeepsTold, Remembers, Stored, WasStored}
 use Rattle.asking.specs.Scenes.{Scene}
 use Rattle.asking.specs.Standing.{standing, Fits, IsKept, IsUpTo, KeepsMarks, Stands}
 use Rattle.asking.specs.Told.{TellsEpoch}
@@ -61,7 +61,7 @@ module _ (hash : List ℕ → List ℕ) (accepted verified : List ℕ → List �
   Kept = IsKept hash accepted verified lines key start old
 
   abbrev Told : List ℕ → Stored → Type 0
-  Told = KeepsTold hash accepted (IsAsked lines) (IsSignedBy verified key) start
+  Told = KeepsTold hash accepted (IsAsked lines) (IsOwnPromise verified key lines start.known) start
 
   module _ (Happened : List Act → Type 0) (epoch : ℕ) (known : Memory) (out : Option (List ℕ)) (kept : IsKept hash accepted verified lines key start old Happened epoch known out) where
     -- more is learned, and no mark moves
@@ -73,7 +73,7 @@ module _ (hash : List ℕ → List ℕ) (accepted verified : List ℕ → List �
       is-out = kept.is-out;
       all = kept.all;
       now = kept.now;
-      next = remembers-kept hash accepted (IsAsked lines) (IsSignedBy verified key) start kept.text (record { roots = (stored_after kept.acts).roots; known = known }) kept.next known' marks.known
+      next = remembers-kept hash accepted (IsAsked lines) (IsOwnPromise verified key lines start.known) start kept.text (record { roots = (stored_after kept.acts).roots; known = known }) kept.next known' marks.known
           (λ mark has. let (own, there, named, low) = kept.next.stays mark has in (own, marks.still own there, named, low));
       early = kept.early;
       low-start = kept.low-start;
@@ -112,8 +112,8 @@ module _ (hash : List ℕ → List ℕ) (accepted verified : List ℕ → List �
       text = kept.text ++ more;
       is-out = is ∙ ap Some (append_assoc old kept.text more);
       all = kept.all;
-      now = text-kept hash accepted (IsAsked lines) (IsSignedBy verified key) start kept.text (stored_after kept.acts) kept.now more;
-      next = text-kept hash accepted (IsAsked lines) (IsSignedBy verified key) start kept.text (record { roots = (stored_after kept.acts).roots; known = known }) kept.next more;
+      now = text-kept hash accepted (IsAsked lines) (IsOwnPromise verified key lines start.known) start kept.text (stored_after kept.acts) kept.now more;
+      next = text-kept hash accepted (IsAsked lines) (IsOwnPromise verified key lines start.known) start kept.text (record { roots = (stored_after kept.acts).roots; known = known }) kept.next more;
       early = kept.early;
       low-start = kept.low-start;
       low = kept.low;
@@ -125,7 +125,7 @@ module _ (hash : List ℕ → List ℕ) (accepted verified : List ℕ → List �
     -- roots are added
     module _ (Happened' : List Act → Type 0) (epoch' : ℕ) (roots : List SignedRoot) (up : epoch ≤ epoch') (goes : (acts : List Act) → Happened acts → Happened' (AddsRoots (roots_above epoch roots) out ∷ acts)) where
       pub adds : Told kept.text (record { roots = (stored_after kept.acts).roots ++ roots_above epoch roots; known = (stored_after kept.acts).known })
-      adds = adds-roots-kept hash accepted (IsAsked lines) (IsSignedBy verified key) start kept.text (stored_after kept.acts) kept.now (roots_above epoch roots) epoch (above-all epoch roots) kept.low
+      adds = adds-roots-kept hash accepted (IsAsked lines) (IsOwnPromise verified key lines start.known) start kept.text (stored_after kept.acts) kept.now (roots_above epoch roots) epoch (above-all epoch roots) kept.low
 
       pub early-still : (mark : Mark) → Contains start.known.marks mark → (root : SignedRoot) → Contains ((stored_after kept.acts).roots ++ roots_above epoch roots) root → mark.since < root.body.epoch → root.body.epoch ≤ mark.epoch → Contains start.roots root
       early-still mark has root among above below = elim (Contains-append_cases (stored_after kept.acts).roots (roots_above epoch roots) root among) [
@@ -141,7 +141,7 @@ module _ (hash : List ℕ → List ℕ) (accepted verified : List ℕ → List �
         is-out = kept.is-out;
         all = (kept.all, (kept.text, kept.is-out, adds));
         now = adds;
-        next = adds-roots-kept hash accepted (IsAsked lines) (IsSignedBy verified key) start kept.text (record { roots = (stored_after kept.acts).roots; known = known }) kept.next
+        next = adds-roots-kept hash accepted (IsAsked lines) (IsOwnPromise verified key lines start.known) start kept.text (record { roots = (stored_after kept.acts).roots; known = known }) kept.next
             (roots_above epoch roots) epoch (above-all epoch roots) kept.low-next;
         early = early-still;
         low-start = fits-up epoch epoch' start.known up kept.low-start;
@@ -206,13 +206,13 @@ module _ (hash : List ℕ → List ℕ) (accepted verified : List ℕ → List �
 
   -- ---- with the scene
 
-  owns-known : (text : List ℕ) (stored : List SignedRoot) (known known' : List Mark) (now : Scene (Unit {0})) → Owns hash accepted verified (IsAsked lines) (IsSignedBy verified key) text stored start.known.marks known now
-      → ((mark : Mark) → Contains known' mark → IsHeld hash accepted verified (IsAsked lines) (IsSignedBy verified key) text start.known.marks now.client.chain now.monitors mark)
-      → Owns hash accepted verified (IsAsked lines) (IsSignedBy verified key) text stored start.known.marks known' now
+  owns-known : (text : List ℕ) (stored : List SignedRoot) (known known' : List Mark) (now : Scene (Unit {0})) → Owns hash accepted verified (IsAsked lines) (IsOwnPromise verified key lines start.known) text stored start.known.marks known now
+      → ((mark : Mark) → Contains known' mark → IsHeld hash accepted verified (IsAsked lines) (IsOwnPromise verified key lines start.known) text start.known.marks now.client.chain now.monitors mark)
+      → Owns hash accepted verified (IsAsked lines) (IsOwnPromise verified key lines start.known) text stored start.known.marks known' now
   owns-known text stored known known' now owns held = record { chain = owns.chain; formed = owns.formed; stores = owns.stores; watched = owns.watched; held = held }
 
-  owns-stored : (text : List ℕ) (stored stored' : List SignedRoot) (known : List Mark) (now : Scene (Unit {0})) → Owns hash accepted verified (IsAsked lines) (IsSignedBy verified key) text stored start.known.marks known now
-      → AllByRecursion (Contains now.client.chain.roots) stored' → Owns hash accepted verified (IsAsked lines) (IsSignedBy verified key) text stored' start.known.marks known now
+  owns-stored : (text : List ℕ) (stored stored' : List SignedRoot) (known : List Mark) (now : Scene (Unit {0})) → Owns hash accepted verified (IsAsked lines) (IsOwnPromise verified key lines start.known) text stored start.known.marks known now
+      → AllByRecursion (Contains now.client.chain.roots) stored' → Owns hash accepted verified (IsAsked lines) (IsOwnPromise verified key lines start.known) text stored' start.known.marks known now
   owns-stored text stored stored' known now owns stores = record { chain = owns.chain; formed = owns.formed; stores = stores; watched = owns.watched; held = owns.held }
 
   module _ (Happened : List Act → Type 0) (epoch : ℕ) (known : Memory) (out : Option (List ℕ)) (now : Scene (Unit {0})) (stands : Stands hash accepted verified lines key start old Happened epoch known out now) where
@@ -220,7 +220,7 @@ module _ (hash : List ℕ → List ℕ) (accepted verified : List ℕ → List �
     pub stands-same : (known' : Memory) → known'.marks ≡ known.marks → KeepsMarks known known' → Stands hash accepted verified lines key start old Happened epoch known' out now
     stands-same known' same marks = record {
       kept = kept-known Happened epoch known out stands.kept known' marks;
-      owns = subst (λ (ms : List Mark). Owns hash accepted verified (IsAsked lines) (IsSignedBy verified key) stands.kept.text (stored_after stands.kept.acts).roots start.known.marks ms now) (sym same) stands.owns;
+      owns = subst (λ (ms : List Mark). Owns hash accepted verified (IsAsked lines) (IsOwnPromise verified key lines start.known) stands.kept.text (stored_after stands.kept.acts).roots start.known.marks ms now) (sym same) stands.owns;
     }
 
     -- new monitors get marks
@@ -228,7 +228,7 @@ module _ (hash : List ℕ → List ℕ) (accepted verified : List ℕ → List �
         → Stands hash accepted verified lines key start old Happened epoch known' out now
     stands-begun begun known' among puts = record {
       kept = kept-known Happened epoch known out stands.kept known' (begun-marks begun known known' puts);
-      owns = owns-known stands.kept.text (stored_after stands.kept.acts).roots known.marks known'.marks now stands.owns (begun-held hash accepted verified (IsAsked lines) (IsSignedBy verified key) stands.kept.text (stands.kept.text ++ now.told.lines) now.client.chain start.known.marks now.monitors begun known.marks known'.marks
+      owns = owns-known stands.kept.text (stored_after stands.kept.acts).roots known.marks known'.marks now stands.owns (begun-held hash accepted verified (IsAsked lines) (IsOwnPromise verified key lines start.known) stands.kept.text (stands.kept.text ++ now.told.lines) now.client.chain start.known.marks now.monitors begun known.marks known'.marks
           stands.owns.chain stands.owns.watched among puts stands.owns.held);
     }
 
@@ -288,20 +288,20 @@ module _ (hash : List ℕ → List ℕ) (accepted verified : List ℕ → List �
     text = stands.kept.text
 
     abbrev Held : Mark → Type 0
-    Held = IsHeld hash accepted verified (IsAsked lines) (IsSignedBy verified key) text start.known.marks client.chain monitors
+    Held = IsHeld hash accepted verified (IsAsked lines) (IsOwnPromise verified key lines start.known) text start.known.marks client.chain monitors
 
-    watched-so : AllByRecursion (IsOwn hash accepted verified (IsAsked lines) (IsSignedBy verified key) text client.chain start.known.marks) monitors
-    watched-so = subst (λ (t : List ℕ). AllByRecursion (IsOwn hash accepted verified (IsAsked lines) (IsSignedBy verified key) t client.chain start.known.marks) monitors) (append-nil text) stands.owns.watched
+    watched-so : AllByRecursion (IsOwn hash accepted verified (IsAsked lines) (IsOwnPromise verified key lines start.known) text client.chain start.known.marks) monitors
+    watched-so = subst (λ (t : List ℕ). AllByRecursion (IsOwn hash accepted verified (IsAsked lines) (IsOwnPromise verified key lines start.known) t client.chain start.known.marks) monitors) (append-nil text) stands.owns.watched
 
     held : (mark : Mark) → Contains known'.marks mark → Held mark
-    held = moved-held hash accepted verified (IsAsked lines) (IsSignedBy verified key) text client.chain start.known.marks monitors stands.owns.chain stands.owns.formed watched-so some known.marks known'.marks among puts stands.owns.held
+    held = moved-held hash accepted verified (IsAsked lines) (IsOwnPromise verified key lines start.known) text client.chain start.known.marks monitors stands.owns.chain stands.owns.formed watched-so some known.marks known'.marks among puts stands.owns.held
 
     -- what an earlier run had watched is a root that it had
     was-stored : (name : List ℕ) (root : SignedRoot) → Contains (stored_after stands.kept.acts).roots root → WasWatched start.known.marks name root → WasStored start name root
     was-stored name root among (mark, has, same, above, below) = (stands.kept.early mark has root among above below, (mark, has, same, above, below))
 
     told-so : (mark : Mark) → Contains known'.marks mark → (root : SignedRoot) → Contains (stored_after stands.kept.acts).roots root → mark.since < root.body.epoch → root.body.epoch ≤ mark.epoch
-        → TellsEpoch (IsAsked lines) (IsSignedBy verified key) hash accepted text mark.name root ⊎ WasStored start mark.name root
+        → TellsEpoch (IsAsked lines) (IsOwnPromise verified key lines start.known) hash accepted text mark.name root ⊎ WasStored start mark.name root
     told-so mark has root among above below =
         elim ((held mark has).told root (all-in (Contains client.chain.roots) (stored_after stands.kept.acts).roots root stands.owns.stores among) above below) [
           | inl tells ↦ inl tells
@@ -323,7 +323,7 @@ module _ (hash : List ℕ → List ℕ) (accepted verified : List ℕ → List �
         is-out = kept.is-out;
         all = kept.all;
         now = kept.now;
-        next = keeps-told hash accepted (IsAsked lines) (IsSignedBy verified key) start text (stored_after kept.acts).roots kept.next.grows.0 known' kept.next.grows.1
+        next = keeps-told hash accepted (IsAsked lines) (IsOwnPromise verified key lines start.known) start text (stored_after kept.acts).roots kept.next.grows.0 known' kept.next.grows.1
             (moved-stays monitors some start.known.marks known.marks known'.marks puts kept.once kept.next.stays) told-so;
         early = kept.early;
         low-start = kept.low-start;

@@ -6,7 +6,7 @@ use Rattle.textio.specs.Output.{WritesSome}
 use Rattle.client.specs.Clients.{Client}
 use Rattle.memory.specs.Memories.{Memory}
 use Rattle.monitor.specs.Monitors.{Monitor}
-use Rattle.asking.specs.Saves.{stored_after, Act, IsAsked, IsSignedBy, Stored}
+use Rattle.asking.specs.Saves.{stored_after, Act, IsAsked, IsOwnPromise, Stored}
 use Rattle.asking.specs.Scenes.{Scene}
 use Rattle.asking.specs.Standing.{standing, IsKept, IsLeft, Stands, StateIsKept, StateStands}
 use Rattle.asking.specs.declared.ask_fault.AskFault.{AskFault}
@@ -49,7 +49,7 @@ module _ (hash : List ℕ → List ℕ) (accepted verified : List ℕ → List �
   stands-written epoch known out out' client monitors said appends stands = record {
     kept = kept-out hash accepted verified lines key start old Happened epoch known out stands.kept out' said
         (appended (old ++ stands.kept.text) said out' (subst (λ (o : Option (List ℕ)). Appends o out' said) stands.kept.is-out appends));
-    owns = owns-written hash accepted verified (IsAsked lines) (IsSignedBy verified key) start.known.marks stands.kept.text (stored_after stands.kept.acts).roots known.marks (standing client monitors said) 0 stands.owns;
+    owns = owns-written hash accepted verified (IsAsked lines) (IsOwnPromise verified key lines start.known) start.known.marks stands.kept.text (stored_after stands.kept.acts).roots known.marks (standing client monitors said) 0 stands.owns;
   }
 
   -- all that was said is

@@ -1,5 +1,6 @@
 -- What a run does to the files of its state, and what these say at each time.
-use Rattle.std.specs.Prelude.{◌≡◌, ◌⊎◌, ℕ, ◌<◌, ◌≤◌, List, [], ◌∷◌, ◌++◌, Contains, Option, None, Some, ⊤, filter, map, nat_lt}
+use Rattle.std.specs.Prelude.{◌≡◌, ◌⊎◌, ℕ, ◌<◌, ◌≤◌, true, List, [], ◌∷◌, ◌++◌, Contains, Option, None, Some, ⊤, filter, map, nat_lt}
+use Rattle.commands.specs.declared.edit.Verb.{Verb}
 use Rattle.rootchain.specs.Chains.{IsHead, KeyedRoots}
 use Rattle.rootchain.specs.Promises.{IsSignedPromise, PromiseVerifies}
 use Rattle.rootchain.specs.declared.signed_promise.SignedPromise.{SignedPromise}
@@ -7,7 +8,9 @@ use Rattle.rootchain.specs.declared.signed_root.SignedRoot.{SignedRoot}
 use Rattle.memory.specs.Lists.{HasNoRepeat}
 use Rattle.memory.specs.Memories.{name_of, nothing, Memory}
 use Rattle.memory.specs.declared.mark.Mark.{Mark}
-use Rattle.play.specs.Scripts.{line_of, Watch}
+use Rattle.memory.specs.declared.promised.Promised.{Promised}
+use Rattle.play.specs.Scripts.{line_of, Ask, ScriptLine, Watch}
+use Rattle.wire.specs.Requests.{Put}
 use Rattle.asking.specs.Told.{TellsEpoch}
 use Rattle.asking.specs.declared.asker.Asker.{Asker}
 
@@ -37,14 +40,30 @@ stored_after (Loads stored ∷ acts) = stored
 stored_after (AddsRoots more out ∷ acts) = record { roots = (stored_after acts).roots ++ more; known = (stored_after acts).known }
 stored_after (Remembers known out ∷ acts) = record { roots = (stored_after acts).roots; known = known }
 
--- one of these lines asks for the name to be watched, with this key or none; nothing is known of it where they are not
+-- one of these lines says this; nothing is known of it where they are not
+abbrev pub IsSaid : Option (List (List ℕ)) → ScriptLine → Type 0
+IsSaid None said = ⊤
+IsSaid (Some lines) said = (line : List ℕ) × Contains lines line × (line_of line ≡ Some said)
+
+-- one of these lines asks for the name to be watched, with this key or none
 abbrev pub IsAsked : Option (List (List ℕ)) → List ℕ → Option (List ℕ) → Type 0
-IsAsked None name given = ⊤
-IsAsked (Some lines) name given = (line : List ℕ) × Contains lines line × (line_of line ≡ Some (Watch name given))
+IsAsked lines name given = IsSaid lines (Watch name given)
+
+-- one of these lines asks for the change that is promised
+abbrev pub IsAskedChange : Option (List (List ℕ)) → SignedPromise → Type 0
+IsAskedChange lines signed = (verb : Verb) × IsSaid lines (Ask (Put verb signed.promise.name signed.promise.key))
+
+-- the promise is remembered as one for a change of the owner's own
+abbrev pub WasOwn : Memory → SignedPromise → Type 0
+WasOwn known signed = (promised : Promised) × Contains known.promises promised × (promised.signed ≡ signed) × (promised.is_own ≡ true)
 
 -- the promise is signed with this key
 abbrev pub IsSignedBy : (List ℕ → List ℕ → List ℕ → Type 0) → List ℕ → SignedPromise → Type 0
 IsSignedBy verified key signed = IsSignedPromise signed × PromiseVerifies verified key signed
+
+-- and it is for a change of the owner's own: one that is remembered, or that one of these lines asks for
+abbrev pub IsOwnPromise : (List ℕ → List ℕ → List ℕ → Type 0) → List ℕ → Option (List (List ℕ)) → Memory → SignedPromise → Type 0
+IsOwnPromise verified key lines known signed = IsSignedBy verified key signed × (WasOwn known signed ⊎ IsAskedChange lines signed)
 
 -- the roots of later epochs than this
 abbrev pub roots_above : ℕ → List SignedRoot → List SignedRoot
@@ -88,4 +107,4 @@ module _ (hash : List ℕ → List ℕ) (accepted : List ℕ → List ℕ → Li
 -- What happened in a run to what is kept: nothing, or acts after each of which all that it had watched was told. Some lines
 -- were asked under this key, and the output had this text before.
 abbrev pub LeavesTold : (List ℕ → List ℕ) → (List ℕ → List ℕ → List ℕ → Type 0) → (List ℕ → List ℕ → List ℕ → Type 0) → Option (List (List ℕ)) → List ℕ → List ℕ → (List Act → Type 0) → Type 0
-LeavesTold hash accepted verified lines key old Happened = (acts : List Act) × Happened acts × ((acts ≡ []) ⊎ ((start : Stored) × AllKeepTold hash accepted (IsAsked lines) (IsSignedBy verified key) start old acts))
+LeavesTold hash accepted verified lines key old Happened = (acts : List Act) × Happened acts × ((acts ≡ []) ⊎ ((start : Stored) × AllKeepTold hash accepted (IsAsked lines) (IsOwnPromise verified key lines start.known) start old acts))

@@ -7,10 +7,10 @@ use Rattle.client.specs.Clients.{Client}
 use Rattle.memory.specs.Memories.{nothing, Memory}
 use Rattle.memory.specs.declared.mark.Mark.{Mark}
 use Rattle.monitor.specs.Monitors.{Monitor}
-use Rattle.play.specs.Scripts.{line_of, Watch}
+use Rattle.play.specs.Scripts.{line_of, ScriptLine}
 use Rattle.asking.specs.Owning.{Owns}
 use Rattle.asking.specs.Remembering.{AreWithin}
-use Rattle.asking.specs.Saves.{stored_after, stored_by, stored_nothing, Act, AllKeepTold, HasOneOfEachName, IsAsked, IsHeadEpoch, Loads, Remembers, IsSignedBy, KeepsTold, Stored}
+use Rattle.asking.specs.Saves.{stored_after, stored_by, stored_nothing, Act, AllKeepTold, HasOneOfEachName, IsAsked, IsHeadEpoch, IsOwnPromise, IsSaid, KeepsTold, Loads, Remembers, Stored, WasOwn}
 use Rattle.asking.specs.Scenes.{Scene}
 use Rattle.asking.specs.declared.asker.Asker.{Asker}
 use Rattle.asking.specs.declared.state.State.{State}
@@ -37,9 +37,9 @@ module _ (hash : List ℕ → List ℕ) (accepted verified : List ℕ → List �
     pub happened : Happened acts
     pub text : List ℕ
     pub is-out : out ≡ Some (old ++ text)
-    pub all : AllKeepTold hash accepted (IsAsked lines) (IsSignedBy verified key) start old acts
-    pub now : KeepsTold hash accepted (IsAsked lines) (IsSignedBy verified key) start text (stored_after acts)
-    pub next : KeepsTold hash accepted (IsAsked lines) (IsSignedBy verified key) start text (record { roots = (stored_after acts).roots; known = known })
+    pub all : AllKeepTold hash accepted (IsAsked lines) (IsOwnPromise verified key lines start.known) start old acts
+    pub now : KeepsTold hash accepted (IsAsked lines) (IsOwnPromise verified key lines start.known) start text (stored_after acts)
+    pub next : KeepsTold hash accepted (IsAsked lines) (IsOwnPromise verified key lines start.known) start text (record { roots = (stored_after acts).roots; known = known })
     pub early : (mark : Mark) → Contains start.known.marks mark → (root : SignedRoot) → Contains (stored_after acts).roots root → mark.since < root.body.epoch → root.body.epoch ≤ mark.epoch → Contains start.roots root
     pub low-start : Fits epoch start.known
     pub low : Fits epoch (stored_after acts).known
@@ -50,7 +50,7 @@ module _ (hash : List ℕ → List ℕ) (accepted verified : List ℕ → List �
   -- and the client, the monitors and the marks stand so to it
   pub record Stands (Happened : List Act → Type 0) (epoch : ℕ) (known : Memory) (out : Option (List ℕ)) (now : Scene (Unit {0})) : Type 0 where
     pub kept : IsKept Happened epoch known out
-    pub owns : Owns hash accepted verified (IsAsked lines) (IsSignedBy verified key) kept.text (stored_after kept.acts).roots start.known.marks known.marks now
+    pub owns : Owns hash accepted verified (IsAsked lines) (IsOwnPromise verified key lines start.known) kept.text (stored_after kept.acts).roots start.known.marks known.marks now
 
   -- where there is a state; without one, nothing happens
   abbrev pub StateIsKept : (List Act → Type 0) → Option State → Option (List ℕ) → Type 0
@@ -65,9 +65,9 @@ module _ (hash : List ℕ → List ℕ) (accepted verified : List ℕ → List �
 abbrev pub IsUpTo : Client → ℕ → Type 0
 IsUpTo client epoch = (head : SignedRoot) → IsHead client.chain head → head.body.epoch ≤ epoch
 
--- the client follows the key of what asks, which signed each promise for a change of its own
-abbrev pub IsReady : {H V S : Type 0} → (List ℕ → List ℕ → List ℕ → Type 0) → Asker H V S → Type 0
-IsReady verified asker = (asker.client.chain.key ≡ asker.key) × AllByRecursion (IsSignedBy verified asker.key) (asker.earlier.items ++ asker.changes.items)
+-- the client follows the key of what asks, and each promise that is held for a change of the owner's own is one
+abbrev pub IsReady : {H V S : Type 0} → (List ℕ → List ℕ → List ℕ → Type 0) → Option (List (List ℕ)) → Memory → Asker H V S → Type 0
+IsReady verified lines known asker = (asker.client.chain.key ≡ asker.key) × AllByRecursion (IsOwnPromise verified asker.key lines known) (asker.earlier.items ++ asker.changes.items)
 
 -- a state in which nothing is kept yet
 abbrev pub IsFresh : Option State → Type 0
@@ -78,22 +78,23 @@ module _ (hash : List ℕ → List ℕ) (accepted verified : List ℕ → List �
   -- so a run stands, where the lines of what was said are not yet written
   abbrev pub RunStands : {H V S : Type 0} → Stored → List ℕ → (List Act → Type 0) → Asker H V S → List ℕ → Option State → Option (List ℕ) → Type 0
   RunStands start old Happened asker said state out = StateStands hash accepted verified lines asker.key start old Happened state out (standing asker.client asker.monitors.items said)
-      × (start.known.marks ≡ asker.marks.items) × IsReady verified asker
+      × (start.known.marks ≡ asker.marks.items) × IsReady verified lines start.known asker
 
   -- what a run leaves: nothing was loaded, or all that was kept was told before
   abbrev pub IsLeft : List ℕ → List ℕ → (List Act → Type 0) → Option State → Option (List ℕ) → Type 0
   IsLeft key old Happened None out = Happened []
   IsLeft key old Happened (Some state) out = ((state.is_loaded ≡ false) × Happened []) ⊎ ((start : Stored) × IsKept hash accepted verified lines key start old Happened state.epoch state.memory out)
 
--- what is asked on a line, where it asks for a name to be watched, is among these lines
+-- what is asked on a line is said by one of these lines
 abbrev pub AsksAmong : Option (List (List ℕ)) → List ℕ → Type 0
-AsksAmong lines line = (name : List ℕ) (given : Option (List ℕ)) → line_of line ≡ Some (Watch name given) → IsAsked lines name given
+AsksAmong lines line = (said : ScriptLine) → line_of line ≡ Some said → IsSaid lines said
 
 -- what happens where a state is loaded, where nothing is stored, and where it cannot be loaded
 abbrev pub HasLoaded : {H V S : Type 0} → (List Act → Type 0) → (List Act → Type 0) → Asker H V S → Option State → Type 0
 HasLoaded Before After asker None = ⊥
 HasLoaded Before After asker (Some state) = ((acts : List Act) → Before acts → After (Loads (stored_by asker) ∷ acts))
     × (state.memory ≡ asker.known) × (asker.marks.items ≡ asker.known.marks) × (asker.changes.items ≡ []) × AreWithin asker.client.chain asker.known × HasOneOfEachName asker.known × IsHeadEpoch asker.client.chain state.epoch
+    × AllByRecursion (WasOwn asker.known) asker.earlier.items
 
 abbrev pub HasBegun : (List Act → Type 0) → (List Act → Type 0) → Option State → Option State → Type 0
 HasBegun Before After None after = (after ≡ None) × ((acts : List Act) → Before acts → After acts)

@@ -1,11 +1,12 @@
 // Where a run keeps its state. Contracts know what is handed to it, and what was written to the output before that.
 ghost use Rattle.std.specs.Prelude.{◌≡◌, ◌∷◌, [], List, IfErr, IfOk, OnErr};
+ghost use Rattle.std.specs.List.{AllByRecursion};
 ghost use Rattle.asking.specs.Askers.{asker_changes, asker_client, asker_earlier, asker_key, asker_known, asker_marks, asker_monitors, asker_token};
 ghost use Rattle.asking.specs.Remembering.{AreWithin};
 ghost use Rattle.asking.specs.Reports.{report_of};
 ghost use Rattle.asking.specs.RunFaults.{IsFaultOfSaving, IsFaultOfState};
 ghost use Rattle.asking.specs.Runs.{KeepsAll};
-ghost use Rattle.asking.specs.Saves.{roots_above, stored_by, stored_nothing, Act, AddsRoots, HasOneOfEachName, Loads, Remembers};
+ghost use Rattle.asking.specs.Saves.{roots_above, stored_by, stored_nothing, Act, AddsRoots, HasOneOfEachName, Loads, Remembers, WasOwn};
 
 use crate::{Asker, Checks, Said};
 use client::Client;
@@ -61,6 +62,7 @@ pub trait Keeper {
         ensures knows { IfOk result (λ loaded. IfOk loaded (λ found. (asker_key found.asker ≡ key) × (asker_token found.asker ≡ token) × (asker_monitors found.asker ≡ []) × (asker_changes found.asker ≡ []))) }
         ensures chain { IfOk result (λ loaded. IfOk loaded (λ found. (asker_client found.asker).chain.key ≡ key)) }
         ensures kept { IfOk result (λ loaded. IfOk loaded (λ found. KeepsAll (asker_client found.asker) (asker_earlier found.asker))) }
+        ensures own { IfOk result (λ loaded. IfOk loaded (λ found. AllByRecursion (WasOwn (asker_known found.asker)) (asker_earlier found.asker))) }
         ensures memory { IfOk result (λ loaded. IfOk loaded (λ found. (found.memory ≡ asker_known found.asker) × (asker_marks found.asker ≡ found.memory.marks))) }
         ensures marks { IfOk result (λ loaded. IfOk loaded (λ found. AreWithin (asker_client found.asker).chain found.memory × HasOneOfEachName found.memory)) }
         ensures said { report_of said.new ≡ report_of said.old }

@@ -5,7 +5,7 @@ ghost use Rattle.rootchain.specs.declared.signed_root.SignedRoot.{SignedRoot};
 ghost use Rattle.asking.specs.AskOptions.{AskOptions};
 ghost use Rattle.asking.specs.Exchanges.{ExchangesFrames};
 ghost use Rattle.asking.specs.Runs.{lines_asked, RunsWhole};
-ghost use Rattle.asking.specs.Saves.{HasMark, IsAsked, IsSignedBy};
+ghost use Rattle.asking.specs.Saves.{HasMark, IsAsked, IsOwnPromise};
 ghost use Rattle.asking.specs.StateRuns.{left_by, AllRun, StateRun, WasTold};
 ghost use Rattle.asking.specs.Told.{TellsWatched};
 ghost use Rattle.asking.specs.declared.said.TheConstants.{ALARM, OTHER_INDEX, OTHER_REPLY, REFUSED};
@@ -36,10 +36,10 @@ pub fn watched_epochs_are_told<T: Read + Write, H: NodeHash, V: VufCheck, S: Ver
 /// watched is told in the output of one of the runs, before the mark was stored. And no mark of an earlier run is lost:
 /// the state has one of its name that begins no later.
 pub fn stored_marks_are_told<H: NodeHash, V: VufCheck, S: Verifier>()
-    ensures told { (key : List ℕ) (runs : List (StateRun (Option (List (List ℕ))))) → AllRun H.digest_of V.accepted IsAsked (λ asked. IsSignedBy S.verified key) runs
+    ensures told { (key : List ℕ) (runs : List (StateRun (Option (List (List ℕ))))) → AllRun H.digest_of V.accepted IsAsked (λ asked found. IsOwnPromise S.verified key asked found.known) runs
         → (mark : Mark) → Contains (left_by runs).known.marks mark
         → (root : SignedRoot) → Contains (left_by runs).roots root → mark.since < root.body.epoch → root.body.epoch ≤ mark.epoch
-        → WasTold H.digest_of V.accepted IsAsked (λ asked. IsSignedBy S.verified key) runs mark.name root }
-    ensures stay { (key : List ℕ) (later earlier : List (StateRun (Option (List (List ℕ))))) → AllRun H.digest_of V.accepted IsAsked (λ asked. IsSignedBy S.verified key) (later ++ earlier)
+        → WasTold H.digest_of V.accepted IsAsked (λ asked found. IsOwnPromise S.verified key asked found.known) runs mark.name root }
+    ensures stay { (key : List ℕ) (later earlier : List (StateRun (Option (List (List ℕ))))) → AllRun H.digest_of V.accepted IsAsked (λ asked found. IsOwnPromise S.verified key asked found.known) (later ++ earlier)
         → (old : Mark) → Contains (left_by earlier).known.marks old → HasMark (left_by (later ++ earlier)).known.marks old }
 {}

@@ -11,6 +11,7 @@ ghost use Rattle.memory.specs.Texts.{Spells, TakesLine};
 ghost use Rattle.memory.specs.declared.item.Item.TheVariants as items;
 ghost use Rattle.asking.specs.Remembering.{own_of, AreOwnOf, AreWithin, IsOwnOf, IsWithin};
 ghost use Rattle.asking.specs.RunFaults.{IsFaultOfState};
+ghost use Rattle.asking.specs.Saves.{WasOwn};
 ghost use Rattle.client.specs.Clients.{with_promise};
 ghost use Rattle.asking.specs.Runs.{IsSameAsker, StillKeeps};
 
@@ -91,6 +92,7 @@ where
         ensures spells { IfOk result (λ memory. Spells text.now (Ok memory) × (memory ≡ (self.new).known)) }
         ensures marks { OnOk result ((self.new).marks.items ≡ (self.new).known.marks) }
         ensures earlier { OnOk result ((own : List Signed) × AreOwnOf (lines_of text.now) own × ((self.new).earlier.items ≡ (self.old).earlier.items ++ own)) }
+        ensures own { OnOk result (AllByRecursion (WasOwn (self.new).known) (self.old).earlier.items → AllByRecursion (WasOwn (self.new).known) (self.new).earlier.items) }
         ensures formed { OnOk result (AllByRecursion IsSignedPromise (self.old).earlier.items → AllByRecursion IsSignedPromise (self.new).earlier.items) }
         ensures chain { (self.new).client.chain ≡ (self.old).client.chain }
         ensures changes { (self.new).changes ≡ (self.old).changes }

@@ -4,13 +4,14 @@
 // place of the old one. A line without its LF was cut short, and is dropped. Contracts do not know what a file holds:
 // `scripts/states.py` shows it.
 ghost use Rattle.std.specs.Prelude.{◌≡◌, ◌⊎◌, ◌≤◌, [], length, IfErr, IfOk, OnOk};
+ghost use Rattle.std.specs.List.{AllByRecursion};
 ghost use Rattle.textio.specs.declared.program_fault.ProgramFault.TheVariants.{OutOfMemory};
 ghost use Rattle.memory.specs.Memories.{nothing};
 ghost use Rattle.asking.specs.Remembering.{AreWithin};
 ghost use Rattle.asking.specs.Reports.{report_of};
 ghost use Rattle.asking.specs.RunFaults.{IsFaultOfSaving, IsFaultOfState};
 ghost use Rattle.asking.specs.Runs.{KeepsAll};
-ghost use Rattle.asking.specs.Saves.{HasOneOfEachName};
+ghost use Rattle.asking.specs.Saves.{HasOneOfEachName, WasOwn};
 
 use crate::keeper::{Keeper, Loaded};
 use crate::lines::{fault_of, line_bytes, roots_text};
@@ -234,6 +235,7 @@ impl<F: Files<File = File>> StateFiles<'_, F> {
         ensures knows { IfOk result (λ found. (found.asker.key ≡ key) × (found.asker.token ≡ token) × (found.asker.monitors.items ≡ []) × (found.asker.changes.items ≡ [])) }
         ensures chain { IfOk result (λ found. found.asker.client.chain.key ≡ key) }
         ensures kept { IfOk result (λ found. KeepsAll found.asker.client found.asker.earlier.items) }
+        ensures own { IfOk result (λ found. AllByRecursion (WasOwn found.asker.known) found.asker.earlier.items) }
         ensures memory { IfOk result (λ found. (found.memory ≡ found.asker.known) × (found.asker.marks.items ≡ found.memory.marks)) }
         ensures marks { IfOk result (λ found. AreWithin found.asker.client.chain found.memory × HasOneOfEachName found.memory) }
         ensures said { report_of said.new ≡ report_of said.old }

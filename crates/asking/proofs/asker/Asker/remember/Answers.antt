@@ -3,7 +3,7 @@ use Rattle.textio.specs.Lines.{lines_of}
 use Rattle.memory.specs.Memories.{Memory}
 use Rattle.asking.specs.Remembering.{AreWithin}
 use Rattle.asking.proofs.Marks.{spelled_once}
-use Rattle.asking.proofs.Remembered.{formed_on, one_spelled}
+use Rattle.asking.proofs.Remembered.{formed_on, one_spelled, remembered_own}
 use Rattle.asking.proofs.asker.Asker.remember.Goals as goal
 
 pub returns-clause-spells : goal.returns-clause-spells
@@ -26,3 +26,7 @@ returns-clause-within g c =
 
 pub returns-clause-once : goal.returns-clause-once
 returns-clause-once g c = spelled_once c.args.text.now c.in_ok-self-2.field-0 c.in_ok-self-2.ensures.spells
+
+pub returns-clause-own : goal.returns-clause-own
+returns-clause-own g c =
+    remembered_own c.args.text.now c.in_ok-self-2.field-0 c.args.self.now.earlier.items c.remember_lines.new.self.earlier.items c.in_ok-self-2.ensures.spells c.in_ok-memory.ensures.earlier

@@ -67,13 +67,13 @@ returns-clause-stands g c = λ lines start old acts among stands.
     (standing c.args.asker.now.client c.args.asker.now.monitors.items c.args.self.now.said.text.items) stands.0 in
     let enough : asked ≢ Err NoMemory → StateStands g.H.NodeHash.digest_of g.V.VufCheck.accepted g.S.Verifier.verified lines before.key start old happened state out (standing after.client after.monitors.items said'.text.items) = λ some.
     let (reached, does, told, client, monitors) = c.in-Some-ask_said.ensures.stands some in
-    line-stands g.H.NodeHash.digest_of g.V.VufCheck.accepted g.S.Verifier.verified (ExchangesFrames g.T.Write.contents g.T.Read.remaining) lines start old happened before after said said' c.args.stream.now out reached told client monitors line state (λ name given is. among name given (seen ∙ ap Some is)) does stands in (
+    line-stands g.H.NodeHash.digest_of g.V.VufCheck.accepted g.S.Verifier.verified (ExchangesFrames g.T.Write.contents g.T.Read.remaining) lines start old happened before after said said' c.args.stream.now out reached told client monitors line state (among line seen) does stands in (
       c.settle.ensures.kept lines before.key start old acts kept enough,
       settled-run g.H.NodeHash.digest_of g.V.VufCheck.accepted g.S.Verifier.verified lines start old happened' before.key after (ap (λ (b : Background). b.key) c.ask_said.ensures.stays) c.settle.new.self.said said'.status c.settle.result asked
           c.settle.new.self.state (g.W.Write.contents c.settle.new.writer) c.settle.ensures.asked (told-so c.settle.result out (g.W.Write.contents c.settle.new.writer) said'.text.items c.settle.new.self.said said'.status c.settle.ensures.writes)
           (stands.1 ∙ sym (ap (λ (b : Background). b.marks) c.ask_said.ensures.stays))
           (λ some. let (reached, does, told, client, monitors) = c.in-Some-ask_said.ensures.stands some in
-          line-ready g.H.NodeHash.digest_of g.V.VufCheck.accepted g.S.Verifier.verified (ExchangesFrames g.T.Write.contents g.T.Read.remaining) lines start old happened before after said said' c.args.stream.now out reached told client monitors line does c.ask_said.ensures.stays stands.2)
+          line-ready g.H.NodeHash.digest_of g.V.VufCheck.accepted g.S.Verifier.verified (ExchangesFrames g.T.Write.contents g.T.Read.remaining) lines start old happened before after said said' c.args.stream.now out reached told client monitors line (among line seen) does c.ask_said.ensures.stays stands.2)
           (ok_then c.settle.result c.settle.ensures.stands (λ goes some. goes lines before.key start old acts (enough some))),
     )
 
