@@ -1,6 +1,6 @@
 -- The client stays with its provider, and each promise that is noted is one that the provider signed for a change that was
 -- asked for.
-use Rattle.std.proofs.Common.{◌≡◌, ◌∙◌, ◌⊎◌, ◌-◌, ℕ, List, [], ◌∷◌, ◌++◌, length, Option, Some, Result, Ok, Err, ap, ap₂, arith, inl, inr, refl, subst, sym}
+use Rattle.std.proofs.Common.{◌≡◌, ◌∙◌, ◌⊎◌, ◌-◌, ℕ, List, [], ◌∷◌, ◌++◌, length, Some, Result, Ok, Err, ap, ap₂, arith, inl, inr, refl, subst, sym}
 use Rattle.std.proofs.lemmas.List.{get_or_push, length_push}
 use Rattle.std.proofs.lemmas.Option.{get_or_from_slice_get}
 use Rattle.std.specs.Prelude.{slice_get, ⊤}
@@ -18,7 +18,7 @@ use Rattle.wire.specs.Responses.{ResponseContent, Promise, Proof, Refused, Respo
 use Rattle.play.specs.Scripts.{ScriptLine, Pass, Ask, Watch, Piece, End}
 use Rattle.play.proofs.Calling.{one-promise}
 use Rattle.memory.specs.declared.mark.Mark.{Mark}
-use Rattle.asking.specs.Asking.{replied, AsksDirectory, AsksOn, AsksSome, CatchesSome, CatchesUp, HearsSome, Notes}
+use Rattle.asking.specs.Asking.{replied, AsksDirectory, AsksSome, CatchesSome, CatchesUp, HearsSome, Notes}
 use Rattle.asking.specs.Checking.{HearsFrame, HearsResponse}
 use Rattle.asking.specs.Ending.{DoesSomeNoting, PreparesSome}
 use Rattle.asking.specs.Following.{asks_roots, StopsFollowing}

@@ -1,4 +1,4 @@
-use Rattle.std.proofs.Common.{◌≡◌, Some, refl, rules}
+use Rattle.std.proofs.Common.{◌≡◌, Some, rules}
 use Rattle.asking.proofs.Keeping.{added}
 use Rattle.asking.proofs.run.Run.add.Goals as goal
 
