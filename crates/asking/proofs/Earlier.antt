@@ -19,9 +19,6 @@ pub ok_so : {A E P : Type 0} (result : Result A E) → P → OnOk result P
 ok_so (Ok done) holds = holds
 ok_so (Err why) holds = tt
 
-pub keeps_none : (client : Client) (earlier : List SignedPromise) → earlier ≡ [] → KeepsAll client earlier
-keeps_none client earlier none = subst (λ (all : List SignedPromise). KeepsAll client all) (sym none) tt
-
 -- nothing changes
 pub keeps_same : (client after : Client) (earlier earlier' : List SignedPromise) → after ≡ client → earlier' ≡ earlier → KeepsAll client earlier → KeepsAll after earlier'
 keeps_same client after earlier earlier' is same keeps = subst (λ (c : Client). KeepsAll c earlier') (sym is) (subst (λ (all : List SignedPromise). KeepsAll client all) (sym same) keeps)

@@ -48,17 +48,7 @@ pub err_so : {A E P : Type 0} (result : Result A E) → P → OnErr result P
 err_so (Ok done) holds = tt
 err_so (Err why) holds = holds
 
-pub err_then : {A E P Q : Type 0} (result : Result A E) → OnErr result P → (P → Q) → OnErr result Q
-err_then (Ok done) holds leads = tt
-err_then (Err why) holds leads = leads holds
-
 -- ---- what is written
-
--- a text is written, or less of it
-pub some_by : (result : Result (Unit {0}) StreamFault) (old new : Option (List ℕ)) (text : List ℕ) → OnOk result (Appends old new text)
-    → IfErr result (λ why. (why ≡ device.CannotWrite) × WritesBeginning old new text) → WritesSome old new text
-some_by (Ok done) old new text appends begins = ([], (text, sym (append-nil text), appends))
-some_by (Err why) old new text appends (is, (rest, some, but)) = (rest, but)
 
 -- nothing is written
 pub some_not : (old : Option (List ℕ)) (text : List ℕ) → WritesSome old old text
@@ -101,12 +91,6 @@ pub reaches_whole : {T : Type 0} (Reaches : Scene T → Type 0) (told : Report) 
 reaches_whole Reaches told old new said (reached, is, same) leaves = (reached, is, subst (λ (r : Report). HoldsBack new said r old) same leaves)
 
 -- ---- the status
-
-pub stopped_low : (before after : ℕ) → after ≡ before → after < 3 → stopped_status before ≡ 1
-stopped_low before after same low = grind (arith, nat_tests)
-
-pub stopped_high : (before after : ℕ) → after ≡ before → 3 ≤ after → stopped_status before ≡ 3
-stopped_high before after same high = grind (arith, nat_tests)
 
 -- ---- no client starts
 
@@ -379,10 +363,6 @@ module _ (hash : List ℕ → List ℕ) (accepted verified : List ℕ → List �
               early-with (HoldsBack new said) (λ told now. (told.status < 3) × WritesSome now new' told.lines) stream input old
               (λ told now leaves. (subst (λ (n : ℕ). n < 3) leaves.0 low, written_then now new new' said told leaves wrote)) (early empty)
           by (Ok done) result early (is, same) low wrote = subst (λ (r : Result RunEnd F). OnErr r (FailsAs hash accepted verified exchanged key token options None' stream input old new')) (sym is) tt
-
-  -- memory runs out before anything is asked
-  pub fails_first : (key token : List ℕ) (options : AskOptions) (HasNoState : Type 0) (stream : T) (input old : Option (List ℕ)) → FailsAs hash accepted verified exchanged key token options HasNoState stream input old old
-  fails_first key token options HasNoState stream input old = (emptied 0, old, (omega arith, some_not old []), inl (inl refl, refl))
 
 -- ---- a socket
 

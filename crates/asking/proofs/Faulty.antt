@@ -46,20 +46,6 @@ beginning_with HasState ReadsInput IsUnasked fault (inl (has, inl system)) = sys
 beginning_with HasState ReadsInput IsUnasked fault (inl (has, inr (line, is))) = subst (λ (f : ProgramFault). IsFaultWith HasState ReadsInput IsUnasked f) (sym is) has
 beginning_with HasState ReadsInput IsUnasked fault (inr is) = subst (λ (f : ProgramFault). IsFaultWith HasState ReadsInput IsUnasked f) (sym is) tt
 
--- a read or memory failed, or a write
-pub device_system : (fault : ProgramFault) → IsDeviceFault fault → IsSystemFault fault
-device_system BadHex device = device
-device_system (BadItem line) device = absurd device
-device_system (IndexRepeated line) device = device
-device_system (NotACommand line) device = absurd device
-device_system NotEvidence device = device
-device_system BadRecord device = device
-device_system OtherKeys device = device
-device_system CannotRead device = device
-device_system CannotWrite device = absurd device
-device_system CannotListen device = device
-device_system OutOfMemory device = device
-
 either : {A B C D : Type 0} → (A → C) → (B → D) → A ⊎ B → C ⊎ D
 either left right (inl a) = inl (left a)
 either left right (inr b) = inr (right b)

@@ -24,11 +24,6 @@ pub report_silent : (said : Said) → said.text.items ≡ [] → said.status ≡
 report_silent said text status = ap (λ (xs : List ℕ). let t : Report = record { lines = xs; status = said.status } in t) text
     ∙ ap (λ (n : ℕ). let t : Report = record { lines = []; status = n } in t) status
 
--- it had said nothing, and then it was told so
-pub tells_nothing : {A E : Type 0} (result : Result A E) (before after : Said) → after ≡ before → OnOk result (Tells before silent after)
-tells_nothing (Ok done) before after same = subst (λ (s : Said). Tells before silent s) (sym same) (sym (append-nil before.text.items), sym (worse-zero before.status))
-tells_nothing (Err why) before after same = tt
-
 abbrev pub Anything : Monitor → Monitor → Type 0
 Anything before after = Unit {0}
 

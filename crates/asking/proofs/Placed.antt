@@ -20,13 +20,6 @@ module _ (hash : List ℕ → List ℕ) (verified : List ℕ → List ℕ → Li
   abbrev pub IsPassing : List SignedRoot → Type 0
   IsPassing rest = (stop : Option Refusal) → StopsAmong hash verified chain rest stop → StopsAmong hash verified chain all stop
 
-  pub passing-on : (first : SignedRoot) (more : List SignedRoot) → IsPassing (first ∷ more) → StopsAtRoot hash verified chain first None → IsPassing more
-  passing-on first more passing is stop later = passing stop (inr (is, later))
-
-  pub passing-stop : (first : SignedRoot) (more : List SignedRoot) (why : Refusal) → IsPassing (first ∷ more) → StopsAtRoot hash verified chain first (Some why)
-      → StopsAmong hash verified chain all (Some why)
-  passing-stop first more why passing is = passing (Some why) (inl (why, refl, is))
-
   -- where it stops at none, all are told
   pub all_told : (rest : List SignedRoot) → StopsAmong hash verified chain rest None → AreTold hash verified chain all rest (fine (response_text (Roots all)))
   all_told [] none = refl

@@ -28,19 +28,6 @@ use Rattle.asking.specs.Standing.{AsksAmong}
 use Rattle.asking.proofs.Joined.{scene_of}
 use Rattle.asking.proofs.Telling.{worse_none}
 
-background-by : {H V S : Type 0} (before after : Asker H V S) → after.key ≡ before.key → after.token ≡ before.token → after.marks.items ≡ before.marks.items → after.earlier.items ≡ before.earlier.items → after.known ≡ before.known
-    → background_of after ≡ background_of before
-background-by before after key token marks earlier known =
-    ap (λ (k : List ℕ). let t : Background = record { key = k; token = after.token; marks = after.marks.items; earlier = after.earlier.items; known = after.known } in t) key
-    ∙ ap (λ (k : List ℕ). let t : Background = record { key = before.key; token = k; marks = after.marks.items; earlier = after.earlier.items; known = after.known } in t) token
-    ∙ ap (λ (k : List Mark). let t : Background = record { key = before.key; token = before.token; marks = k; earlier = after.earlier.items; known = after.known } in t) marks
-    ∙ ap (λ (k : List SignedPromise). let t : Background = record { key = before.key; token = before.token; marks = before.marks.items; earlier = k; known = after.known } in t) earlier
-    ∙ ap (λ (k : Memory). let t : Background = record { key = before.key; token = before.token; marks = before.marks.items; earlier = before.earlier.items; known = k } in t) known
-
--- no answer changes what is known
-pub known_stays : {H V S : Type 0} (before after : Asker H V S) → Remains before after → background_of after ≡ background_of before
-known_stays before after (key, token, marks, earlier, known) = background-by before after key token (ap (λ (all : Vec Mark Global). all.items) marks) (ap (λ (all : Vec SignedPromise Global). all.items) earlier) known
-
 module _ (hash : List ℕ → List ℕ) (accepted verified : List ℕ → List ℕ → List ℕ → Type 0) {T : Type 0} (exchanged : T → RequestContent → Frame → T → Type 0) (background : Background) where
   -- an output to which nothing was appended is as good
   from-same : (lines : List (List ℕ)) (before after : Scene T) (old now new : Option (List ℕ)) → Appends old now [] → AsksLines hash accepted verified exchanged background lines before now new after

@@ -31,9 +31,6 @@ own-more (first ∷ done) line own one (here, rest, has, more, whole) is =
 abbrev pub OwnSoFar : List (List ℕ) → List (List ℕ) → List SignedPromise → List SignedPromise → Type 0
 OwnSoFar lines left first now = (done : List (List ℕ)) × (own : List SignedPromise) × (lines ≡ done ++ left) × AreOwnOf done own × (now ≡ first ++ own)
 
-pub own_none : (lines : List (List ℕ)) (first : List SignedPromise) → OwnSoFar lines lines first first
-own_none lines first = ([], [], refl, refl, sym (append-nil first))
-
 pub own_on : (lines left : List (List ℕ)) (line : List ℕ) (rest : List (List ℕ)) (first middle last one : List SignedPromise) → left ≡ line ∷ rest → IsOwnOf line one → last ≡ middle ++ one
     → OwnSoFar lines left first middle → OwnSoFar lines rest first last
 own_on lines left line rest first middle last one at is grown (done, own, parts, all, here) = (
@@ -43,9 +40,6 @@ own_on lines left line rest first middle last one at is grown (done, own, parts,
   own-more done line own one all is,
   grown ∙ ap (λ (xs : List SignedPromise). xs ++ one) here ∙ append_assoc first own one,
 )
-
-pub own_whole : (lines : List (List ℕ)) (first now : List SignedPromise) → OwnSoFar lines [] first now → (own : List SignedPromise) × AreOwnOf lines own × (now ≡ first ++ own)
-own_whole lines first now (done, own, parts, all, here) = let whole : lines ≡ done = parts ∙ append-nil done in (own, rw whole all, here)
 
 -- each of them is well formed
 abbrev AreFormed : List SignedPromise → Type 0

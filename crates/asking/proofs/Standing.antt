@@ -119,28 +119,4 @@ module _ (hash : List ℕ → List ℕ) (accepted verified : List ℕ → List �
       )
   watched_stands name given given' noted noted' (Err fault.Stopped) before asker said stream is same begins err halts enough = absurd (err refl)
   watched_stands name given given' noted noted' (Err fault.OutOfMemory) before asker said stream is same begins err halts enough = absurd (enough refl)
-
   -- ---- without what is noted
-
-  pub line_noting : (said : ScriptLine) (noted noted' : List SignedPromise) (before after : Scene T)
-      → DoesLineNoting hash accepted verified exchanged background said noted noted' before after → DoesLine hash accepted verified exchanged background said before after
-  line_noting Pass noted noted' before after does = does.0
-  line_noting (Ask asked) noted noted' before after does = (noted, noted', does)
-  line_noting (Watch name given) noted noted' before after does = (noted, does.0)
-  line_noting (Piece session piece) noted noted' before after does = absurd does
-  line_noting (End session) noted noted' before after does = absurd does
-
-  part_noting : (said : ScriptLine) (noted noted' : List SignedPromise) (before after : Scene T)
-      → DoesPartNoting hash accepted verified exchanged background said noted noted' before after → DoesPart hash accepted verified exchanged background said before after
-  part_noting Pass noted noted' before after does = absurd does
-  part_noting (Ask asked) noted noted' before after (inl stops) = inl stops.0
-  part_noting (Ask asked) noted noted' before after (inr asks) = inr (noted, noted', asks)
-  part_noting (Watch name given) noted noted' before after does = (noted, does.0)
-  part_noting (Piece session piece) noted noted' before after does = absurd does
-  part_noting (End session) noted noted' before after does = absurd does
-
-  pub some_noting : (said : ScriptLine) (noted noted' : List SignedPromise) (before after : Scene T)
-      → DoesSomeNoting hash accepted verified exchanged background said noted noted' before after → DoesSome hash accepted verified exchanged background said before after
-  some_noting said noted noted' before after (inl none) = inl none.0
-  some_noting said noted noted' before after (inr (inl does)) = inr (inl (line_noting said noted noted' before after does))
-  some_noting said noted noted' before after (inr (inr part)) = inr (inr (part_noting said noted noted' before after part))

@@ -85,24 +85,6 @@ module _ (hash : List ℕ → List ℕ) (accepted verified : List ℕ → List �
       once = marks.once kept.once;
     }
 
-    -- the same has happened
-    abbrev pub kept-happened : (Happened' : List Act → Type 0) → ((acts : List Act) → Happened acts → Happened' acts) → IsKept hash accepted verified lines key start old Happened' epoch known out
-    kept-happened Happened' goes = record {
-      acts = kept.acts;
-      happened = goes kept.acts kept.happened;
-      text = kept.text;
-      is-out = kept.is-out;
-      all = kept.all;
-      now = kept.now;
-      next = kept.next;
-      early = kept.early;
-      low-start = kept.low-start;
-      low = kept.low;
-      low-next = kept.low-next;
-      begun = kept.begun;
-      once = kept.once;
-    }
-
     -- more is written
     abbrev pub kept-out : (out' : Option (List ℕ)) (more : List ℕ) → out' ≡ Some ((old ++ kept.text) ++ more) → IsKept hash accepted verified lines key start old Happened epoch known out'
     kept-out out' more is = record {
@@ -149,24 +131,6 @@ module _ (hash : List ℕ → List ℕ) (accepted verified : List ℕ → List �
         begun = kept.begun;
         once = kept.once;
       }
-
-    -- what is known is to be remembered
-    abbrev pub kept-remembered : (Happened' : List Act → Type 0) → ((acts : List Act) → Happened acts → Happened' (Remembers known out ∷ acts)) → IsKept hash accepted verified lines key start old Happened' epoch known out
-    kept-remembered Happened' goes = record {
-      acts = Remembers known out ∷ kept.acts;
-      happened = goes kept.acts kept.happened;
-      text = kept.text;
-      is-out = kept.is-out;
-      all = (kept.all, (kept.text, kept.is-out, kept.next));
-      now = kept.next;
-      next = kept.next;
-      early = kept.early;
-      low-start = kept.low-start;
-      low = kept.low-next;
-      low-next = kept.low-next;
-      begun = kept.begun;
-      once = kept.once;
-    }
 
     -- it is, or nothing happens
     abbrev pub kept-handed : (Happened' : List Act → Type 0) → ((acts : List Act) → Happened acts → Happened' acts ⊎ Happened' (Remembers known out ∷ acts)) → IsKept hash accepted verified lines key start old Happened' epoch known out
