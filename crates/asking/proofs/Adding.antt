@@ -1,5 +1,5 @@
 -- What a state learns and hands on, step by step.
-use Rattle.std.proofs.Common.{◌≡◌, ◌∙◌, ◌⊎◌, ℕ, zero, suc, ◌≤◌, true, false, List, [], ◌∷◌, ◌++◌, drop, Contains, Option, ap, arith, inl, refl, subst, sym}
+use Rattle.std.proofs.Common.{◌≡◌, ◌∙◌, ℕ, zero, suc, true, false, List, [], ◌∷◌, ◌++◌, drop, Contains, arith, refl, subst, sym}
 use Rattle.std.specs.List.{AllByRecursion}
 use Rattle.rootchain.specs.declared.signed_promise.SignedPromise.{SignedPromise}
 use Rattle.monitor.specs.Monitors.{Monitor}
@@ -7,8 +7,7 @@ use Rattle.memory.specs.Learning.{EachOfSome, Each, MarksOne}
 use Rattle.memory.specs.Memories.{Memory}
 use Rattle.memory.specs.declared.item.Item.{Item}
 use Rattle.asking.specs.Keeping.{LearnsPromises}
-use Rattle.asking.specs.Standing.{KeepsMarks}
-use Rattle.asking.proofs.PutMarks.{marks-then, promises-marks, promises-stay, same-marks}
+use Rattle.asking.proofs.PutMarks.{promises-stay}
 
 shift-all : {A : Type 0} (x : A) (xs ys : List A) → AllByRecursion (Contains xs) ys → AllByRecursion (Contains (x ∷ xs)) ys
 shift-all x xs [] all = tt

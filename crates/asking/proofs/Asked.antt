@@ -1,5 +1,5 @@
 -- A line that was asked.
-use Rattle.std.proofs.Common.{◌≡◌, ◌≢◌, ◌∙◌, ◌⊎◌, ◌-◌, ◌<◌, ◌≤◌, ◌++◌, ◌∷◌, [], ℕ, zero, suc, Bool, true, nat_lt, if◌then◌else◌, List, Option, Some, Result, Ok, Err, Global, Vec, ap, arith, inl, inr, length, refl, rules, subst, sym}
+use Rattle.std.proofs.Common.{◌≡◌, ◌≢◌, ◌∙◌, ◌⊎◌, ◌-◌, ◌<◌, ◌≤◌, ◌++◌, ◌∷◌, [], ℕ, zero, suc, Bool, true, nat_lt, if◌then◌else◌, List, Some, Result, Ok, Err, Global, Vec, ap, arith, inl, inr, length, refl, subst, sym}
 use Rattle.std.specs.Prelude.{slice_get, OnErr, OnOk}
 use Rattle.std.proofs.lemmas.Bool.Decides.{nat_tests}
 use Rattle.std.proofs.lemmas.Option.{slice_get_cases}

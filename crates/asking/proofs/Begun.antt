@@ -1,17 +1,16 @@
 -- How a run begins that has a state.
-use Rattle.std.proofs.Common.{◌≡◌, ◌∙◌, ℕ, ◌≤◌, List, [], ◌∷◌, ◌++◌, Contains, Option, Some, None, Result, Ok, Err, ap, append-nil, arith, inl, inr, refl, subst, sym}
+use Rattle.std.proofs.Common.{◌≡◌, ◌∙◌, ℕ, List, [], ◌∷◌, ◌++◌, Contains, Option, Some, None, Result, Ok, Err, ap, append-nil, arith, inl, inr, refl, subst, sym}
 use Rattle.std.specs.Prelude.{IfErr, IfOk, OnErr}
 use Rattle.std.specs.List.{AllByRecursion}
-use Rattle.rootchain.specs.Chains.{IsChain, IsHead, KeyedRoots}
+use Rattle.rootchain.specs.Chains.{IsChain, KeyedRoots}
 use Rattle.rootchain.specs.SignedRoots.{IsSignedRoot}
 use Rattle.rootchain.specs.declared.signed_promise.SignedPromise.{SignedPromise}
 use Rattle.rootchain.specs.declared.signed_root.SignedRoot.{SignedRoot}
-use Rattle.client.specs.Clients.{started, Client, IsPromised, IsSoundClient}
+use Rattle.client.specs.Clients.{Client, IsPromised, IsSoundClient}
 use Rattle.client.specs.Starting.{Starts}
 use Rattle.memory.specs.Memories.{nothing, Memory}
-use Rattle.memory.specs.declared.mark.Mark.{Mark}
 use Rattle.monitor.specs.Monitors.{Monitor}
-use Rattle.asking.specs.Owning.{IsHeld, IsOwn, Owns}
+use Rattle.asking.specs.Owning.{Owns}
 use Rattle.asking.specs.Remembering.{AreWithin}
 use Rattle.asking.specs.Runs.{background_of, new_background, Background, IsSoundFor, KeepsAll}
 use Rattle.asking.specs.Saves.{stored_by, stored_nothing, Act, HasOneOfEachName, IsAsked, IsHeadEpoch, IsOwnPromise, Loads, Stored, WasOwn}

@@ -1,6 +1,6 @@
 -- A promise that is handed to monitors, one after another, and what is told of it.
-use Rattle.std.proofs.Common.{◌≡◌, ◌∙◌, ◌⊎◌, ◌+◌, ◌-◌, ◌<◌, ◌≤◌, ◌++◌, ◌∷◌, [], ℕ, zero, suc, List, Option, Some, None, Result, Ok, Err, ap, arith, append-nil, append_assoc, drop, get_or, inl, inr, length, refl, rules, slice_set, subst, sym, take, take_all}
-use Rattle.std.specs.Prelude.{slice_get, OnOk}
+use Rattle.std.proofs.Common.{◌≡◌, ◌∙◌, ◌⊎◌, ◌+◌, ◌<◌, ◌≤◌, ◌++◌, ◌∷◌, [], ℕ, List, Option, Some, Result, Ok, Err, ap, arith, append-nil, append_assoc, drop, get_or, inl, inr, length, refl, rules, slice_set, subst, sym, take, take_all}
+use Rattle.std.specs.Prelude.{OnOk}
 use Rattle.std.proofs.lemmas.List.{drop_all, drop_more, take_more_set}
 use Rattle.rootchain.specs.declared.signed_promise.SignedPromise.{SignedPromise}
 use Rattle.monitor.specs.Monitors.{Monitor}

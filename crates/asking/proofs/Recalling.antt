@@ -1,5 +1,5 @@
 -- Alarms of earlier runs that are told again before a name is watched.
-use Rattle.std.proofs.Common.{◌≡◌, ◌≢◌, ◌∙◌, ℕ, zero, suc, ap, arith, List, Option, Result, Ok, Err, inl, inr, refl, sym, subst}
+use Rattle.std.proofs.Common.{◌≡◌, ◌≢◌, ◌∙◌, ℕ, zero, suc, ap, arith, List, Option, Result, Ok, Err, inl, inr, refl, subst}
 use Rattle.std.specs.Prelude.{IfErr, OnOk}
 use Rattle.memory.specs.Memories.{Memory}
 use Rattle.memory.specs.declared.mark.Mark.{Mark}

@@ -9,18 +9,16 @@ use Rattle.client.specs.Clients.{Client}
 use Rattle.memory.specs.Lists.{HasNoRepeat}
 use Rattle.memory.specs.Memories.{name_of, Memory}
 use Rattle.memory.specs.declared.mark.Mark.{Mark}
-use Rattle.monitor.specs.Monitors.{Monitor}
 use Rattle.wire.specs.Frames.{Frame}
 use Rattle.wire.specs.Requests.{RequestContent}
-use Rattle.play.specs.Scripts.{ScriptLine, Pass, Ask, Watch, Piece, End}
+use Rattle.play.specs.Scripts.{ScriptLine}
 use Rattle.asking.specs.Ending.{DoesSomeNoting, PreparesSome}
-use Rattle.asking.specs.Joining.{own_for}
 use Rattle.asking.specs.Owning.{Owns}
 use Rattle.asking.specs.Reports.{report_of, Report}
 use Rattle.asking.specs.Runs.{background_of, emptied, Background}
 use Rattle.asking.specs.Saves.{stored_after, Act, IsAsked, IsOwnPromise, IsSaid, Stored}
 use Rattle.asking.specs.Scenes.{scene, Scene}
-use Rattle.asking.specs.Standing.{standing, IsKept, IsReady, RunStands, Stands, StateIsKept, StateStands}
+use Rattle.asking.specs.Standing.{standing, IsReady, RunStands, Stands, StateStands}
 use Rattle.asking.specs.declared.ask_fault.AskFault.{AskFault}
 use Rattle.asking.specs.declared.ask_fault.AskFault.TheVariants.{OutOfMemory as NoMemory}
 use Rattle.asking.specs.declared.ask_fault.RunFault.{RunFault}

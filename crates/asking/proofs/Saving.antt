@@ -1,9 +1,9 @@
 -- How a state stands once it learned what was told, and handed it on.
-use Rattle.std.proofs.Common.{◌≡◌, ◌⊎◌, ℕ, List, [], ◌∷◌, drop, Contains, Option, inl, inr, subst, sym}
+use Rattle.std.proofs.Common.{◌≡◌, ◌⊎◌, ℕ, List, [], ◌∷◌, Contains, Option, inl, inr, subst, sym}
 use Rattle.std.specs.List.{AllByRecursion}
 use Rattle.rootchain.specs.Chains.{KeyedRoots}
 use Rattle.client.specs.Clients.{Client}
-use Rattle.memory.specs.Learning.{BeginsOne, Each, MarksOne}
+use Rattle.memory.specs.Learning.{Each, MarksOne}
 use Rattle.memory.specs.Memories.{Memory}
 use Rattle.memory.specs.declared.item.Item.{Item}
 use Rattle.monitor.specs.Monitors.{Monitor}
@@ -12,8 +12,8 @@ use Rattle.asking.specs.Saves.{Act, Remembers, Stored}
 use Rattle.asking.specs.Scenes.{Scene}
 use Rattle.asking.specs.Standing.{standing, IsKept, IsUpTo, Stands}
 use Rattle.asking.proofs.Adding.{all-self, drop-among}
-use Rattle.asking.proofs.PutMarks.{monitors-move, monitors-put, same-marks}
-use Rattle.asking.proofs.Stood.{kept-handed, stands-begun, stands-handed, stands-moved, stands-same}
+use Rattle.asking.proofs.PutMarks.{monitors-move, same-marks}
+use Rattle.asking.proofs.Stood.{kept-handed, stands-handed, stands-moved, stands-same}
 
 -- the monitors whose marks may move are among all
 pub may-among : (chain : KeyedRoots) (head known : ℕ) (monitors some : List Monitor) → MayMove chain head known monitors some → AllByRecursion (Contains monitors) some

@@ -1,5 +1,5 @@
 -- A name that is settled.
-use Rattle.std.proofs.Common.{◌≡◌, ◌∙◌, ◌++◌, [], ℕ, List, Option, Result, Ok, Err, ap, append-nil, append_assoc, inl, inr, refl, subst, sym}
+use Rattle.std.proofs.Common.{◌≡◌, ◌∙◌, ◌++◌, [], ℕ, List, Option, Result, Ok, Err, ap, append-nil, append_assoc, inl, inr, subst, sym}
 use Rattle.std.specs.Prelude.{IfErr, IfOk, OnErr}
 use Rattle.std.specs.Io.KnownBytes.{Appends}
 use Rattle.memory.specs.Memories.{nothing, Memory}
@@ -8,7 +8,7 @@ use Rattle.textio.specs.declared.program_fault.ProgramFault.{ProgramFault}
 use Rattle.asking.specs.AskOptions.{AskOptions}
 use Rattle.asking.specs.Ending.{AsksOverSocket, FailsOverSocket}
 use Rattle.asking.specs.Recalled.{evidence_again}
-use Rattle.asking.specs.RunFaults.{AsksInput, IsFaultOfState, IsRunFault}
+use Rattle.asking.specs.RunFaults.{IsFaultOfState, IsRunFault}
 use Rattle.asking.specs.Reports.{report_of, told_after, Report}
 use Rattle.asking.specs.Runs.{emptied}
 use Rattle.asking.specs.Settling.{settled_line, settled_text, IsSettling, Settles, SettlesPart}

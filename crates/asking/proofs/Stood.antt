@@ -4,14 +4,13 @@ use Rattle.std.specs.Prelude.{if◌then◌else◌, nat_lt}
 use Rattle.std.specs.List.{AllByRecursion}
 use Rattle.std.proofs.lemmas.Bool.{ltb-true}
 use Rattle.std.proofs.lemmas.List.Elements.{All-contains, All-from_recursion, Contains-append_cases}
-use Rattle.rootchain.specs.Chains.{IsHead}
 use Rattle.rootchain.specs.declared.signed_root.SignedRoot.{SignedRoot}
 use Rattle.client.specs.Clients.{Client}
 use Rattle.memory.specs.Memories.{Memory}
 use Rattle.memory.specs.declared.mark.Mark.{Mark}
 use Rattle.monitor.specs.Monitors.{Monitor}
 use Rattle.asking.specs.Owning.{IsHeld, IsOwn, Owns, WasWatched}
-use Rattle.asking.specs.Saves.{roots_above, stored_after, Act, AddsRoots, AllKeepTold, HasMark, IsAsked, IsOwnPromise, KeepsTold, Remembers, Stored, WasStored}
+use Rattle.asking.specs.Saves.{roots_above, stored_after, Act, AddsRoots, IsAsked, IsOwnPromise, KeepsTold, Remembers, Stored, WasStored}
 use Rattle.asking.specs.Scenes.{Scene}
 use Rattle.asking.specs.Standing.{standing, Fits, IsKept, IsUpTo, KeepsMarks, Stands}
 use Rattle.asking.specs.Told.{TellsEpoch}

@@ -1,6 +1,5 @@
 -- How a run stands once more is written.
-use Rattle.std.proofs.Common.{◌≡◌, ◌≢◌, ◌∙◌, ◌⊎◌, ℕ, List, [], ◌++◌, Option, Some, None, Result, Ok, Err, ap, inl, inr, refl, subst, sym}
-use Rattle.std.specs.Prelude.{IfSome}
+use Rattle.std.proofs.Common.{◌≡◌, ◌≢◌, ◌⊎◌, ℕ, List, [], ◌++◌, Option, Some, None, Result, Ok, Err, ap, inl, inr, refl, subst}
 use Rattle.std.specs.Io.KnownBytes.{Appends}
 use Rattle.textio.specs.Output.{WritesSome}
 use Rattle.client.specs.Clients.{Client}
@@ -8,7 +7,7 @@ use Rattle.memory.specs.Memories.{Memory}
 use Rattle.monitor.specs.Monitors.{Monitor}
 use Rattle.asking.specs.Saves.{stored_after, Act, IsAsked, IsOwnPromise, Stored}
 use Rattle.asking.specs.Scenes.{Scene}
-use Rattle.asking.specs.Standing.{standing, IsKept, IsLeft, Stands, StateIsKept, StateStands}
+use Rattle.asking.specs.Standing.{standing, IsLeft, Stands, StateIsKept, StateStands}
 use Rattle.asking.specs.declared.ask_fault.AskFault.{AskFault}
 use Rattle.asking.specs.declared.ask_fault.AskFault.TheVariants as fault
 use Rattle.asking.specs.declared.state.State.{State}

@@ -1,4 +1,3 @@
-use Rattle.asking.proofs.RunSteps.{line-ready, line-stands, prepared-ready, prepared-stands}
 use Rattle.std.proofs.Common.{◌≡◌, None}
 use Rattle.asking.specs.Exchanges.{ExchangesFrames}
 use Rattle.asking.proofs.ToldRuns.{whole-keeps}

@@ -1,6 +1,3 @@
-use Rattle.std.proofs.Common.{◌≡◌, Result, Ok, Err, subst, sym}
-use Rattle.asking.specs.Recalled.{TellsAlarms}
-use Rattle.asking.specs.Reports.{report_of, Report}
 use Rattle.asking.proofs.Recalling.{alarms_joined}
 use Rattle.asking.proofs.asker.Asker.tell_alarms.Goals as goal
 

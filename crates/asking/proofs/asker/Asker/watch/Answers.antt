@@ -1,7 +1,6 @@
-use Rattle.std.proofs.Common.{◌≡◌, ◌≢◌, Err, option_map, rules}
+use Rattle.std.proofs.Common.{◌≡◌, Err, option_map, rules}
 use Rattle.asking.specs.Exchanges.{ExchangesFrames}
-use Rattle.asking.specs.Joining.{own_for, BeginsSome}
-use Rattle.asking.specs.Scenes.{scene}
+use Rattle.asking.specs.Joining.{own_for}
 use Rattle.asking.specs.declared.ask_fault.AskFault.TheVariants.{OutOfMemory}
 use Rattle.asking.proofs.Recalling.{begins_recalled, halts_recalled, halts_unrecalled}
 use Rattle.asking.proofs.asker.Asker.watch.Goals as goal

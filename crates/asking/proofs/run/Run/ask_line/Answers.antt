@@ -7,7 +7,7 @@ use Rattle.asking.specs.Runs.{AsksLine, background_of}
 use Rattle.asking.specs.Scenes.{scene}
 use Rattle.asking.proofs.Ended.{leaves_same, line_not, line_reaches, reaches_whole}
 use Rattle.asking.proofs.Ran.{ok_before, ok_then, written_so}
-use Rattle.std.proofs.Common.{◌≢◌, ◌∙◌, ◌++◌, ℕ, List, Err, Option, ap, rules, subst, sym}
+use Rattle.std.proofs.Common.{◌≢◌, ◌∙◌, ◌++◌, List, Err, ap, rules, sym}
 use Rattle.asking.specs.declared.ask_fault.AskFault.TheVariants.{OutOfMemory as NoMemory}
 use Rattle.asking.specs.Runs.{Background}
 use Rattle.asking.specs.Saves.{Act}

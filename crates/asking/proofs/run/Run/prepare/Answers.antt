@@ -6,7 +6,7 @@ use Rattle.asking.specs.Runs.{background_of, Prepares}
 use Rattle.asking.specs.Scenes.{scene}
 use Rattle.asking.proofs.Ended.{err_so, reaches_so}
 use Rattle.asking.proofs.Ran.{ok_before, written_so}
-use Rattle.std.proofs.Common.{◌≢◌, ◌∙◌, ◌++◌, ℕ, List, Err, Option, ap, subst, sym}
+use Rattle.std.proofs.Common.{◌≢◌, ◌∙◌, ◌++◌, List, Err, Option, ap, subst, sym}
 use Rattle.asking.specs.declared.ask_fault.AskFault.TheVariants.{OutOfMemory as NoMemory}
 use Rattle.asking.specs.declared.state.State.{State}
 use Rattle.asking.specs.Runs.{Background}

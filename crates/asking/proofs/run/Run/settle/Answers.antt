@@ -4,7 +4,7 @@ use Rattle.asking.specs.Reports.{report_of}
 use Rattle.asking.specs.declared.ask_fault.RunFault.TheVariants.{Ask}
 use Rattle.asking.proofs.Ended.{leaves_same, leaves_written}
 use Rattle.asking.proofs.Keeping.{kept_up, not_settled, was_asked}
-use Rattle.std.proofs.Common.{◌++◌, ◌⊎◌, [], Option, inl, inr}
+use Rattle.std.proofs.Common.{◌++◌, [], Option, inl, inr}
 use Rattle.std.specs.Prelude.{IfSome}
 use Rattle.std.specs.Io.KnownBytes.{Appends}
 use Rattle.asking.specs.Reports.{Report}

@@ -1,5 +1,4 @@
-use Rattle.std.proofs.Common.{◌∙◌, ◌∷◌, [], ◌++◌, ℕ, List, ap, drop, refl, subst}
-use Rattle.std.specs.List.{AllByRecursion}
+use Rattle.std.proofs.Common.{◌∙◌, ◌++◌, ℕ, List, ap, drop, refl}
 use Rattle.textio.specs.Lines.{lines_of}
 use Rattle.memory.specs.declared.kind.Kind.TheVariants.{EvidenceLines}
 use Rattle.monitor.specs.Monitors.{Monitor}

@@ -1,4 +1,4 @@
-use Rattle.std.proofs.Common.{◌≡◌, ◌∙◌, subst, sym}
+use Rattle.std.proofs.Common.{subst, sym}
 use Rattle.memory.specs.Memories.{Memory}
 use Rattle.rootchain.specs.Chains.{KeyedRoots}
 use Rattle.asking.specs.Remembering.{AreWithin}
