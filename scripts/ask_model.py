@@ -142,7 +142,7 @@ class Memory:
         """Whether an epoch above that of a promise was watched, by each monitor of its name, or the name has no mark.
         One whose monitor was held up at its first root has a mark with nothing watched."""
         mark = self.marks.get(signed.promise.name)
-        return mark is None or mark.epoch > max(mark.since, signed.promise.epoch)
+        return mark is None or mark.epoch > signed.promise.epoch
 
 
 def mark_of(monitors, earlier):

@@ -382,7 +382,7 @@ STORED_LIES = {
     "a change whose first monitor was held up": (
         lies((2, "lookup", memory_runs_out_for(4))),
         [run_of_lines("register 61 6b31", "close 2", "change 61 6b32"), run_of_lines("close 3", "close 4", "watch 61 6b31"), WATCH],
-        Ending(["kept 61 4"], 0, []),
+        Ending(["alarm 61 4 6b32"], 3, []),
     ),
     "a change whose monitor was held up twice": (
         lies((1, "lookup", memory_runs_out_at(3)), (2, None, memory_runs_out)),

@@ -1,5 +1,5 @@
 -- What a run adds to what is remembered.
-use Rattle.std.specs.Prelude.{◌≡◌, ◌≢◌, ◌⊎◌, ℕ, true, false, List, ◌++◌, drop, map, Option, None, Some, Result, Ok, Err, ⊤}
+use Rattle.std.specs.Prelude.{◌≡◌, ◌≢◌, ◌⊎◌, ℕ, true, false, List, ◌++◌, drop, length, map, Option, None, Some, Result, Ok, Err, ⊤}
 use Rattle.textio.specs.Lines.{lines_of}
 use Rattle.rootchain.specs.Chains.{IsHead, KeyedRoots}
 use Rattle.rootchain.specs.declared.signed_promise.SignedPromise.{SignedPromise}
@@ -9,6 +9,7 @@ use Rattle.memory.specs.Learning.{promised_item, BeginsOne, Each, IsFresh, Learn
 use Rattle.memory.specs.Memories.{Memory}
 use Rattle.memory.specs.declared.item.Item.{Item}
 use Rattle.memory.specs.declared.kind.Kind.TheVariants.{Alarms, EvidenceLines}
+use Rattle.asking.specs.Saves.{IsHeadEpoch}
 use Rattle.asking.specs.declared.ask_fault.AskFault.TheVariants.{NoReply, Stopped, OutOfMemory}
 use Rattle.asking.specs.declared.ask_fault.RunFault.{RunFault}
 use Rattle.asking.specs.declared.ask_fault.RunFault.TheVariants as run
@@ -45,18 +46,19 @@ IsSettled (Err (run.Ask Stopped)) = ⊤
 IsSettled (Err (run.Ask OutOfMemory)) = ⊥
 IsSettled (Err (run.Program fault)) = ⊥
 
--- what a state learns before this is told; where there is none, nothing is kept
+-- what a state learns before this is told, and how far it looked; where there is none, nothing is kept
 abbrev pub AddsTo : {H V S : Type 0} → Asker H V S → List ℕ → Option State → Option State → Type 0
 AddsTo asker told None after = after ≡ None
 AddsTo asker told (Some before) after = (kept : State) × (after ≡ Some kept)
     × LearnsBefore (drop before.changes asker.changes.items) asker.client.promises told (drop before.monitors asker.monitors.items) before.memory kept.memory
-    × (kept.head ≡ before.head) × (kept.monitors ≡ before.monitors)
+    × (kept.head ≡ before.head) × (kept.monitors ≡ before.monitors) × (kept.changes ≡ length asker.changes.items)
 
--- what it learns once it is told
+-- what it learns once it is told, and how far it looked
 abbrev pub SavesTo : {H V S : Type 0} → Asker H V S → List ℕ → Option State → Option State → Type 0
 SavesTo asker told None after = after ≡ None
 SavesTo asker told (Some before) after = (kept : State) × (after ≡ Some kept)
     × ((some : List Monitor) × MayMove asker.client.chain before.head before.monitors asker.monitors.items some × LearnsAfter told asker.monitors.items some before.memory kept.memory)
+    × IsHeadEpoch asker.client.chain kept.head × (kept.monitors ≡ length asker.monitors.items) × (kept.changes ≡ before.changes)
 
 -- both
 abbrev pub KeepsUp : {H V S : Type 0} → Asker H V S → List ℕ → Option State → Option State → Type 0

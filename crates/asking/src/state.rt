@@ -32,7 +32,7 @@ use vrfiface::VufCheck;
 #[derive(Drop)]
 pub(crate) struct State {
     alloc: Global,
-    /// Whether it was loaded. If not, something is kept that this run does not know.
+    /// Whether it was loaded. If not, something may be kept that this run does not know.
     is_loaded: bool,
     /// The epoch of the last root that is kept, or 0.
     epoch: u64,
@@ -324,12 +324,13 @@ impl State {
         writer: &W,
     ) -> Result<(), ProgramFault>
         ensures err { IfErr result IsFaultOfSaving }
-        ensures leaves { OnOk result (((self.old).is_loaded ≡ false) ⊎ Leaves (self.old).tested.items (self.old).memory (self.new).memory) }
+        ensures leaves { OnOk result (((self.old).is_loaded ≡ false) ⊎ ((self.old).epoch ≡ 0) ⊎ Leaves (self.old).tested.items (self.old).memory (self.new).memory) }
         ensures marks { (self.new).memory.marks ≡ (self.old).memory.marks }
         ensures hands { (acts : List Act) → K.has keeper.old acts → K.has keeper.new acts ⊎ (((self.old).is_loaded ≡ true) × K.has keeper.new (Remembers (self.new).memory (W.contents writer.now) ∷ acts)) }
         ensures same { ((self.new).is_loaded ≡ (self.old).is_loaded) × ((self.new).epoch ≡ (self.old).epoch) }
     {
-        if !self.is_loaded {
+        // A memory is kept beside a chain alone.
+        if !self.is_loaded || self.epoch == 0 {
             return Ok(());
         }
         self.memory.leave(&self.tested);

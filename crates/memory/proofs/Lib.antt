@@ -10,3 +10,6 @@ pub mod Least
 pub mod Recalled
 pub mod Learned
 pub mod OneMemory
+pub mod Taken
+pub mod WholeLines
+pub mod Sound

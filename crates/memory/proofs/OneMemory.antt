@@ -91,7 +91,7 @@ takes_one (Alarm alarm) before one other once (p, is) (q, be) =
 takes_one (Evidence line) before one other once (p, is) (q, be) =
     is ∙ ap (λ (xs : List (List ℕ)). record before { evidence = xs }) (puts_one (λ (x : List ℕ). x) later line before.evidence one.evidence other.evidence (as_keys before.evidence once.shown) p q) ∙ sym be
 
-takes-once : (item : Item) (before after : Memory) → HoldsEachOnce before → Takes item before after → HoldsEachOnce after
+pub takes-once : (item : Item) (before after : Memory) → HoldsEachOnce before → Takes item before after → HoldsEachOnce after
 takes-once (Promised promised) before after once (p, is) =
     let now = puts-once signed_of either promised (λ kept same. refl) before.promises after.promises once.promised p in
     subst HoldsEachOnce (sym is) (record { promised = now; watched = once.watched; alarmed = once.alarmed; shown = once.shown })

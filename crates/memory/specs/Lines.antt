@@ -1,5 +1,5 @@
 -- The lines of what is remembered: words with one space between them (the forms are this directory's own).
-use Rattle.std.specs.Prelude.{◌≡◌, ◌⊎◌, ℕ, ◌^◌, ◌<◌, ◌≤◌, Bool, true, false, List, [], ◌∷◌, Option, None, Some, IfSome, codes, decimal}
+use Rattle.std.specs.Prelude.{◌≡◌, ◌⊎◌, ℕ, ◌^◌, ◌<◌, ◌≤◌, Bool, true, false, List, [], ◌∷◌, Option, None, Some, IfSome, ⊤, codes, decimal}
 use Rattle.std.specs.List.{join_with_byte}
 use Rattle.auditor.specs.declared.evidence.Evidence.{Evidence as EvidenceMade}
 use Rattle.audits.specs.Files.{evidence_text}
@@ -58,6 +58,13 @@ IsSound (Promised promised) = IsSignedPromise promised.signed
 IsSound (Watched mark) = IsMark mark
 IsSound (Alarm alarm) = IsAlarm alarm
 IsSound (Evidence line) = IsEvidenceLine line
+
+-- a name that an item has is one
+abbrev pub IsNamed : Item → Type 0
+IsNamed (Promised promised) = ⊤
+IsNamed (Watched mark) = IsName mark.name
+IsNamed (Alarm alarm) = IsName alarm.name
+IsNamed (Evidence line) = ⊤
 
 -- the line is of this item
 abbrev pub IsLineOf : List ℕ → Item → Type 0

@@ -40,6 +40,15 @@ Recalls number ((byte ∷ line) ∷ lines) before result =
     ((item : Item) × (after : Memory) × IsLineOf (byte ∷ line) item × Takes item before after × Recalls (number + 1) lines after result)
     ⊎ (((item : Item) → ¬ IsLineOf (byte ∷ line) item) × (result ≡ Err (BadItem number)))
 
+-- the memory takes these items, one after another, and each of them has a line
+abbrev pub TakesAll : List Item → Memory → Memory → Type 0
+TakesAll [] before after = after ≡ before
+TakesAll (item ∷ more) before after = (middle : Memory) × IsSound item × Takes item before middle × TakesAll more middle after
+
+-- the text is empty, or its last line has its LF
+abbrev pub HasWholeLines : List ℕ → Type 0
+HasWholeLines text = (text ≡ []) ⊎ ((front : List ℕ) × (text ≡ front ++ 10 ∷ []))
+
 -- the memory that a text spells, or the number of the first line that is no item, from 1
 abbrev pub Spells : List ℕ → Result Memory ReadFault → Type 0
 Spells text result = Recalls 1 (lines_of text) nothing result

@@ -20,7 +20,6 @@ WatchedUpTo monitors name (Some epoch) =
     Any (λ (monitor : Monitor). (monitor.name ≡ name) × IsWatchedUpTo monitor epoch) monitors
     × All (λ (monitor : Monitor). monitor.name ≡ name → (own : ℕ) × IsWatchedUpTo monitor own × (epoch ≤ own)) monitors
 
--- a promise for the name of a mark, of which no epoch above the promise's was watched: either the mark is not above
--- it, or nothing was watched yet
+-- a promise for the name of a mark, of which no epoch above the promise's was watched, nor passed before that
 abbrev pub IsAwaited : SignedPromise → Mark → Type 0
-IsAwaited signed mark = (mark.name ≡ signed.promise.name) × ((mark.epoch ≤ signed.promise.epoch) ⊎ (mark.epoch ≤ mark.since))
+IsAwaited signed mark = (mark.name ≡ signed.promise.name) × (mark.epoch ≤ signed.promise.epoch)

@@ -1,11 +1,14 @@
 // What a memory learns in a run. Each function appends the lines of what is new: behind lines that spell the memory as it
 // was, they spell it as it is.
 
-ghost use Rattle.std.specs.Prelude.{◌≡◌, ◌≢◌, ◌↔◌, ◌++◌, ℕ, nat_lt, if◌then◌else◌, List, map, All, Contains, IfOk, IsTrue, MatchBool, OnErr, OnOk};
+ghost use Rattle.std.specs.Prelude.{◌≡◌, ◌≢◌, ◌↔◌, ◌++◌, ℕ, ◌≤◌, nat_lt, if◌then◌else◌, List, map, All, Contains, IfOk, IsTrue, MatchBool, OnErr, OnOk};
 ghost use Rattle.std.specs.Io.{StartsWith};
+ghost use Rattle.std.specs.List.{AllByRecursion};
+ghost use Rattle.rootchain.specs.Promises.{IsSignedPromise};
 ghost use Rattle.textio.specs.Lines.{lines_of};
 ghost use Rattle.memory.specs.Learning.{promised_item, AreGone, BeginsBehind, BeginsOne, Each, EachOfSome, IsFresh, IsOfKind, IsSince, LearnsLine, LearnsOne, MarksOne};
-ghost use Rattle.memory.specs.Texts.{items_text};
+ghost use Rattle.memory.specs.Lines.{IsNamed, IsSound};
+ghost use Rattle.memory.specs.Texts.{items_text, TakesAll};
 ghost use Rattle.memory.specs.declared.item.Item.{Item as Remembered};
 ghost use Rattle.memory.specs.declared.mark.Mark.{Mark as Marked};
 
@@ -27,6 +30,8 @@ impl Memory {
     /// `AllocError` if memory runs out. The memory then stays as it was, and the text may have grown.
     pub fn learn(&mut self, item: Item, lines: &mut Vec<u8>) -> Result<(), AllocError>
         ensures ok { OnOk result ((news : List Remembered) × LearnsOne item self.old news self.new × (lines.new.items ≡ lines.old.items ++ items_text news)) }
+        ensures takes { IsSound item → OnOk result ((news : List Remembered) × TakesAll news self.old self.new × (lines.new.items ≡ lines.old.items ++ items_text news)) }
+        ensures named { IsNamed item }
         ensures err { OnErr result (self.new ≡ self.old) }
         ensures grows { StartsWith lines.new.items lines.old.items }
     {
@@ -50,7 +55,9 @@ impl Memory {
         lines: &mut Vec<u8>,
     ) -> Result<(), AllocError>
         ensures ok { OnOk result ((news : List Remembered) × Each LearnsOne (map (promised_item is_own) promises.now) self.old news self.new × (lines.new.items ≡ lines.old.items ++ items_text news)) }
+        ensures takes { AllByRecursion IsSignedPromise promises.now → OnOk result ((news : List Remembered) × TakesAll news self.old self.new × (lines.new.items ≡ lines.old.items ++ items_text news)) }
         ensures err { OnErr result (EachOfSome LearnsOne (map (promised_item is_own) promises.now) self.old self.new) }
+        ensures some { AllByRecursion IsSignedPromise promises.now → OnErr result ((news : List Remembered) × TakesAll news self.old self.new) }
         ensures grows { StartsWith lines.new.items lines.old.items }
     {
         for signed in promises {
@@ -108,7 +115,9 @@ impl Memory {
         lines: &mut Vec<u8>,
     ) -> Result<(), AllocError>
         ensures ok { OnOk result ((news : List Remembered) × Each (LearnsLine kind) (lines_of told.now) self.old news self.new × (lines.new.items ≡ lines.old.items ++ items_text news)) }
+        ensures takes { OnOk result ((news : List Remembered) × TakesAll news self.old self.new × (lines.new.items ≡ lines.old.items ++ items_text news)) }
         ensures err { OnErr result (EachOfSome (LearnsLine kind) (lines_of told.now) self.old self.new) }
+        ensures some { OnErr result ((news : List Remembered) × TakesAll news self.old self.new) }
         ensures grows { StartsWith lines.new.items lines.old.items }
     {
         let mut rest = told;
@@ -156,7 +165,9 @@ impl Memory {
         V: VufCheck,
         S: Verifier,
         ensures ok { OnOk result ((news : List Remembered) × Each BeginsOne monitors.now self.old news self.new × (lines.new.items ≡ lines.old.items ++ items_text news)) }
+        ensures takes { OnOk result ((news : List Remembered) × TakesAll news self.old self.new × (lines.new.items ≡ lines.old.items ++ items_text news)) }
         ensures err { OnErr result (EachOfSome BeginsOne monitors.now self.old self.new) }
+        ensures some { OnErr result ((news : List Remembered) × TakesAll news self.old self.new) }
         ensures grows { StartsWith lines.new.items lines.old.items }
     {
         for monitor in monitors {
@@ -176,6 +187,7 @@ impl Memory {
         V: VufCheck,
         S: Verifier,
         ensures ok { OnOk result ((news : List Remembered) × BeginsOne monitor.now self.old news self.new × (lines.new.items ≡ lines.old.items ++ items_text news)) }
+        ensures takes { OnOk result ((news : List Remembered) × TakesAll news self.old self.new × (lines.new.items ≡ lines.old.items ++ items_text news)) }
         ensures err { OnErr result (self.new ≡ self.old) }
         ensures grows { StartsWith lines.new.items lines.old.items }
     {
@@ -205,7 +217,9 @@ impl Memory {
         V: VufCheck,
         S: Verifier,
         ensures ok { OnOk result ((news : List Remembered) × Each (MarksOne monitors.now) some.now self.old news self.new × (lines.new.items ≡ lines.old.items ++ items_text news)) }
+        ensures takes { OnOk result ((news : List Remembered) × TakesAll news self.old self.new × (lines.new.items ≡ lines.old.items ++ items_text news)) }
         ensures err { OnErr result (EachOfSome (MarksOne monitors.now) some.now self.old self.new) }
+        ensures some { OnErr result ((news : List Remembered) × TakesAll news self.old self.new) }
         ensures grows { StartsWith lines.new.items lines.old.items }
     {
         for monitor in some {
@@ -226,6 +240,7 @@ impl Memory {
         V: VufCheck,
         S: Verifier,
         ensures ok { OnOk result ((news : List Remembered) × MarksOne monitors.now monitor.now self.old news self.new × (lines.new.items ≡ lines.old.items ++ items_text news)) }
+        ensures takes { OnOk result ((news : List Remembered) × TakesAll news self.old self.new × (lines.new.items ≡ lines.old.items ++ items_text news)) }
         ensures err { OnErr result (self.new ≡ self.old) }
         ensures grows { StartsWith lines.new.items lines.old.items }
     {
@@ -244,6 +259,7 @@ impl Memory {
         S: Verifier,
         ensures name { result.name ≡ monitor.now.name }
         ensures epoch { result.epoch ≡ epoch }
+        ensures rises { result.since ≤ result.epoch }
         ensures since { (since : ℕ) × IsSince self.now.marks monitor.now since × (result.since ≡ (if nat_lt epoch since then epoch else since)) }
     {
         Mark {
@@ -291,7 +307,8 @@ where
 
 /// The lesser of two numbers.
 fn lesser(one: u64, other: u64) -> u64
-    ensures { result ≡ (if nat_lt one other then one else other) }
+    ensures value { result ≡ (if nat_lt one other then one else other) }
+    ensures most { result ≤ one }
 {
     if one < other { one } else { other }
 }

@@ -3,7 +3,8 @@
 //!
 //! Callers can rely on this: a line is of one item, and `read_item` reads exactly the lines of items. `take` changes the
 //! memory by one item, `leave` drops exactly the promises that nobody needs, `settle` exactly the alarms of a
-//! name. No item is kept twice.
+//! name. No item is kept twice. Whole lines that spell a memory, with those behind them that it appends as it learns, spell
+//! it as it is then, and so does the text of `write`.
 #![tactic(auto)]
 
 mod alarm;
@@ -30,7 +31,10 @@ pub use alarm::Alarm;
 pub use evidence_line::EvidenceLine;
 pub use item::Item;
 pub use kind::Kind;
-pub use laws::{line_is_one_item, text_is_one_memory, text_spells_memory};
+pub use laws::{
+    changed_memory_is_spelled, line_is_one_item, lines_extend_memory, memory_stays_sound,
+    memory_text_is_whole_lines, spelled_memory_is_sound, text_is_one_memory, text_spells_memory,
+};
 pub use mark::Mark;
 pub use memory::Memory;
 pub use promised::Promised;

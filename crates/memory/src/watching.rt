@@ -65,11 +65,10 @@ where
     }
 }
 
-/// Whether a promise is for the name of a mark, of which no epoch above the promise's was watched by each monitor
-/// yet.
+/// Whether a promise is for the name of a mark that is not above the promise's epoch: none above it was watched by each
+/// monitor yet, or had passed when the watching began.
 pub fn is_awaited(signed: &SignedPromise, mark: &Mark) -> bool
     ensures { IsTrue result ↔ IsAwaited signed.now mark.now }
 {
-    mark.name == signed.promise.name
-        && (mark.epoch <= signed.promise.epoch || mark.epoch <= mark.since)
+    mark.name == signed.promise.name && mark.epoch <= signed.promise.epoch
 }

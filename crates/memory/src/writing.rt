@@ -3,8 +3,9 @@
 
 ghost use Rattle.std.specs.Prelude.{◌≡◌, ◌++◌, ◌∷◌, [], OnErr, OnOk, codes, decimal};
 ghost use Rattle.std.specs.Io.{StartsWith};
+ghost use Rattle.encoding.specs.Limits.{IsName};
 ghost use Rattle.hex.specs.Hex.{encode_lower};
-ghost use Rattle.memory.specs.Lines.{found_word, item_line, promise_word};
+ghost use Rattle.memory.specs.Lines.{found_word, item_line, promise_word, IsNamed};
 ghost use Rattle.memory.specs.declared.item.Item.TheVariants as items;
 
 use crate::{Alarm, EvidenceLine, Item, Mark, Promised};
@@ -21,6 +22,7 @@ impl Item {
     /// `AllocError` if memory runs out. Then the text may have grown by a part of the line.
     pub fn write(&self, text: &mut Vec<u8>) -> Result<(), AllocError>
         ensures ok { OnOk result (text.new.items ≡ text.old.items ++ item_line self.now ++ 10 ∷ []) }
+        ensures named { IsNamed self.now }
         ensures grows { StartsWith text.new.items text.old.items }
     {
         match self {
@@ -44,6 +46,7 @@ pub(crate) fn push_promised(text: &mut Vec<u8>, promised: &Promised) -> Result<(
 
 pub(crate) fn push_mark(text: &mut Vec<u8>, mark: &Mark) -> Result<(), AllocError>
     ensures ok { OnOk result (text.new.items ≡ text.old.items ++ item_line (items.Watched mark.now) ++ 10 ∷ []) }
+    ensures named { IsName mark.now.name }
     ensures grows { StartsWith text.new.items text.old.items }
 {
     push_named(text, b"watched", mark.name.bytes(), mark.since)?;
@@ -55,6 +58,7 @@ pub(crate) fn push_mark(text: &mut Vec<u8>, mark: &Mark) -> Result<(), AllocErro
 
 pub(crate) fn push_alarm(text: &mut Vec<u8>, alarm: &Alarm) -> Result<(), AllocError>
     ensures ok { OnOk result (text.new.items ≡ text.old.items ++ item_line (items.Alarm alarm.now) ++ 10 ∷ []) }
+    ensures named { IsName alarm.now.name }
     ensures grows { StartsWith text.new.items text.old.items }
 {
     push_named(text, b"alarm", alarm.name.bytes(), alarm.epoch)?;

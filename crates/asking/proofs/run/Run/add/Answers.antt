@@ -1,11 +1,11 @@
-use Rattle.std.proofs.Common.{◌≡◌, Some, refl, rules}
-use Rattle.memory.proofs.Learned.{on_ok}
+use Rattle.std.proofs.Common.{◌≡◌, Some, rules}
+use Rattle.asking.proofs.Keeping.{added}
 use Rattle.asking.proofs.run.Run.add.Goals as goal
 
 pub returns-in-Some-clause-adds : goal.returns-in-Some-clause-adds
 returns-in-Some-clause-adds g c =
     let was : c.args.self.now.state ≡ Some c.in-Some.state.now = search rules in
-    rw was (on_ok c.add.result (λ learns. (c.add.new.self, refl, learns, c.add.ensures.looked.0, c.add.ensures.looked.1)) c.add.ensures.learns)
+    rw was (added c.add.result c.args.asker.now c.args.told.now c.in-Some.state.now c.add.new.self c.add.ensures.learns c.add.ensures.looked c.add.ensures.changes)
 
 pub returns-in-Some-clause-kept : goal.returns-in-Some-clause-kept
 returns-in-Some-clause-kept g c =

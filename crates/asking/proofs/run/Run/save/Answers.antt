@@ -1,11 +1,12 @@
-use Rattle.std.proofs.Common.{◌≡◌, Some, refl, rules}
-use Rattle.memory.proofs.Learned.{on_ok}
+use Rattle.std.proofs.Common.{◌≡◌, ◌≢◌, Err, Some, rules}
+use Rattle.asking.specs.declared.ask_fault.AskFault.TheVariants.{OutOfMemory as NoMemory}
+use Rattle.asking.proofs.Keeping.{saved}
 use Rattle.asking.proofs.run.Run.save.Goals as goal
 
 pub returns-in-Some-clause-saves : goal.returns-in-Some-clause-saves
 returns-in-Some-clause-saves g c =
     let was : c.args.self.now.state ≡ Some c.in-Some.state.now = search rules in
-    rw was (on_ok c.save.result (λ learns enough. (c.save.new.self, refl, learns)) c.save.ensures.learns)
+    rw was (saved (c.args.asked.now ≢ Err NoMemory) c.save.result c.args.asker.now c.args.told.now c.in-Some.state.now c.save.new.self c.save.ensures.learns c.save.ensures.looked c.save.ensures.changes)
 
 pub returns-in-Some-clause-kept : goal.returns-in-Some-clause-kept
 returns-in-Some-clause-kept g c =

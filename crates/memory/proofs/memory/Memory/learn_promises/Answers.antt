@@ -4,6 +4,7 @@ use Rattle.std.proofs.lemmas.List.{map-append, take_more}
 use Rattle.rootchain.specs.declared.signed_promise.SignedPromise.{SignedPromise}
 use Rattle.memory.specs.Learning.{promised_item, LearnsOne}
 use Rattle.memory.proofs.Learned.{err_so, one_more, some_mapped}
+use Rattle.memory.proofs.Taken.{promises-taken, taken_some}
 use Rattle.memory.proofs.memory.Memory.learn_promises.Goals as goal
 
 pub returns-in_err-learn-clause-err : goal.returns-in_err-learn-clause-err
@@ -25,3 +26,12 @@ loop-signed-preserved c =
       rw mapped (one_more LearnsOne (map item front) (item signed) c.args.self.now c.loop-signed.self c.learn.new.self c.args.lines.now.items c.loop-signed.lines.items c.learn.new.lines.items c.loop-signed.invariant.0 c.in_ok-learn.ensures.ok),
       starts_with_trans _ _ _ c.in_ok-learn.ensures.grows c.loop-signed.invariant.1,
     )
+
+pub returns-clause-takes : goal.returns-clause-takes
+returns-clause-takes c = λ sound.
+    promises-taken c.args.is_own c.args.promises.now c.loop-signed.signed-index c.args.self.now c.loop-signed.self c.args.lines.now.items c.loop-signed.lines.items sound c.loop-signed.invariant.0
+
+pub returns-in_err-learn-clause-some : goal.returns-in_err-learn-clause-some
+returns-in_err-learn-clause-some c = λ sound.
+    let taken = promises-taken c.args.is_own c.args.promises.now c.loop-signed.signed-index c.args.self.now c.loop-signed.self c.args.lines.now.items c.loop-signed.lines.items sound c.loop-signed.invariant.0 in
+    err_so c.from_residual.result (taken_some c.args.self.now c.loop-signed.self c.learn.new.self c.args.lines.now.items c.loop-signed.lines.items taken c.in_err-learn.ensures.err)

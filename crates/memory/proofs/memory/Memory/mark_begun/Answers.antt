@@ -4,12 +4,17 @@ use Rattle.std.proofs.lemmas.List.{take_more}
 use Rattle.monitor.specs.Monitors.{Monitor}
 use Rattle.memory.specs.Learning.{BeginsOne}
 use Rattle.memory.proofs.Learned.{err_so, one_more, some_did}
+use Rattle.memory.proofs.Taken.{taken_more, taken_some}
 use Rattle.memory.proofs.memory.Memory.mark_begun.Goals as goal
 
 pub returns-in_err-begin_one-clause-err : goal.returns-in_err-begin_one-clause-err
 returns-in_err-begin_one-clause-err g c = err_so c.from_residual.result
     (some_did BeginsOne c.args.monitors.now c.loop-monitor.monitor-index c.args.self.now c.loop-monitor.self c.begin_one.new.self c.args.lines.now.items c.loop-monitor.lines.items
     c.loop-monitor.invariant.0 c.in_err-begin_one.ensures.err)
+
+pub returns-in_err-begin_one-clause-some : goal.returns-in_err-begin_one-clause-some
+returns-in_err-begin_one-clause-some g c = err_so c.from_residual.result
+    (taken_some c.args.self.now c.loop-monitor.self c.begin_one.new.self c.args.lines.now.items c.loop-monitor.lines.items c.loop-monitor.invariant.2 c.in_err-begin_one.ensures.err)
 
 pub loop-monitor-preserved : goal.loop-monitor-preserved
 loop-monitor-preserved g c =
@@ -21,4 +26,5 @@ loop-monitor-preserved g c =
     let whole : take (place + 1) some ≡ front ++ monitor ∷ [] = next ∙ ap (λ (m : Monitor). front ++ m ∷ []) (sym c.monitor-item.is) in (
       rw whole (one_more BeginsOne front monitor c.args.self.now c.loop-monitor.self c.begin_one.new.self c.args.lines.now.items c.loop-monitor.lines.items c.begin_one.new.lines.items c.loop-monitor.invariant.0 c.in_ok-begin_one.ensures.ok),
       starts_with_trans _ _ _ c.in_ok-begin_one.ensures.grows c.loop-monitor.invariant.1,
+      taken_more c.args.self.now c.loop-monitor.self c.begin_one.new.self c.args.lines.now.items c.loop-monitor.lines.items c.begin_one.new.lines.items c.loop-monitor.invariant.2 c.in_ok-begin_one.ensures.takes,
     )

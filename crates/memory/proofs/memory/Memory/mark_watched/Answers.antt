@@ -4,12 +4,17 @@ use Rattle.std.proofs.lemmas.List.{take_more}
 use Rattle.monitor.specs.Monitors.{Monitor}
 use Rattle.memory.specs.Learning.{MarksOne}
 use Rattle.memory.proofs.Learned.{err_so, one_more, some_did}
+use Rattle.memory.proofs.Taken.{taken_more, taken_some}
 use Rattle.memory.proofs.memory.Memory.mark_watched.Goals as goal
 
 pub returns-in_err-mark_one-clause-err : goal.returns-in_err-mark_one-clause-err
 returns-in_err-mark_one-clause-err g c = err_so c.from_residual.result
     (some_did (MarksOne c.args.monitors.now) c.args.some.now c.loop-monitor.monitor-index c.args.self.now c.loop-monitor.self c.mark_one.new.self c.args.lines.now.items c.loop-monitor.lines.items
     c.loop-monitor.invariant.0 c.in_err-mark_one.ensures.err)
+
+pub returns-in_err-mark_one-clause-some : goal.returns-in_err-mark_one-clause-some
+returns-in_err-mark_one-clause-some g c = err_so c.from_residual.result
+    (taken_some c.args.self.now c.loop-monitor.self c.mark_one.new.self c.args.lines.now.items c.loop-monitor.lines.items c.loop-monitor.invariant.2 c.in_err-mark_one.ensures.err)
 
 pub loop-monitor-preserved : goal.loop-monitor-preserved
 loop-monitor-preserved g c =
@@ -21,4 +26,5 @@ loop-monitor-preserved g c =
     let whole : take (place + 1) some ≡ front ++ monitor ∷ [] = next ∙ ap (λ (m : Monitor). front ++ m ∷ []) (sym c.monitor-item.is) in (
       rw whole (one_more (MarksOne c.args.monitors.now) front monitor c.args.self.now c.loop-monitor.self c.mark_one.new.self c.args.lines.now.items c.loop-monitor.lines.items c.mark_one.new.lines.items c.loop-monitor.invariant.0 c.in_ok-mark_one.ensures.ok),
       starts_with_trans _ _ _ c.in_ok-mark_one.ensures.grows c.loop-monitor.invariant.1,
+      taken_more c.args.self.now c.loop-monitor.self c.mark_one.new.self c.args.lines.now.items c.loop-monitor.lines.items c.mark_one.new.lines.items c.loop-monitor.invariant.2 c.in_ok-mark_one.ensures.takes,
     )
