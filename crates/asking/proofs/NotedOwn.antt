@@ -129,31 +129,31 @@ module _ (hash : List ℕ → List ℕ) (accepted verified : List ℕ → List �
     -- ---- what is noted of a line
 
     module _ (marks : List Mark) (token : List ℕ) (asked : RequestContent) (noted noted' : List SignedPromise) where
-      abbrev Notes-so : Scene T → Type 0
-      Notes-so before = NotesOwn verified before.client.chain.key (Ask asked) noted noted'
+      abbrev HasNotes : Scene T → Type 0
+      HasNotes before = NotesOwn verified before.client.chain.key (Ask asked) noted noted'
 
       -- once the chain is as far as the reply
-      caught-notes : (epoch : ℕ) (before ready : Scene T) → CatchesUp hash accepted verified exchanged epoch before ready → Notes-so ready → Notes-so before
+      caught-notes : (epoch : ℕ) (before ready : Scene T) → CatchesUp hash accepted verified exchanged epoch before ready → HasNotes ready → HasNotes before
       caught-notes epoch before ready catches notes =
           subst (λ (k : List ℕ). NotesOwn verified k (Ask asked) noted noted') (catches_up-keeps hash accepted verified exchanged marks (each-key marks) epoch before ready catches) notes
 
-      asks-notes : (before after : Scene T) → AsksDirectory hash accepted verified exchanged marks token asked noted noted' before after → Notes-so before
+      asks-notes : (before after : Scene T) → AsksDirectory hash accepted verified exchanged marks token asked noted noted' before after → HasNotes before
       asks-notes before after asks = caught-notes asks.reply.epoch (replied asks.reply) asks.ready asks.catches
           (noted-own asks.reply.head.body.epoch asked asks.reply.frame asks.hears.told asks.ready.client asks.heard.client noted noted' asks.hears.hears asks.notes)
 
-      hears_some-notes : (held : ℕ) (frame : Frame) (before after : Scene T) → HearsSome hash accepted verified exchanged marks held asked frame noted noted' before after → Notes-so before
+      hears_some-notes : (held : ℕ) (frame : Frame) (before after : Scene T) → HearsSome hash accepted verified exchanged marks held asked frame noted noted' before after → HasNotes before
       hears_some-notes held frame before after (inl (none, same)) = inl none
       hears_some-notes held frame before after (inr (inl (inl none, told, hears, tells, monitors, stream))) = inl none
       hears_some-notes held frame before after (inr (inl (inr notes, told, hears, tells, monitors, stream))) = noted-own held asked frame told before.client after.client noted noted' hears notes
       hears_some-notes held frame before after (inr (inr (heard, hears, notes, goes))) = noted-own held asked frame hears.told before.client heard.client noted noted' hears.hears notes
 
-      asks_some-notes : (before after : Scene T) → AsksSome hash accepted verified exchanged marks token asked noted noted' before after → Notes-so before
+      asks_some-notes : (before after : Scene T) → AsksSome hash accepted verified exchanged marks token asked noted noted' before after → HasNotes before
       asks_some-notes before after (inl (none, same)) = inl none
       asks_some-notes before after (inr asks) = by asks.steps
         where
           by : ((noted' ≡ noted) × CatchesSome hash accepted verified exchanged asks.reply.epoch (replied asks.reply) after)
               ⊎ ((ready : Scene T) × CatchesUp hash accepted verified exchanged asks.reply.epoch (replied asks.reply) ready × HearsSome hash accepted verified exchanged marks asks.reply.head.body.epoch asked asks.reply.frame noted noted' ready after)
-              → Notes-so before
+              → HasNotes before
           by (inl (none, catches)) = inl none
           by (inr (ready, catches, hears)) = caught-notes asks.reply.epoch (replied asks.reply) ready catches (hears_some-notes asks.reply.head.body.epoch asks.reply.frame ready after hears)
 
