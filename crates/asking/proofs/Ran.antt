@@ -1,12 +1,11 @@
 -- The lines of a run, one after another.
-use Rattle.std.proofs.Common.{◌≡◌, ◌∙◌, ℕ, true, false, List, [], ◌∷◌, Option, None, Some, Result, Ok, Err, Bor, Global, Vec, ap, append-nil, append_assoc, arith, inl, inr, option_map, refl, subst, sym}
+use Rattle.std.proofs.Common.{◌≡◌, ◌∙◌, ℕ, true, false, List, [], ◌∷◌, Option, None, Some, Result, Ok, Err, Bor, ap, append-nil, append_assoc, arith, inl, inr, option_map, refl, subst, sym}
 use Rattle.std.specs.Prelude.{◌++◌, Contains, IfOk, IfSome, OnOk}
 use Rattle.std.proofs.lemmas.List.Elements.{Contains-append_right}
 use Rattle.std.specs.Io.KnownBytes.{Appends}
 use Rattle.std.proofs.KnownBytes.{Appends-nil, Appends-trans}
 use Rattle.rootchain.specs.Chains.{KeyedRoots}
 use Rattle.rootchain.specs.TakingLists.{PassesOrAdds, Takes}
-use Rattle.rootchain.specs.declared.signed_promise.SignedPromise.{SignedPromise}
 use Rattle.rootchain.specs.declared.signed_root.SignedRoot.{SignedRoot}
 use Rattle.client.specs.Clients.{Client}
 use Rattle.client.specs.Updating.{Updates}
@@ -15,15 +14,13 @@ use Rattle.wire.specs.Frames.{Frame}
 use Rattle.wire.specs.Requests.{RequestContent}
 use Rattle.play.specs.Reading.{TakesWholeLine}
 use Rattle.asking.specs.declared.asker.Asker.{Asker}
-use Rattle.memory.specs.Memories.{Memory}
-use Rattle.memory.specs.declared.mark.Mark.{Mark}
 use Rattle.asking.specs.declared.order.AskOrder.{AskOrder}
 use Rattle.asking.specs.declared.said.Said.{Said}
 use Rattle.asking.specs.AskOptions.{AskOptions, ask_values}
 use Rattle.asking.specs.Recalled.{evidence_again}
 use Rattle.asking.specs.Reports.{Report, report_of, told_after}
 use Rattle.asking.specs.Runs.{AsksLine, AsksLines, BeginsAsking, StartsRun, emptied, Background, new_background, background_of, lines_asked, Prepares, RunsWhole, words_line, Writes}
-use Rattle.asking.specs.Scenes.{Scene, scene, Remains, StartsAtHead}
+use Rattle.asking.specs.Scenes.{Scene, scene, StartsAtHead}
 use Rattle.asking.specs.Standing.{AsksAmong}
 use Rattle.asking.proofs.Joined.{scene_of}
 use Rattle.asking.proofs.Telling.{worse_none}

@@ -5,18 +5,18 @@ use Rattle.rootchain.specs.declared.signed_promise.SignedPromise.{SignedPromise}
 use Rattle.wire.specs.Frames.{Frame}
 use Rattle.commands.specs.Operations.{Head}
 use Rattle.wire.specs.Requests.{RequestContent, Query}
-use Rattle.play.specs.Scripts.{ScriptLine, Pass, Ask, Watch, Piece, End}
+use Rattle.play.specs.Scripts.{Ask, Watch}
 use Rattle.memory.specs.declared.mark.Mark.{Mark}
 use Rattle.asking.specs.declared.ask_fault.AskFault.{AskFault}
 use Rattle.asking.specs.declared.ask_fault.AskFault.TheVariants as fault
 use Rattle.asking.specs.declared.asker.Asker.{Asker}
 use Rattle.asking.specs.declared.said.Said.{Said}
 use Rattle.asking.specs.Asking.{AsksDirectory, AsksSome, FindsHead, FindsSome, StopsAsking}
-use Rattle.asking.specs.Ending.{DoesPart, DoesPartNoting, DoesSome, DoesSomeNoting, PreparesSome, TakesSomeNew}
+use Rattle.asking.specs.Ending.{DoesSomeNoting, PreparesSome, TakesSomeNew}
 use Rattle.asking.specs.Following.{Follows, StopsAfter, TakesSome}
 use Rattle.asking.specs.Joining.{own_for, BeginsSome, BeginsWatch}
 use Rattle.asking.specs.Reports.{report_of}
-use Rattle.asking.specs.Runs.{Background, DoesLine, DoesLineNoting, TakesNew}
+use Rattle.asking.specs.Runs.{Background, TakesNew}
 use Rattle.asking.specs.Scenes.{HaltsAfter, Scene, scene}
 use Rattle.asking.specs.Visiting.{TestsAll, TestsSome}
 

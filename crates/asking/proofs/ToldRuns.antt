@@ -1,5 +1,5 @@
 -- All that the monitors of a run watched is told in what it writes.
-use Rattle.std.proofs.Common.{◌≡◌, ◌∙◌, ℕ, List, [], ◌∷◌, ◌++◌, Option, Some, None, inl, inr, ap, subst, sym, append_assoc, append-nil}
+use Rattle.std.proofs.Common.{◌≡◌, ◌∙◌, ℕ, List, [], ◌∷◌, ◌++◌, Option, Some, None, ap, subst, sym, append_assoc, append-nil}
 use Rattle.std.specs.Prelude.{IfSome}
 use Rattle.std.specs.Io.KnownBytes.{Appends}
 use Rattle.std.specs.List.{AllByRecursion}
@@ -8,12 +8,10 @@ use Rattle.play.specs.Scripts.{ScriptLine, Pass, Ask, Watch, Piece, End}
 use Rattle.wire.specs.Frames.{Frame}
 use Rattle.wire.specs.Requests.{RequestContent}
 use Rattle.asking.specs.AskOptions.{AskOptions}
-use Rattle.asking.specs.Ending.{AsksNext, AsksPart, AsksSomeLine, DoesPart, RunEndsAt}
-use Rattle.asking.specs.Reports.{Report}
 use Rattle.asking.specs.Runs.{AsksLine, AsksLines, Background, DoesLine, lines_asked, Prepares, RunsWhole, Writes}
 use Rattle.asking.specs.Scenes.{Scene}
 use Rattle.asking.specs.Told.{IsTold, TellsWatched}
-use Rattle.asking.proofs.EveryStep.{asks_directory-keeps, asks_some-keeps, begins_some-keeps, begins_watch-keeps, prepares-keeps, prepares_some-keeps, stops_asking-keeps}
+use Rattle.asking.proofs.EveryStep.{asks_directory-keeps, begins_watch-keeps, prepares-keeps}
 use Rattle.asking.proofs.ToldScenes.{all-map, each-told, AllTold, Keeps}
 
 in-one : (old first second : List ℕ) (new : Option (List ℕ)) → new ≡ Some ((old ++ first) ++ second) → new ≡ Some (old ++ (first ++ second))
