@@ -13,7 +13,7 @@ use Rattle.monitor.specs.Monitors.{Monitor}
 use Rattle.asking.specs.Owning.{Owns}
 use Rattle.asking.specs.Remembering.{AreWithin}
 use Rattle.asking.specs.Runs.{background_of, new_background, Background, IsSoundFor, KeepsAll}
-use Rattle.asking.specs.Saves.{stored_by, stored_nothing, Act, HasOneOfEachName, IsAsked, IsHeadEpoch, IsOwnPromise, Loads, Stored, WasOwn}
+use Rattle.asking.specs.Saves.{stored_by, stored_nothing, Act, HasOneOfEachName, IsAsked, IsAskedChange, IsHeadEpoch, IsOwnPromise, Loads, Stored, WasOwn}
 use Rattle.asking.specs.Standing.{standing, Fits, HasBegun, HasFailed, HasLoaded, IsFresh, IsKept, IsLeft, IsReady, RunStands, Stands}
 use Rattle.wire.specs.Frames.{Frame}
 use Rattle.wire.specs.Requests.{RequestContent}
@@ -66,8 +66,8 @@ module _ (hash : List ℕ → List ℕ) (accepted verified : List ℕ → List �
     text = [];
     is-out = ap Some (sym (append-nil old));
     all = (refl, refl);
-    now = loads-kept hash accepted (IsAsked lines) (IsOwnPromise verified key lines start.known) start [];
-    next = loads-kept hash accepted (IsAsked lines) (IsOwnPromise verified key lines start.known) start [];
+    now = loads-kept hash accepted (IsAsked lines) (IsOwnPromise verified key lines start.known) (IsAskedChange lines) start [];
+    next = loads-kept hash accepted (IsAsked lines) (IsOwnPromise verified key lines start.known) (IsAskedChange lines) start [];
     early = λ mark has root among above below. among;
     low-start = fits;
     low = fits;

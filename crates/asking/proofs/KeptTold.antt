@@ -6,7 +6,7 @@ use Rattle.rootchain.specs.declared.signed_promise.SignedPromise.{SignedPromise}
 use Rattle.rootchain.specs.declared.signed_root.SignedRoot.{SignedRoot}
 use Rattle.memory.specs.Memories.{Memory}
 use Rattle.memory.specs.declared.mark.Mark.{Mark}
-use Rattle.asking.specs.Saves.{HasMark, KeepsTold, Stored, WasStored}
+use Rattle.asking.specs.Saves.{HasMark, KeepsTold, Stored, WasOwn, WasStored}
 use Rattle.asking.specs.Told.{TellsEpoch}
 use Rattle.asking.proofs.Told.{told-at_more}
 
@@ -15,9 +15,9 @@ none-new : (mark : Mark) (bound epoch : ℕ) → (mark.epoch ≤ mark.since) ⊎
 none-new mark bound epoch (inl none) new above below = omega (arith, none, above, below)
 none-new mark bound epoch (inr low) new above below = omega (arith, low, new, below)
 
-module _ (hash : List ℕ → List ℕ) (accepted : List ℕ → List ℕ → List ℕ → Type 0) (Given : List ℕ → Option (List ℕ) → Type 0) (Own : SignedPromise → Type 0) where
+module _ (hash : List ℕ → List ℕ) (accepted : List ℕ → List ℕ → List ℕ → Type 0) (Given : List ℕ → Option (List ℕ) → Type 0) (Own Asked : SignedPromise → Type 0) where
   abbrev Keeps : Stored → List ℕ → Stored → Type 0
-  Keeps = KeepsTold hash accepted Given Own
+  Keeps = KeepsTold hash accepted Given Own Asked
 
   -- what is told of a root or was watched before
   abbrev pub IsToldOrStored : Stored → List ℕ → List ℕ → SignedRoot → Type 0
@@ -30,22 +30,24 @@ module _ (hash : List ℕ → List ℕ) (accepted : List ℕ → List ℕ → Li
   pub keeps-told : (start : Stored) (text : List ℕ) (roots more : List SignedRoot) (known : Memory) → roots ≡ start.roots ++ more
       → ((old : Mark) → Contains start.known.marks old → HasMark known.marks old)
       → ((mark : Mark) → Contains known.marks mark → (root : SignedRoot) → Contains roots root → mark.since < root.body.epoch → root.body.epoch ≤ mark.epoch → IsToldOrStored start text mark.name root)
-      → KeepsTold hash accepted Given Own start text (record { roots = roots; known = known })
-  keeps-told start text roots more known grown stays told = record { grows = (more, grown); stays = stays; told = told }
+      → ((signed : SignedPromise) → WasOwn known signed → WasOwn start.known signed ⊎ Asked signed)
+      → KeepsTold hash accepted Given Own Asked start text (record { roots = roots; known = known })
+  keeps-told start text roots more known grown stays told own = record { grows = (more, grown); stays = stays; told = told; own = own }
 
   -- what a run loads is so at once
-  pub loads-kept : (start : Stored) (text : List ℕ) → KeepsTold hash accepted Given Own start text start
+  pub loads-kept : (start : Stored) (text : List ℕ) → KeepsTold hash accepted Given Own Asked start text start
   loads-kept start text = record {
     grows = ([], sym (append-nil start.roots));
     stays = λ old has. (old, has, refl, omega arith);
     told = λ mark has root among above below. inr (among, (mark, has, refl, above, below));
+    own = λ signed was. inl was;
   }
 
-  module _ (start : Stored) (text : List ℕ) (stored : Stored) (keeps : KeepsTold hash accepted Given Own start text stored) where
+  module _ (start : Stored) (text : List ℕ) (stored : Stored) (keeps : KeepsTold hash accepted Given Own Asked start text stored) where
     -- new roots are of later epochs than the marks
     pub adds-roots-kept : (more : List SignedRoot) (bound : ℕ) → AllByRecursion (λ (root : SignedRoot). bound < root.body.epoch) more
         → ((mark : Mark) → Contains stored.known.marks mark → (mark.epoch ≤ mark.since) ⊎ (mark.epoch ≤ bound))
-        → KeepsTold hash accepted Given Own start text (record { roots = stored.roots ++ more; known = stored.known })
+        → KeepsTold hash accepted Given Own Asked start text (record { roots = stored.roots ++ more; known = stored.known })
     adds-roots-kept more bound new low = record {
       grows = (keeps.grows.0 ++ more, ap (λ (rs : List SignedRoot). rs ++ more) keeps.grows.1 ∙ append_assoc start.roots keeps.grows.0 more);
       stays = keeps.stays;
@@ -55,25 +57,29 @@ module _ (hash : List ℕ → List ℕ) (accepted : List ℕ → List ℕ → Li
             let later = All-contains (λ (r : SignedRoot). bound < r.body.epoch) more root (All-from_recursion (λ (r : SignedRoot). bound < r.body.epoch) more new) late in
             absurd (none-new mark bound root.body.epoch (low mark has) later above below)
       ];
+      own = keeps.own;
     }
 
     -- new marks are of nothing watched
     pub remembers-kept : (known : Memory) → ((mark : Mark) → Contains known.marks mark → Contains stored.known.marks mark ⊎ (mark.since ≡ mark.epoch))
         → ((old : Mark) → Contains start.known.marks old → HasMark known.marks old)
-        → KeepsTold hash accepted Given Own start text (record { roots = stored.roots; known = known })
-    remembers-kept known from stays = record {
+        → ((signed : SignedPromise) → WasOwn known signed → WasOwn start.known signed ⊎ Asked signed)
+        → KeepsTold hash accepted Given Own Asked start text (record { roots = stored.roots; known = known })
+    remembers-kept known from stays own = record {
       grows = keeps.grows;
       stays = stays;
       told = λ mark has root among above below. elim (from mark has) [
         | inl old ↦ keeps.told mark old root among above below
         | inr empty ↦ absurd (omega (arith, empty, above, below))
       ];
+      own = own;
     }
 
     -- more is written
-    pub text-kept : (more : List ℕ) → KeepsTold hash accepted Given Own start (text ++ more) stored
+    pub text-kept : (more : List ℕ) → KeepsTold hash accepted Given Own Asked start (text ++ more) stored
     text-kept more = record {
       grows = keeps.grows;
       stays = keeps.stays;
       told = λ mark has root among above below. told-more start text more mark.name root (keeps.told mark has root among above below);
+      own = keeps.own;
     }

@@ -5,8 +5,8 @@ use Rattle.textio.specs.declared.program_fault.ProgramFault.{ProgramFault}
 use Rattle.rootchain.specs.declared.signed_root.SignedRoot.{SignedRoot}
 use Rattle.memory.specs.Memories.{Memory}
 use Rattle.memory.specs.declared.mark.Mark.{Mark}
-use Rattle.asking.specs.Saves.{stored_after, Act, HasMark, IsAsked, IsOwnPromise, KeepsTold, LeavesTold, Remembers, Stored, WasStored}
-use Rattle.asking.specs.Standing.{IsLeft, LeavesState}
+use Rattle.asking.specs.Saves.{stored_after, Act, HasMark, IsAsked, IsAskedChange, IsOwnPromise, KeepsTold, LeavesTold, Remembers, Stored, WasStored}
+use Rattle.asking.specs.Standing.{AddsNoOwn, IsLeft, LeavesState}
 use Rattle.asking.specs.Told.{TellsEpoch}
 use Rattle.asking.specs.declared.state.State.{State}
 use Rattle.asking.specs.RunFaults.{IsFaultOfSaving, StopsOr}
@@ -30,13 +30,14 @@ not-both b one other = cc
 
 -- what a run left is told, also once the memory is written anew
 module _ (hash : List ℕ → List ℕ) (accepted verified : List ℕ → List ℕ → List ℕ → Type 0) (lines : Option (List (List ℕ))) (key : List ℕ) (old : List ℕ) (Before After : List Act → Type 0) (acts : List Act) (out : Option (List ℕ)) where
-  same-told : (start : Stored) (text : List ℕ) (roots : List SignedRoot) (known known' : Memory) → known'.marks ≡ known.marks → KeepsTold hash accepted (IsAsked lines) (IsOwnPromise verified key lines start.known) start text (record { roots = roots; known = known })
-      → KeepsTold hash accepted (IsAsked lines) (IsOwnPromise verified key lines start.known) start text (record { roots = roots; known = known' })
-  same-told start text roots known known' same told = record {
+  same-told : (start : Stored) (text : List ℕ) (roots : List SignedRoot) (known known' : Memory) → known'.marks ≡ known.marks → AddsNoOwn known known' → KeepsTold hash accepted (IsAsked lines) (IsOwnPromise verified key lines start.known) (IsAskedChange lines) start text (record { roots = roots; known = known })
+      → KeepsTold hash accepted (IsAsked lines) (IsOwnPromise verified key lines start.known) (IsAskedChange lines) start text (record { roots = roots; known = known' })
+  same-told start text roots known known' same adds told = record {
     grows = told.grows;
     stays = subst (λ (ms : List Mark). (mark : Mark) → Contains start.known.marks mark → HasMark ms mark) (sym same) told.stays;
     told = subst (λ (ms : List Mark). (mark : Mark) → Contains ms mark → (root : SignedRoot) → Contains roots root → mark.since < root.body.epoch → root.body.epoch ≤ mark.epoch
         → TellsEpoch (IsAsked lines) (IsOwnPromise verified key lines start.known) hash accepted text mark.name root ⊎ WasStored start mark.name root) (sym same) told.told;
+    own = λ signed was. told.own signed (adds signed was);
   }
 
   pub leaves_told : (state : Option State) → IsLeft hash accepted verified lines key old (λ done. Before (done ++ acts)) state out → ((all : List Act) → Before all → LeavesState After all state out)
@@ -48,9 +49,9 @@ module _ (hash : List ℕ → List ℕ) (accepted verified : List ℕ → List �
   ]
   leaves_told (Some state) (inr (start, kept)) hands = elim (hands (kept.acts ++ acts) kept.happened) [
     | inl same ↦ (kept.acts, same, inr (start, kept.all))
-    | inr (loaded, (known, same, has)) ↦ (
+    | inr (loaded, (known, same, adds, has)) ↦ (
       Remembers known out ∷ kept.acts,
       has,
-      inr (start, (kept.all, (kept.text, kept.is-out, same-told start kept.text (stored_after kept.acts).roots state.memory known same kept.next))),
+      inr (start, (kept.all, (kept.text, kept.is-out, same-told start kept.text (stored_after kept.acts).roots state.memory known same adds kept.next))),
     )
   ]

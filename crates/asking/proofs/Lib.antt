@@ -1,5 +1,6 @@
 pub mod Adding
 pub mod Asked
+pub mod AskedOwn
 pub mod Begun
 pub mod Earlier
 pub mod Remembered

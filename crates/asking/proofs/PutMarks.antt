@@ -22,11 +22,11 @@ use Rattle.asking.specs.Standing.{KeepsMarks}
 
 -- ---- lists
 
-cons-cases : {A : Type 0} (x y : A) (xs : List A) → Contains (x ∷ xs) y → (x ≡ y) ⊎ Contains xs y
+pub cons-cases : {A : Type 0} (x y : A) (xs : List A) → Contains (x ∷ xs) y → (x ≡ y) ⊎ Contains xs y
 cons-cases x y xs (zero, within, at) = inl at
 cons-cases x y xs (suc place, within, at) = inr (place, omega (arith, within), at)
 
-cons-front : {A : Type 0} (x y : A) (xs : List A) → Contains xs y → Contains (x ∷ xs) y
+pub cons-front : {A : Type 0} (x y : A) (xs : List A) → Contains xs y → Contains (x ∷ xs) y
 cons-front x y xs (place, within, at) = (suc place, omega (arith, within), at)
 
 pub all-any : {A : Type 0} (xs : List A) → AllByRecursion (λ (x : A). ⊤) xs

@@ -12,8 +12,9 @@ use Rattle.asking.specs.Saves.{Act, Remembers, Stored}
 use Rattle.asking.specs.Scenes.{Scene}
 use Rattle.asking.specs.Standing.{standing, IsKept, IsUpTo, Stands}
 use Rattle.asking.proofs.Adding.{all-self, drop-among}
+use Rattle.asking.proofs.AskedOwn.{moved-promises}
 use Rattle.asking.proofs.PutMarks.{monitors-move, same-marks}
-use Rattle.asking.proofs.Stood.{kept-handed, stands-handed, stands-moved, stands-same}
+use Rattle.asking.proofs.Stood.{kept-handed, stands-handed, stands-moved, stands-same, unchanged-own}
 
 -- the monitors whose marks may move are among all
 pub may-among : (chain : KeyedRoots) (head known : ℕ) (monitors some : List Monitor) → MayMove chain head known monitors some → AllByRecursion (Contains monitors) some
@@ -34,12 +35,12 @@ module _ (hash : List ℕ → List ℕ) (accepted verified : List ℕ → List �
 
   -- alarms were learned, and then some marks moved
   pub stands-saved : (Happened : List Act → Type 0) (epoch : ℕ) (known middle known' : Memory) (out : Option (List ℕ)) (client : Client) (monitors some : List Monitor) (news : List Item)
-      → Stands hash accepted verified lines key start old Happened epoch known out (standing client monitors []) → IsUpTo client epoch → middle.marks ≡ known.marks → AllByRecursion (Contains monitors) some
+      → Stands hash accepted verified lines key start old Happened epoch known out (standing client monitors []) → IsUpTo client epoch → middle.marks ≡ known.marks → middle.promises ≡ known.promises → AllByRecursion (Contains monitors) some
       → Each (MarksOne monitors) some middle news known' → Stands hash accepted verified lines key start old Happened epoch known' out (standing client monitors [])
-  stands-saved Happened epoch known middle known' out client monitors some news stands up-to same among each =
+  stands-saved Happened epoch known middle known' out client monitors some news stands up-to same promises among each =
       stands-moved hash accepted verified lines key start old Happened epoch middle out client monitors
-      (stands-same hash accepted verified lines key start old Happened epoch known out (standing client monitors []) stands middle same (same-marks known middle same))
-      up-to some among known' (monitors-move monitors some middle known' news each)
+      (stands-same hash accepted verified lines key start old Happened epoch known out (standing client monitors []) stands middle same (same-marks known middle same) (unchanged-own lines start.known known middle promises))
+      up-to some among known' (monitors-move monitors some middle known' news each) (moved-promises monitors some middle known' news each)
 
   -- and handed on
   pub stands-on : (Happened Happened' : List Act → Type 0) (epoch epoch' : ℕ) (known known' : Memory) (out : Option (List ℕ)) (now : Scene (Unit {0})) → epoch' ≡ epoch → known' ≡ known

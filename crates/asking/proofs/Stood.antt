@@ -4,13 +4,15 @@ use Rattle.std.specs.Prelude.{if◌then◌else◌, nat_lt}
 use Rattle.std.specs.List.{AllByRecursion}
 use Rattle.std.proofs.lemmas.Bool.{ltb-true}
 use Rattle.std.proofs.lemmas.List.Elements.{All-contains, All-from_recursion, Contains-append_cases}
+use Rattle.rootchain.specs.declared.signed_promise.SignedPromise.{SignedPromise}
 use Rattle.rootchain.specs.declared.signed_root.SignedRoot.{SignedRoot}
 use Rattle.client.specs.Clients.{Client}
 use Rattle.memory.specs.Memories.{Memory}
 use Rattle.memory.specs.declared.mark.Mark.{Mark}
+use Rattle.memory.specs.declared.promised.Promised.{Promised}
 use Rattle.monitor.specs.Monitors.{Monitor}
 use Rattle.asking.specs.Owning.{IsHeld, IsOwn, Owns, WasWatched}
-use Rattle.asking.specs.Saves.{roots_above, stored_after, Act, AddsRoots, IsAsked, IsOwnPromise, KeepsTold, Remembers, Stored, WasStored}
+use Rattle.asking.specs.Saves.{roots_above, stored_after, Act, AddsRoots, IsAsked, IsAskedChange, IsOwnPromise, KeepsTold, Remembers, Stored, WasOwn, WasStored}
 use Rattle.asking.specs.Scenes.{Scene}
 use Rattle.asking.specs.Standing.{standing, Fits, IsKept, IsUpTo, KeepsMarks, Stands}
 use Rattle.asking.specs.Told.{TellsEpoch}
@@ -55,25 +57,40 @@ none-above : (mark : Mark) (epoch : ℕ) (root : SignedRoot) → (mark.epoch ≤
 none-above mark epoch root (inl empty) new above below = omega (arith, empty, above, below)
 none-above mark epoch root (inr low) new above below = omega (arith, low, new, below)
 
+-- each promise for a change of the owner's own is an old one, was one when the run began, or was asked for
+abbrev pub OwnAsked : Option (List (List ℕ)) → Memory → Memory → Memory → Type 0
+OwnAsked lines start before after = (signed : SignedPromise) → WasOwn after signed → WasOwn before signed ⊎ (WasOwn start signed ⊎ IsAskedChange lines signed)
+
+asked-then : (lines : Option (List (List ℕ))) (start before after : Memory) → OwnAsked lines start before after → ((signed : SignedPromise) → WasOwn before signed → WasOwn start signed ⊎ IsAskedChange lines signed)
+    → (signed : SignedPromise) → WasOwn after signed → WasOwn start signed ⊎ IsAskedChange lines signed
+asked-then lines start before after own old signed was = elim (own signed was) [
+  | inl there ↦ old signed there
+  | inr so ↦ so
+]
+
+pub unchanged-own : (lines : Option (List (List ℕ))) (start before after : Memory) → after.promises ≡ before.promises → OwnAsked lines start before after
+unchanged-own lines start before after same signed (promised, has, this, own) = inl (promised, subst (λ (all : List Promised). Contains all promised) same has, this, own)
+
 module _ (hash : List ℕ → List ℕ) (accepted verified : List ℕ → List ℕ → List ℕ → Type 0) (lines : Option (List (List ℕ))) (key : List ℕ) (start : Stored) (old : List ℕ) where
   abbrev Kept : (List Act → Type 0) → ℕ → Memory → Option (List ℕ) → Type 0
   Kept = IsKept hash accepted verified lines key start old
 
   abbrev Told : List ℕ → Stored → Type 0
-  Told = KeepsTold hash accepted (IsAsked lines) (IsOwnPromise verified key lines start.known) start
+  Told = KeepsTold hash accepted (IsAsked lines) (IsOwnPromise verified key lines start.known) (IsAskedChange lines) start
 
   module _ (Happened : List Act → Type 0) (epoch : ℕ) (known : Memory) (out : Option (List ℕ)) (kept : IsKept hash accepted verified lines key start old Happened epoch known out) where
     -- more is learned, and no mark moves
-    abbrev pub kept-known : (known' : Memory) → KeepsMarks known known' → IsKept hash accepted verified lines key start old Happened epoch known' out
-    kept-known known' marks = record {
+    abbrev pub kept-known : (known' : Memory) → KeepsMarks known known' → OwnAsked lines start.known known known' → IsKept hash accepted verified lines key start old Happened epoch known' out
+    kept-known known' marks own = record {
       acts = kept.acts;
       happened = kept.happened;
       text = kept.text;
       is-out = kept.is-out;
       all = kept.all;
       now = kept.now;
-      next = remembers-kept hash accepted (IsAsked lines) (IsOwnPromise verified key lines start.known) start kept.text (record { roots = (stored_after kept.acts).roots; known = known }) kept.next known' marks.known
-          (λ mark has. let (own, there, named, low) = kept.next.stays mark has in (own, marks.still own there, named, low));
+      next = remembers-kept hash accepted (IsAsked lines) (IsOwnPromise verified key lines start.known) (IsAskedChange lines) start kept.text (record { roots = (stored_after kept.acts).roots; known = known }) kept.next known' marks.known
+          (λ mark has. let (one, there, named, low) = kept.next.stays mark has in (one, marks.still one there, named, low))
+          (asked-then lines start.known known known' own kept.next.own);
       early = kept.early;
       low-start = kept.low-start;
       low = kept.low;
@@ -93,8 +110,8 @@ module _ (hash : List ℕ → List ℕ) (accepted verified : List ℕ → List �
       text = kept.text ++ more;
       is-out = is ∙ ap Some (append_assoc old kept.text more);
       all = kept.all;
-      now = text-kept hash accepted (IsAsked lines) (IsOwnPromise verified key lines start.known) start kept.text (stored_after kept.acts) kept.now more;
-      next = text-kept hash accepted (IsAsked lines) (IsOwnPromise verified key lines start.known) start kept.text (record { roots = (stored_after kept.acts).roots; known = known }) kept.next more;
+      now = text-kept hash accepted (IsAsked lines) (IsOwnPromise verified key lines start.known) (IsAskedChange lines) start kept.text (stored_after kept.acts) kept.now more;
+      next = text-kept hash accepted (IsAsked lines) (IsOwnPromise verified key lines start.known) (IsAskedChange lines) start kept.text (record { roots = (stored_after kept.acts).roots; known = known }) kept.next more;
       early = kept.early;
       low-start = kept.low-start;
       low = kept.low;
@@ -106,7 +123,7 @@ module _ (hash : List ℕ → List ℕ) (accepted verified : List ℕ → List �
     -- roots are added
     module _ (Happened' : List Act → Type 0) (epoch' : ℕ) (roots : List SignedRoot) (up : epoch ≤ epoch') (goes : (acts : List Act) → Happened acts → Happened' (AddsRoots (roots_above epoch roots) out ∷ acts)) where
       pub adds : Told kept.text (record { roots = (stored_after kept.acts).roots ++ roots_above epoch roots; known = (stored_after kept.acts).known })
-      adds = adds-roots-kept hash accepted (IsAsked lines) (IsOwnPromise verified key lines start.known) start kept.text (stored_after kept.acts) kept.now (roots_above epoch roots) epoch (above-all epoch roots) kept.low
+      adds = adds-roots-kept hash accepted (IsAsked lines) (IsOwnPromise verified key lines start.known) (IsAskedChange lines) start kept.text (stored_after kept.acts) kept.now (roots_above epoch roots) epoch (above-all epoch roots) kept.low
 
       pub early-still : (mark : Mark) → Contains start.known.marks mark → (root : SignedRoot) → Contains ((stored_after kept.acts).roots ++ roots_above epoch roots) root → mark.since < root.body.epoch → root.body.epoch ≤ mark.epoch → Contains start.roots root
       early-still mark has root among above below = elim (Contains-append_cases (stored_after kept.acts).roots (roots_above epoch roots) root among) [
@@ -122,7 +139,7 @@ module _ (hash : List ℕ → List ℕ) (accepted verified : List ℕ → List �
         is-out = kept.is-out;
         all = (kept.all, (kept.text, kept.is-out, adds));
         now = adds;
-        next = adds-roots-kept hash accepted (IsAsked lines) (IsOwnPromise verified key lines start.known) start kept.text (record { roots = (stored_after kept.acts).roots; known = known }) kept.next
+        next = adds-roots-kept hash accepted (IsAsked lines) (IsOwnPromise verified key lines start.known) (IsAskedChange lines) start kept.text (record { roots = (stored_after kept.acts).roots; known = known }) kept.next
             (roots_above epoch roots) epoch (above-all epoch roots) kept.low-next;
         early = early-still;
         low-start = fits-up epoch epoch' start.known up kept.low-start;
@@ -180,17 +197,17 @@ module _ (hash : List ℕ → List ℕ) (accepted verified : List ℕ → List �
 
   module _ (Happened : List Act → Type 0) (epoch : ℕ) (known : Memory) (out : Option (List ℕ)) (now : Scene (Unit {0})) (stands : Stands hash accepted verified lines key start old Happened epoch known out now) where
     -- lines and promises are learned
-    pub stands-same : (known' : Memory) → known'.marks ≡ known.marks → KeepsMarks known known' → Stands hash accepted verified lines key start old Happened epoch known' out now
-    stands-same known' same marks = record {
-      kept = kept-known Happened epoch known out stands.kept known' marks;
+    pub stands-same : (known' : Memory) → known'.marks ≡ known.marks → KeepsMarks known known' → OwnAsked lines start.known known known' → Stands hash accepted verified lines key start old Happened epoch known' out now
+    stands-same known' same marks own = record {
+      kept = kept-known Happened epoch known out stands.kept known' marks own;
       owns = subst (λ (ms : List Mark). Owns hash accepted verified (IsAsked lines) (IsOwnPromise verified key lines start.known) stands.kept.text (stored_after stands.kept.acts).roots start.known.marks ms now) (sym same) stands.owns;
     }
 
     -- new monitors get marks
-    pub stands-begun : (begun : List Monitor) (known' : Memory) → AllByRecursion (Contains now.monitors) begun → EachPuts IsBegun begun known.marks known'.marks
+    pub stands-begun : (begun : List Monitor) (known' : Memory) → AllByRecursion (Contains now.monitors) begun → EachPuts IsBegun begun known.marks known'.marks → known'.promises ≡ known.promises
         → Stands hash accepted verified lines key start old Happened epoch known' out now
-    stands-begun begun known' among puts = record {
-      kept = kept-known Happened epoch known out stands.kept known' (begun-marks begun known known' puts);
+    stands-begun begun known' among puts same = record {
+      kept = kept-known Happened epoch known out stands.kept known' (begun-marks begun known known' puts) (unchanged-own lines start.known known known' same);
       owns = owns-known stands.kept.text (stored_after stands.kept.acts).roots known.marks known'.marks now stands.owns (begun-held hash accepted verified (IsAsked lines) (IsOwnPromise verified key lines start.known) stands.kept.text (stands.kept.text ++ now.told.lines) now.client.chain start.known.marks now.monitors begun known.marks known'.marks
           stands.owns.chain stands.owns.watched among puts stands.owns.held);
     }
@@ -246,7 +263,7 @@ module _ (hash : List ℕ → List ℕ) (accepted verified : List ℕ → List �
   -- ---- marks move
 
   module _ (Happened : List Act → Type 0) (epoch : ℕ) (known : Memory) (out : Option (List ℕ)) (client : Client) (monitors : List Monitor) (stands : Stands hash accepted verified lines key start old Happened epoch known out (standing client monitors []))
-      (up-to : IsUpTo client epoch) (some : List Monitor) (among : AllByRecursion (Contains monitors) some) (known' : Memory) (puts : EachPuts (IsMoved monitors) some known.marks known'.marks) where
+      (up-to : IsUpTo client epoch) (some : List Monitor) (among : AllByRecursion (Contains monitors) some) (known' : Memory) (puts : EachPuts (IsMoved monitors) some known.marks known'.marks) (same : known'.promises ≡ known.promises) where
     abbrev text : List ℕ
     text = stands.kept.text
 
@@ -286,8 +303,9 @@ module _ (hash : List ℕ → List ℕ) (accepted verified : List ℕ → List �
         is-out = kept.is-out;
         all = kept.all;
         now = kept.now;
-        next = keeps-told hash accepted (IsAsked lines) (IsOwnPromise verified key lines start.known) start text (stored_after kept.acts).roots kept.next.grows.0 known' kept.next.grows.1
-            (moved-stays monitors some start.known.marks known.marks known'.marks puts kept.once kept.next.stays) told-so;
+        next = keeps-told hash accepted (IsAsked lines) (IsOwnPromise verified key lines start.known) (IsAskedChange lines) start text (stored_after kept.acts).roots kept.next.grows.0 known' kept.next.grows.1
+            (moved-stays monitors some start.known.marks known.marks known'.marks puts kept.once kept.next.stays) told-so
+            (asked-then lines start.known known known' (unchanged-own lines start.known known known' same) kept.next.own);
         early = kept.early;
         low-start = kept.low-start;
         low = kept.low;

@@ -86,14 +86,16 @@ abbrev pub WasStored : Stored → List ℕ → SignedRoot → Type 0
 WasStored before name root = Contains before.roots root
     × ((mark : Mark) × Contains before.known.marks mark × (mark.name ≡ name) × (mark.since < root.body.epoch) × (root.body.epoch ≤ mark.epoch))
 
-module _ (hash : List ℕ → List ℕ) (accepted : List ℕ → List ℕ → List ℕ → Type 0) (Given : List ℕ → Option (List ℕ) → Type 0) (Own : SignedPromise → Type 0) where
+module _ (hash : List ℕ → List ℕ) (accepted : List ℕ → List ℕ → List ℕ → Type 0) (Given : List ℕ → Option (List ℕ) → Type 0) (Own Asked : SignedPromise → Type 0) where
   -- What files have that had something else before a run, where this text was written in it: roots are added alone, and no
-  -- mark is lost; of each root up to a mark it was told, or the root's epoch had been watched before.
+  -- mark is lost; of each root up to a mark it was told, or the root's epoch had been watched before. A promise for a change
+  -- of the owner's own is an old one, or was asked for.
   pub record KeepsTold (before : Stored) (text : List ℕ) (after : Stored) : Type 0 where
     pub grows : (more : List SignedRoot) × (after.roots ≡ before.roots ++ more)
     pub stays : (old : Mark) → Contains before.known.marks old → HasMark after.known.marks old
     pub told : (mark : Mark) → Contains after.known.marks mark → (root : SignedRoot) → Contains after.roots root → mark.since < root.body.epoch → root.body.epoch ≤ mark.epoch
         → TellsEpoch Given Own hash accepted text mark.name root ⊎ WasStored before mark.name root
+    pub own : (signed : SignedPromise) → WasOwn after.known signed → WasOwn before.known signed ⊎ Asked signed
 
   -- so it is after each of these acts of a run, the latest first, before which the output had this text
   abbrev pub AllKeepTold : Stored → List ℕ → List Act → Type 0
@@ -107,4 +109,4 @@ module _ (hash : List ℕ → List ℕ) (accepted : List ℕ → List ℕ → Li
 -- What happened in a run to what is kept: nothing, or acts after each of which all that it had watched was told. Some lines
 -- were asked under this key, and the output had this text before.
 abbrev pub LeavesTold : (List ℕ → List ℕ) → (List ℕ → List ℕ → List ℕ → Type 0) → (List ℕ → List ℕ → List ℕ → Type 0) → Option (List (List ℕ)) → List ℕ → List ℕ → (List Act → Type 0) → Type 0
-LeavesTold hash accepted verified lines key old Happened = (acts : List Act) × Happened acts × ((acts ≡ []) ⊎ ((start : Stored) × AllKeepTold hash accepted (IsAsked lines) (IsOwnPromise verified key lines start.known) start old acts))
+LeavesTold hash accepted verified lines key old Happened = (acts : List Act) × Happened acts × ((acts ≡ []) ⊎ ((start : Stored) × AllKeepTold hash accepted (IsAsked lines) (IsOwnPromise verified key lines start.known) (IsAskedChange lines) start old acts))

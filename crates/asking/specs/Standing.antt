@@ -1,6 +1,7 @@
 -- Where a run stands to what it keeps.
 use Rattle.std.specs.Prelude.{◌≡◌, ◌⊎◌, ℕ, ◌<◌, ◌≤◌, List, [], ◌∷◌, ◌++◌, false, true, Contains, Option, Some, None, ⊤}
 use Rattle.std.specs.List.{AllByRecursion}
+use Rattle.rootchain.specs.declared.signed_promise.SignedPromise.{SignedPromise}
 use Rattle.rootchain.specs.declared.signed_root.SignedRoot.{SignedRoot}
 use Rattle.rootchain.specs.Chains.{IsHead}
 use Rattle.client.specs.Clients.{Client}
@@ -10,7 +11,7 @@ use Rattle.monitor.specs.Monitors.{Monitor}
 use Rattle.play.specs.Scripts.{line_of, ScriptLine}
 use Rattle.asking.specs.Owning.{Owns}
 use Rattle.asking.specs.Remembering.{AreWithin}
-use Rattle.asking.specs.Saves.{stored_after, stored_by, stored_nothing, Act, AllKeepTold, HasOneOfEachName, IsAsked, IsHeadEpoch, IsOwnPromise, IsSaid, KeepsTold, Loads, Remembers, Stored, WasOwn}
+use Rattle.asking.specs.Saves.{stored_after, stored_by, stored_nothing, Act, AllKeepTold, HasOneOfEachName, IsAsked, IsAskedChange, IsHeadEpoch, IsOwnPromise, IsSaid, KeepsTold, Loads, Remembers, Stored, WasOwn}
 use Rattle.asking.specs.Scenes.{Scene}
 use Rattle.asking.specs.declared.asker.Asker.{Asker}
 use Rattle.asking.specs.declared.state.State.{State}
@@ -25,6 +26,18 @@ pub record KeepsMarks (before after : Memory) : Type 0 where
   pub still : (mark : Mark) → Contains before.marks mark → Contains after.marks mark
   pub once : HasOneOfEachName before → HasOneOfEachName after
 
+-- each promise for a change of the owner's own is an old one
+abbrev pub AddsNoOwn : Memory → Memory → Type 0
+AddsNoOwn before after = (signed : SignedPromise) → WasOwn after signed → WasOwn before signed
+
+-- or is among these
+abbrev pub AddsOwn : List SignedPromise → Memory → Memory → Type 0
+AddsOwn changes before after = (signed : SignedPromise) → WasOwn after signed → WasOwn before signed ⊎ Contains changes signed
+
+-- each of these promises was the owner's own before, or one of the lines asks for it
+abbrev pub AreAsked : Option (List (List ℕ)) → Memory → List SignedPromise → Type 0
+AreAsked lines known changes = AllByRecursion (λ (signed : SignedPromise). WasOwn known signed ⊎ IsAskedChange lines signed) changes
+
 -- the scene of a client and its monitors, and of lines that are told and not yet written
 abbrev pub standing : Client → List Monitor → List ℕ → Scene (Unit {0})
 standing client monitors lines = record { client = client; monitors = monitors; told = record { lines = lines; status = 0 }; stream = tt }
@@ -37,9 +50,9 @@ module _ (hash : List ℕ → List ℕ) (accepted verified : List ℕ → List �
     pub happened : Happened acts
     pub text : List ℕ
     pub is-out : out ≡ Some (old ++ text)
-    pub all : AllKeepTold hash accepted (IsAsked lines) (IsOwnPromise verified key lines start.known) start old acts
-    pub now : KeepsTold hash accepted (IsAsked lines) (IsOwnPromise verified key lines start.known) start text (stored_after acts)
-    pub next : KeepsTold hash accepted (IsAsked lines) (IsOwnPromise verified key lines start.known) start text (record { roots = (stored_after acts).roots; known = known })
+    pub all : AllKeepTold hash accepted (IsAsked lines) (IsOwnPromise verified key lines start.known) (IsAskedChange lines) start old acts
+    pub now : KeepsTold hash accepted (IsAsked lines) (IsOwnPromise verified key lines start.known) (IsAskedChange lines) start text (stored_after acts)
+    pub next : KeepsTold hash accepted (IsAsked lines) (IsOwnPromise verified key lines start.known) (IsAskedChange lines) start text (record { roots = (stored_after acts).roots; known = known })
     pub early : (mark : Mark) → Contains start.known.marks mark → (root : SignedRoot) → Contains (stored_after acts).roots root → mark.since < root.body.epoch → root.body.epoch ≤ mark.epoch → Contains start.roots root
     pub low-start : Fits epoch start.known
     pub low : Fits epoch (stored_after acts).known
@@ -107,4 +120,4 @@ HasFailed Before After (Some before) after = (state : State) × (after ≡ Some 
 -- what happens at the end: nothing, or all is handed on once more, if it was loaded
 abbrev pub LeavesState : (List Act → Type 0) → List Act → Option State → Option (List ℕ) → Type 0
 LeavesState After acts None out = After acts
-LeavesState After acts (Some state) out = After acts ⊎ ((state.is_loaded ≡ true) × ((known : Memory) × (known.marks ≡ state.memory.marks) × After (Remembers known out ∷ acts)))
+LeavesState After acts (Some state) out = After acts ⊎ ((state.is_loaded ≡ true) × ((known : Memory) × (known.marks ≡ state.memory.marks) × AddsNoOwn state.memory known × After (Remembers known out ∷ acts)))

@@ -36,14 +36,21 @@ WasWritten old (Remembers known out ∷ acts) text = out ≡ Some (old ++ text)
 -- what the owner gave is known by what was asked, and which promises are for the owner's own changes by this and by what
 -- was loaded
 module _ (hash : List ℕ → List ℕ) (accepted : List ℕ → List ℕ → List ℕ → Type 0) {X : Type 0} (Given : X → List ℕ → Option (List ℕ) → Type 0) (Own : X → Stored → SignedPromise → Type 0) where
-  -- each run finds what the files had after those before it, and keeps all told that it does to them
-  abbrev pub AllRun : List (StateRun X) → Type 0
-  AllRun [] = ⊤
-  AllRun (run ∷ earlier) = FirstLoads run.acts (left_by earlier) × ((start : Stored) × AllKeepTold hash accepted (Given run.asked) (Own run.asked start) start run.old run.acts)
-      × AreFirst run.acts run.left × AllRun earlier
-
   -- it is told of the root for the name in what one of the runs wrote before it did the last that is left
   abbrev pub WasTold : List (StateRun X) → List ℕ → SignedRoot → Type 0
   WasTold [] name root = ⊥
   WasTold (run ∷ earlier) name root =
       ((text : List ℕ) × WasWritten run.old run.left text × TellsEpoch (Given run.asked) (Own run.asked (left_by earlier)) hash accepted text name root) ⊎ WasTold earlier name root
+
+  module _ (Asked : X → SignedPromise → Type 0) where
+    -- each run finds what the files had after those before it, and keeps all told that it does to them
+    abbrev pub AllRun : List (StateRun X) → Type 0
+    AllRun [] = ⊤
+    AllRun (run ∷ earlier) = FirstLoads run.acts (left_by earlier) × ((start : Stored) × AllKeepTold hash accepted (Given run.asked) (Own run.asked start) (Asked run.asked) start run.old run.acts)
+        × AreFirst run.acts run.left × AllRun earlier
+
+-- the change that is promised was asked for in one of the runs
+module _ {X : Type 0} (Asked : X → SignedPromise → Type 0) where
+  abbrev pub WasAskedIn : List (StateRun X) → SignedPromise → Type 0
+  WasAskedIn [] signed = ⊥
+  WasAskedIn (run ∷ earlier) signed = Asked run.asked signed ⊎ WasAskedIn earlier signed

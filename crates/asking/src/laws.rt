@@ -1,12 +1,13 @@
 ghost use Rattle.std.specs.Prelude.{◌≡◌, ◌++◌, ◌<◌, ◌≤◌, ℕ, Contains, List, None, Option, Some};
 ghost use Rattle.std.specs.List.{AllByRecursion};
 ghost use Rattle.memory.specs.declared.mark.Mark.{Mark};
+ghost use Rattle.rootchain.specs.declared.signed_promise.SignedPromise.{SignedPromise};
 ghost use Rattle.rootchain.specs.declared.signed_root.SignedRoot.{SignedRoot};
 ghost use Rattle.asking.specs.AskOptions.{AskOptions};
 ghost use Rattle.asking.specs.Exchanges.{ExchangesFrames};
 ghost use Rattle.asking.specs.Runs.{lines_asked, RunsWhole};
-ghost use Rattle.asking.specs.Saves.{HasMark, IsAsked, IsOwnPromise};
-ghost use Rattle.asking.specs.StateRuns.{left_by, AllRun, StateRun, WasTold};
+ghost use Rattle.asking.specs.Saves.{HasMark, IsAsked, IsAskedChange, IsOwnPromise, WasOwn};
+ghost use Rattle.asking.specs.StateRuns.{left_by, AllRun, StateRun, WasAskedIn, WasTold};
 ghost use Rattle.asking.specs.Told.{TellsWatched};
 ghost use Rattle.asking.specs.declared.said.TheConstants.{ALARM, OTHER_INDEX, OTHER_REPLY, REFUSED};
 
@@ -34,12 +35,15 @@ pub fn watched_epochs_are_told<T: Read + Write, H: NodeHash, V: VufCheck, S: Ver
 
 /// Whatever runs there were over one state, and wherever each was stopped: each root of the state that a mark says was
 /// watched is told in the output of one of the runs, before the mark was stored. And no mark of an earlier run is lost:
-/// the state has one of its name that begins no later.
+/// the state has one of its name that begins no later. A change that the state has as the
+/// owner's own was asked for in one of the runs.
 pub fn stored_marks_are_told<H: NodeHash, V: VufCheck, S: Verifier>()
-    ensures told { (key : List ℕ) (runs : List (StateRun (Option (List (List ℕ))))) → AllRun H.digest_of V.accepted IsAsked (λ asked found. IsOwnPromise S.verified key asked found.known) runs
+    ensures told { (key : List ℕ) (runs : List (StateRun (Option (List (List ℕ))))) → AllRun H.digest_of V.accepted IsAsked (λ asked found. IsOwnPromise S.verified key asked found.known) IsAskedChange runs
         → (mark : Mark) → Contains (left_by runs).known.marks mark
         → (root : SignedRoot) → Contains (left_by runs).roots root → mark.since < root.body.epoch → root.body.epoch ≤ mark.epoch
         → WasTold H.digest_of V.accepted IsAsked (λ asked found. IsOwnPromise S.verified key asked found.known) runs mark.name root }
-    ensures stay { (key : List ℕ) (later earlier : List (StateRun (Option (List (List ℕ))))) → AllRun H.digest_of V.accepted IsAsked (λ asked found. IsOwnPromise S.verified key asked found.known) (later ++ earlier)
+    ensures stay { (key : List ℕ) (later earlier : List (StateRun (Option (List (List ℕ))))) → AllRun H.digest_of V.accepted IsAsked (λ asked found. IsOwnPromise S.verified key asked found.known) IsAskedChange (later ++ earlier)
         → (old : Mark) → Contains (left_by earlier).known.marks old → HasMark (left_by (later ++ earlier)).known.marks old }
+    ensures own { (key : List ℕ) (runs : List (StateRun (Option (List (List ℕ))))) → AllRun H.digest_of V.accepted IsAsked (λ asked found. IsOwnPromise S.verified key asked found.known) IsAskedChange runs
+        → (signed : SignedPromise) → WasOwn (left_by runs).known signed → WasAskedIn IsAskedChange runs signed }
 {}

@@ -21,7 +21,7 @@ ghost use Rattle.asking.specs.declared.said.TheConstants.{ALARM};
 ghost use Rattle.asking.specs.Scenes.{scene, Scene, StartsAtHead};
 ghost use Rattle.asking.specs.Saves.{Act, LeavesTold, Stored};
 ghost use Rattle.asking.specs.Settling.{settled_text};
-ghost use Rattle.asking.specs.Standing.{standing, AsksAmong, HasBegun, HasFailed, HasLoaded, IsFresh, IsLeft, IsUpTo, LeavesState, RunStands, StateIsKept, StateStands};
+ghost use Rattle.asking.specs.Standing.{standing, AreAsked, AsksAmong, HasBegun, HasFailed, HasLoaded, IsFresh, IsLeft, IsUpTo, LeavesState, RunStands, StateIsKept, StateStands};
 ghost use Rattle.memory.specs.Memories.{Memory};
 
 use crate::ask_fault::RunFault;
@@ -574,10 +574,10 @@ impl Run {
         ensures writes { OnOk result (Appends (W.contents writer.old) (W.contents writer.new) (self.old).said.text.items × (report_of (self.new).said ≡ emptied (self.old).said.status)) }
         ensures leaves { HoldsBack (W.contents writer.new) (self.new).said (report_of (self.old).said) (W.contents writer.old) }
         ensures keeps { IsSettled result → KeepsUp asker.now (self.old).said.text.items (self.old).state (self.new).state }
-        ensures kept { (lines : Option (List (List ℕ))) (key : List ℕ) (start : Stored) (old : List ℕ) (acts : List Act) → StateIsKept H.digest_of V.accepted S.verified lines key start old (λ done. K.has keeper.old (done ++ acts)) (self.old).state (W.contents writer.old)
+        ensures kept { (lines : Option (List (List ℕ))) (key : List ℕ) (start : Stored) (old : List ℕ) (acts : List Act) → AreAsked lines start.known asker.now.changes.items → StateIsKept H.digest_of V.accepted S.verified lines key start old (λ done. K.has keeper.old (done ++ acts)) (self.old).state (W.contents writer.old)
             → (asked ≢ Err NoMemory → StateStands H.digest_of V.accepted S.verified lines key start old (λ done. K.has keeper.old (done ++ acts)) (self.old).state (W.contents writer.old) (standing asker.now.client asker.now.monitors.items (self.old).said.text.items))
             → StateIsKept H.digest_of V.accepted S.verified lines key start old (λ done. K.has keeper.new (done ++ acts)) (self.new).state (W.contents writer.new) }
-        ensures stands { OnOk result ((lines : Option (List (List ℕ))) (key : List ℕ) (start : Stored) (old : List ℕ) (acts : List Act)
+        ensures stands { OnOk result ((lines : Option (List (List ℕ))) (key : List ℕ) (start : Stored) (old : List ℕ) (acts : List Act) → AreAsked lines start.known asker.now.changes.items
             → StateStands H.digest_of V.accepted S.verified lines key start old (λ done. K.has keeper.old (done ++ acts)) (self.old).state (W.contents writer.old) (standing asker.now.client asker.now.monitors.items (self.old).said.text.items)
             → StateStands H.digest_of V.accepted S.verified lines key start old (λ done. K.has keeper.new (done ++ acts)) (self.new).state (W.contents writer.new) (standing asker.now.client asker.now.monitors.items [])) }
         ensures faults { IfErr result (StopsOr IsFaultOfSaving) }
@@ -619,9 +619,9 @@ impl Run {
         V: VufCheck + Drop,
         S: Verifier + Drop,
         ensures adds { OnOk result (AddsTo asker.now told.now (self.old).state (self.new).state) }
-        ensures kept { (lines : Option (List (List ℕ))) (key : List ℕ) (start : Stored) (old : List ℕ) (acts : List Act) → StateIsKept H.digest_of V.accepted S.verified lines key start old (λ done. K.has keeper.old (done ++ acts)) (self.old).state (W.contents writer.now)
+        ensures kept { (lines : Option (List (List ℕ))) (key : List ℕ) (start : Stored) (old : List ℕ) (acts : List Act) → AreAsked lines start.known asker.now.changes.items → StateIsKept H.digest_of V.accepted S.verified lines key start old (λ done. K.has keeper.old (done ++ acts)) (self.old).state (W.contents writer.now)
             → StateIsKept H.digest_of V.accepted S.verified lines key start old (λ done. K.has keeper.new (done ++ acts)) (self.new).state (W.contents writer.now) }
-        ensures stands { OnOk result ((lines : Option (List (List ℕ))) (key : List ℕ) (start : Stored) (old : List ℕ) (acts : List Act) (said : List ℕ)
+        ensures stands { OnOk result ((lines : Option (List (List ℕ))) (key : List ℕ) (start : Stored) (old : List ℕ) (acts : List Act) (said : List ℕ) → AreAsked lines start.known asker.now.changes.items
             → StateStands H.digest_of V.accepted S.verified lines key start old (λ done. K.has keeper.old (done ++ acts)) (self.old).state (W.contents writer.now) (standing asker.now.client asker.now.monitors.items said)
             → StateStands H.digest_of V.accepted S.verified lines key start old (λ done. K.has keeper.new (done ++ acts)) (self.new).state (W.contents writer.now) (standing asker.now.client asker.now.monitors.items said)) }
         ensures up_to { OnOk result (IfSome (self.new).state (λ state. IsUpTo asker.now.client state.epoch)) }
@@ -795,6 +795,8 @@ where
     ensures reaches { (reached : Scene T) × DoesSome H.digest_of V.accepted S.verified (ExchangesFrames T.contents T.remaining) (background_of asker.old) (line_seen line.now) (scene asker.old said.old stream.old) reached × (report_of said.new ≡ reached.told) }
     ensures stands { IfSome result (λ asked. asked ≢ Err NoMemory → (reached : Scene T) × DoesSomeNoting H.digest_of V.accepted S.verified (ExchangesFrames T.contents T.remaining) (background_of asker.old) (line_seen line.now) (asker_changes asker.old) (asker_changes asker.new)
         (scene asker.old said.old stream.old) reached × (report_of said.new ≡ reached.told) × (asker.new.client ≡ reached.client) × (asker.new.monitors.items ≡ reached.monitors)) }
+    ensures notes { IfSome result (λ asked. (reached : Scene T) × DoesSomeNoting H.digest_of V.accepted S.verified (ExchangesFrames T.contents T.remaining) (background_of asker.old) (line_seen line.now) (asker_changes asker.old) (asker_changes asker.new)
+        (scene asker.old said.old stream.old) reached) }
     ensures stays { background_of asker.new ≡ background_of asker.old }
     ensures none { MatchOption result (CannotBeAsked (Some (line_seen line.now))) (λ asked. ⊤) }
     ensures rises { said.old.status ≤ said.new.status }

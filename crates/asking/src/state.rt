@@ -14,7 +14,7 @@ ghost use Rattle.asking.specs.Reports.{report_of};
 ghost use Rattle.asking.specs.RunFaults.{IsFaultOfSaving, IsFaultOfState};
 ghost use Rattle.asking.specs.Runs.{IsSoundFor, KeepsAll};
 ghost use Rattle.asking.specs.Saves.{roots_above, stored_by, stored_nothing, Act, AddsRoots, HasOneOfEachName, IsHeadEpoch, Loads, Remembers, Stored, WasOwn};
-ghost use Rattle.asking.specs.Standing.{standing, IsKept, IsUpTo, KeepsMarks, Stands};
+ghost use Rattle.asking.specs.Standing.{standing, AddsNoOwn, AddsOwn, AreAsked, IsKept, IsUpTo, KeepsMarks, Stands};
 
 use crate::keeper::{Keeper, Loaded};
 use crate::{Asker, Checks, Said};
@@ -154,9 +154,9 @@ impl State {
         ensures looked { ((self.new).head ≡ (self.old).head) × ((self.new).monitors ≡ (self.old).monitors) }
         ensures changes { OnOk result ((self.new).changes ≡ length asker.now.changes.items) }
         ensures up_to { OnOk result (IsUpTo asker.now.client (self.new).epoch) }
-        ensures kept { (lines : Option (List (List ℕ))) (key : List ℕ) (start : Stored) (old : List ℕ) (acts : List Act) → IsKept H.digest_of V.accepted S.verified lines key start old (λ done. K.has keeper.old (done ++ acts)) (self.old).epoch (self.old).memory (W.contents writer.now)
+        ensures kept { (lines : Option (List (List ℕ))) (key : List ℕ) (start : Stored) (old : List ℕ) (acts : List Act) → AreAsked lines start.known asker.now.changes.items → IsKept H.digest_of V.accepted S.verified lines key start old (λ done. K.has keeper.old (done ++ acts)) (self.old).epoch (self.old).memory (W.contents writer.now)
             → IsKept H.digest_of V.accepted S.verified lines key start old (λ done. K.has keeper.new (done ++ acts)) (self.new).epoch (self.new).memory (W.contents writer.now) }
-        ensures stands { OnOk result ((lines : Option (List (List ℕ))) (key : List ℕ) (start : Stored) (old : List ℕ) (acts : List Act) (said : List ℕ) → Stands H.digest_of V.accepted S.verified lines key start old (λ done. K.has keeper.old (done ++ acts)) (self.old).epoch (self.old).memory (W.contents writer.now) (standing asker.now.client asker.now.monitors.items said)
+        ensures stands { OnOk result ((lines : Option (List (List ℕ))) (key : List ℕ) (start : Stored) (old : List ℕ) (acts : List Act) (said : List ℕ) → AreAsked lines start.known asker.now.changes.items → Stands H.digest_of V.accepted S.verified lines key start old (λ done. K.has keeper.old (done ++ acts)) (self.old).epoch (self.old).memory (W.contents writer.now) (standing asker.now.client asker.now.monitors.items said)
             → Stands H.digest_of V.accepted S.verified lines key start old (λ done. K.has keeper.new (done ++ acts)) (self.new).epoch (self.new).memory (W.contents writer.now) (standing asker.now.client asker.now.monitors.items said)) }
     {
         // If a fault comes before all is handed on, nothing tells how much is kept.
@@ -271,6 +271,7 @@ impl State {
         ensures learns { OnOk result ((news : List Remembered) × LearnsPromises (drop (self.old).changes asker.now.changes.items) asker.now.client.promises (self.old).memory news (self.new).memory
             × (lines.new.items ≡ lines.old.items ++ items_text news)) }
         ensures some { OnErr result (KeepsMarks (self.old).memory (self.new).memory) }
+        ensures own { AddsOwn asker.now.changes.items (self.old).memory (self.new).memory }
         ensures changes { OnOk result ((self.new).changes ≡ length asker.now.changes.items) }
         ensures same { ((self.new).epoch ≡ (self.old).epoch) × ((self.new).head ≡ (self.old).head) × ((self.new).monitors ≡ (self.old).monitors) }
     {
@@ -326,6 +327,7 @@ impl State {
         ensures err { IfErr result IsFaultOfSaving }
         ensures leaves { OnOk result (((self.old).is_loaded ≡ false) ⊎ ((self.old).epoch ≡ 0) ⊎ Leaves (self.old).tested.items (self.old).memory (self.new).memory) }
         ensures marks { (self.new).memory.marks ≡ (self.old).memory.marks }
+        ensures own { AddsNoOwn (self.old).memory (self.new).memory }
         ensures hands { (acts : List Act) → K.has keeper.old acts → K.has keeper.new acts ⊎ (((self.old).is_loaded ≡ true) × K.has keeper.new (Remembers (self.new).memory (W.contents writer.now) ∷ acts)) }
         ensures same { ((self.new).is_loaded ≡ (self.old).is_loaded) × ((self.new).epoch ≡ (self.old).epoch) }
     {

@@ -1,9 +1,12 @@
-use Rattle.asking.specs.Saves.{IsAsked, IsOwnPromise}
-use Rattle.asking.proofs.StateRuns.{marks-over-runs, told-over-runs}
+use Rattle.asking.specs.Saves.{IsAsked, IsAskedChange, IsOwnPromise}
+use Rattle.asking.proofs.StateRuns.{marks-over-runs, own-over-runs, told-over-runs}
 use Rattle.asking.proofs.laws.stored_marks_are_told.Goals as goal
 
 pub returns-clause-told : goal.returns-clause-told
-returns-clause-told g c = λ key. told-over-runs g.H.NodeHash.digest_of g.V.VufCheck.accepted IsAsked (λ asked found. IsOwnPromise g.S.Verifier.verified key asked found.known)
+returns-clause-told g c = λ key. told-over-runs g.H.NodeHash.digest_of g.V.VufCheck.accepted IsAsked (λ asked found. IsOwnPromise g.S.Verifier.verified key asked found.known) IsAskedChange
 
 pub returns-clause-stay : goal.returns-clause-stay
-returns-clause-stay g c = λ key. marks-over-runs g.H.NodeHash.digest_of g.V.VufCheck.accepted IsAsked (λ asked found. IsOwnPromise g.S.Verifier.verified key asked found.known)
+returns-clause-stay g c = λ key. marks-over-runs g.H.NodeHash.digest_of g.V.VufCheck.accepted IsAsked (λ asked found. IsOwnPromise g.S.Verifier.verified key asked found.known) IsAskedChange
+
+pub returns-clause-own : goal.returns-clause-own
+returns-clause-own g c = λ key. own-over-runs g.H.NodeHash.digest_of g.V.VufCheck.accepted IsAsked (λ asked found. IsOwnPromise g.S.Verifier.verified key asked found.known) IsAskedChange

@@ -2,6 +2,7 @@ use Rattle.std.proofs.Common.{◌≡◌, ◌∙◌, ◌++◌, List, true, false,
 use Rattle.rootchain.specs.declared.signed_promise.SignedPromise.{SignedPromise}
 use Rattle.memory.specs.Learning.{promised_item, Each, IsFresh, LearnsOne}
 use Rattle.memory.proofs.Learned.{text_grows}
+use Rattle.asking.proofs.AskedOwn.{learns-changes, learns-others, whole-of}
 use Rattle.asking.proofs.Ended.{err_so}
 use Rattle.asking.proofs.PutMarks.{marks-then, promises-marks, same-marks, some-promises-marks}
 use Rattle.asking.proofs.state.State.learn_promises.Goals as goal
@@ -32,3 +33,26 @@ returns-in_err-learn_promises-2-clause-some g c =
     let stays = some-promises-marks false c.fresh-fresh.result.now c.learn_promises.new.self c.learn_promises-2.new.self c.in_err-learn_promises-2.ensures.err in
     err_so _ (marks-then memory c.learn_promises.new.self c.learn_promises-2.new.self (promises-marks true c.behind-own.result.now memory c.learn_promises.new.self first one)
     (same-marks c.learn_promises.new.self c.learn_promises-2.new.self stays))
+
+pub returns-in_err-learn_promises-clause-own : goal.returns-in_err-learn_promises-clause-own
+returns-in_err-learn_promises-clause-own g c =
+    let own : c.behind-own.result.now ≡ drop c.args.self.now.changes c.args.asker.now.changes.items = c.behind-own.ensures ∙ ap (drop c.args.self.now.changes) c.deref.ensures.value in
+    learns-changes c.args.asker.now.changes.items c.behind-own.result.now c.args.self.now.changes c.args.self.now.memory c.learn_promises.new.self own c.in_err-learn_promises.ensures.err
+
+pub returns-in_err-learn_promises-2-clause-own : goal.returns-in_err-learn_promises-2-clause-own
+returns-in_err-learn_promises-2-clause-own g c =
+    let memory = c.args.self.now.memory in
+    let own : c.behind-own.result.now ≡ drop c.args.self.now.changes c.args.asker.now.changes.items = c.behind-own.ensures ∙ ap (drop c.args.self.now.changes) c.deref.ensures.value in
+    let (first, one, grown) = c.in_ok-learn_promises.ensures.ok in
+    let adds = learns-changes c.args.asker.now.changes.items c.behind-own.result.now c.args.self.now.changes memory c.learn_promises.new.self own (whole-of LearnsOne (map (promised_item true) c.behind-own.result.now) memory c.learn_promises.new.self first one) in
+    learns-others c.args.asker.now.changes.items c.fresh-fresh.result.now memory c.learn_promises.new.self c.learn_promises-2.new.self adds c.in_err-learn_promises-2.ensures.err
+
+pub returns-clause-own : goal.returns-clause-own
+returns-clause-own g c =
+    let memory = c.args.self.now.memory in
+    let own : c.behind-own.result.now ≡ drop c.args.self.now.changes c.args.asker.now.changes.items = c.behind-own.ensures ∙ ap (drop c.args.self.now.changes) c.deref.ensures.value in
+    let (first, one, grown) = c.in_ok-learn_promises.ensures.ok in
+    let (rest, two, more) = c.in_ok-learn_promises-2.ensures.ok in
+    let adds = learns-changes c.args.asker.now.changes.items c.behind-own.result.now c.args.self.now.changes memory c.learn_promises.new.self own (whole-of LearnsOne (map (promised_item true) c.behind-own.result.now) memory c.learn_promises.new.self first one) in
+    learns-others c.args.asker.now.changes.items c.fresh-fresh.result.now memory c.learn_promises.new.self c.learn_promises-2.new.self adds
+    (whole-of LearnsOne (map (promised_item false) c.fresh-fresh.result.now) c.learn_promises.new.self c.learn_promises-2.new.self rest two)

@@ -3,6 +3,7 @@ use Rattle.textio.specs.Lines.{lines_of}
 use Rattle.memory.specs.declared.kind.Kind.TheVariants.{Alarms}
 use Rattle.asking.specs.Saves.{Act}
 use Rattle.asking.specs.Standing.{standing}
+use Rattle.asking.proofs.AskedOwn.{lines-promises, none-asked, some-lines-promises}
 use Rattle.asking.proofs.Keeping.{learned_after}
 use Rattle.asking.proofs.PutMarks.{lines-stay, same-marks, some-lines-marks}
 use Rattle.asking.proofs.Saving.{may-among, stands-on, stands-saved, stands-so}
@@ -26,6 +27,7 @@ returns-in_err-learn_told-clause-kept g c = λ lines key start old acts up-to st
     let same = some-lines-marks Alarms (lines_of c.args.told.now) known c.learn_told.new.self c.in_err-learn_told.ensures.err in
     stands-same g.H.NodeHash.digest_of g.V.VufCheck.accepted g.S.Verifier.verified lines key start old (λ (done : List Act). g.K.Keeper.has c.args.keeper.now (done ++ acts)) c.args.self.now.epoch known
     (g.W.Write.contents c.args.writer.now) (standing c.args.asker.now.client c.args.asker.now.monitors.items []) stands c.learn_told.new.self same (same-marks known c.learn_told.new.self same)
+    (none-asked lines start.known known c.learn_told.new.self (some-lines-promises Alarms (lines_of c.args.told.now) known c.learn_told.new.self c.in_err-learn_told.ensures.err))
 
 pub returns-in_err-learn_marks-clause-kept : goal.returns-in_err-learn_marks-clause-kept
 returns-in_err-learn_marks-clause-kept g c = λ lines key start old acts up-to stands.
@@ -38,7 +40,7 @@ returns-in_err-learn_marks-clause-kept g c = λ lines key start old acts up-to s
     let before : List Act → Type 0 = λ done. g.K.Keeper.has c.args.keeper.now (done ++ acts) in
     let (done, news, among, each) = c.in_err-learn_marks.ensures.some in
     stands-so g.H.NodeHash.digest_of g.V.VufCheck.accepted g.S.Verifier.verified lines key start old before c.args.self.now.epoch c.learn_marks.new.self.epoch c.learn_marks.new.self.memory c.learn_marks.new.self.memory out (standing c.args.asker.now.client monitors []) c.learn_marks.ensures.same.0 refl
-    (stands-saved g.H.NodeHash.digest_of g.V.VufCheck.accepted g.S.Verifier.verified lines key start old before c.args.self.now.epoch known middle c.learn_marks.new.self.memory out c.args.asker.now.client monitors done news stands up-to same among each)
+    (stands-saved g.H.NodeHash.digest_of g.V.VufCheck.accepted g.S.Verifier.verified lines key start old before c.args.self.now.epoch known middle c.learn_marks.new.self.memory out c.args.asker.now.client monitors done news stands up-to same (lines-promises Alarms (lines_of c.args.told.now) known middle alarms tells) among each)
 
 pub returns-in_err-hand_on-clause-kept : goal.returns-in_err-hand_on-clause-kept
 returns-in_err-hand_on-clause-kept g c = λ lines key start old acts up-to stands.
@@ -51,7 +53,7 @@ returns-in_err-hand_on-clause-kept g c = λ lines key start old acts up-to stand
     let before : List Act → Type 0 = λ done. g.K.Keeper.has c.args.keeper.now (done ++ acts) in
     let (some, news, may, each, longer) = c.in_ok-learn_marks.ensures.learns in
     let among = may-among c.args.asker.now.client.chain c.args.self.now.head c.args.self.now.monitors monitors some may in
-    let moved = stands-saved g.H.NodeHash.digest_of g.V.VufCheck.accepted g.S.Verifier.verified lines key start old before c.args.self.now.epoch known middle c.learn_marks.new.self.memory out c.args.asker.now.client monitors some news stands up-to same among each in
+    let moved = stands-saved g.H.NodeHash.digest_of g.V.VufCheck.accepted g.S.Verifier.verified lines key start old before c.args.self.now.epoch known middle c.learn_marks.new.self.memory out c.args.asker.now.client monitors some news stands up-to same (lines-promises Alarms (lines_of c.args.told.now) known middle alarms tells) among each in
     let handed = stands-on g.H.NodeHash.digest_of g.V.VufCheck.accepted g.S.Verifier.verified lines key start old before (λ (done : List Act). g.K.Keeper.has c.hand_on.new.keeper (done ++ acts)) c.args.self.now.epoch c.hand_on.new.self.epoch c.learn_marks.new.self.memory c.hand_on.new.self.memory out (standing c.args.asker.now.client monitors [])
     (c.hand_on.ensures.same.1 ∙ c.learn_marks.ensures.same.0) c.hand_on.ensures.same.0 (λ done has. c.hand_on.ensures.hands (done ++ acts) has) moved in
     handed
@@ -67,7 +69,7 @@ returns-in_err-note_tested-clause-kept g c = λ lines key start old acts up-to s
     let before : List Act → Type 0 = λ done. g.K.Keeper.has c.args.keeper.now (done ++ acts) in
     let (some, news, may, each, longer) = c.in_ok-learn_marks.ensures.learns in
     let among = may-among c.args.asker.now.client.chain c.args.self.now.head c.args.self.now.monitors monitors some may in
-    let moved = stands-saved g.H.NodeHash.digest_of g.V.VufCheck.accepted g.S.Verifier.verified lines key start old before c.args.self.now.epoch known middle c.learn_marks.new.self.memory out c.args.asker.now.client monitors some news stands up-to same among each in
+    let moved = stands-saved g.H.NodeHash.digest_of g.V.VufCheck.accepted g.S.Verifier.verified lines key start old before c.args.self.now.epoch known middle c.learn_marks.new.self.memory out c.args.asker.now.client monitors some news stands up-to same (lines-promises Alarms (lines_of c.args.told.now) known middle alarms tells) among each in
     let handed = stands-on g.H.NodeHash.digest_of g.V.VufCheck.accepted g.S.Verifier.verified lines key start old before (λ (done : List Act). g.K.Keeper.has c.hand_on.new.keeper (done ++ acts)) c.args.self.now.epoch c.hand_on.new.self.epoch c.learn_marks.new.self.memory c.hand_on.new.self.memory out (standing c.args.asker.now.client monitors [])
     (c.hand_on.ensures.same.1 ∙ c.learn_marks.ensures.same.0) c.hand_on.ensures.same.0 (λ done has. c.hand_on.ensures.hands (done ++ acts) has) moved in
     stands-so g.H.NodeHash.digest_of g.V.VufCheck.accepted g.S.Verifier.verified lines key start old (λ (done : List Act). g.K.Keeper.has c.hand_on.new.keeper (done ++ acts)) c.hand_on.new.self.epoch c.note_tested.new.self.epoch c.hand_on.new.self.memory c.note_tested.new.self.memory out (standing c.args.asker.now.client monitors [])
@@ -84,7 +86,7 @@ returns-clause-kept g c = λ lines key start old acts up-to stands.
     let before : List Act → Type 0 = λ done. g.K.Keeper.has c.args.keeper.now (done ++ acts) in
     let (some, news, may, each, longer) = c.in_ok-learn_marks.ensures.learns in
     let among = may-among c.args.asker.now.client.chain c.args.self.now.head c.args.self.now.monitors monitors some may in
-    let moved = stands-saved g.H.NodeHash.digest_of g.V.VufCheck.accepted g.S.Verifier.verified lines key start old before c.args.self.now.epoch known middle c.learn_marks.new.self.memory out c.args.asker.now.client monitors some news stands up-to same among each in
+    let moved = stands-saved g.H.NodeHash.digest_of g.V.VufCheck.accepted g.S.Verifier.verified lines key start old before c.args.self.now.epoch known middle c.learn_marks.new.self.memory out c.args.asker.now.client monitors some news stands up-to same (lines-promises Alarms (lines_of c.args.told.now) known middle alarms tells) among each in
     let handed = stands-on g.H.NodeHash.digest_of g.V.VufCheck.accepted g.S.Verifier.verified lines key start old before (λ (done : List Act). g.K.Keeper.has c.hand_on.new.keeper (done ++ acts)) c.args.self.now.epoch c.hand_on.new.self.epoch c.learn_marks.new.self.memory c.hand_on.new.self.memory out (standing c.args.asker.now.client monitors [])
     (c.hand_on.ensures.same.1 ∙ c.learn_marks.ensures.same.0) c.hand_on.ensures.same.0 (λ done has. c.hand_on.ensures.hands (done ++ acts) has) moved in
     stands-so g.H.NodeHash.digest_of g.V.VufCheck.accepted g.S.Verifier.verified lines key start old (λ (done : List Act). g.K.Keeper.has c.hand_on.new.keeper (done ++ acts)) c.hand_on.new.self.epoch c.note_tested.new.self.epoch c.hand_on.new.self.memory c.note_tested.new.self.memory out (standing c.args.asker.now.client monitors [])
