@@ -157,9 +157,6 @@ whole-of Does xs before after news each = (xs, [], news, sym (append-nil xs), ea
 
 -- ---- what was asked for
 
-pub none-asked : (lines : Option (List (List ℕ))) (start before after : Memory) → after.promises ≡ before.promises → OwnAsked lines start before after
-none-asked lines start before after same signed own = inl (same-own before after same signed own)
-
 pub changes-asked : (lines : Option (List (List ℕ))) (start : Memory) (changes : List SignedPromise) (before after : Memory) → AreAsked lines start changes → AddsOwn changes before after → OwnAsked lines start before after
 changes-asked lines start changes before after asked adds signed own = elim (adds signed own) [
   | inl old ↦ inl old

@@ -18,13 +18,14 @@ use Rattle.asking.specs.Reports.{report_of, Report}
 use Rattle.asking.specs.Runs.{background_of, emptied, Background}
 use Rattle.asking.specs.Saves.{stored_after, Act, IsAsked, IsOwnPromise, IsSaid, Stored}
 use Rattle.asking.specs.Scenes.{scene, Scene}
-use Rattle.asking.specs.Standing.{standing, IsReady, RunStands, Stands, StateStands}
+use Rattle.asking.specs.Standing.{standing, AreAsked, IsReady, RunStands, Stands, StateStands}
 use Rattle.asking.specs.declared.ask_fault.AskFault.{AskFault}
 use Rattle.asking.specs.declared.ask_fault.AskFault.TheVariants.{OutOfMemory as NoMemory}
 use Rattle.asking.specs.declared.ask_fault.RunFault.{RunFault}
 use Rattle.asking.specs.declared.asker.Asker.{Asker}
 use Rattle.asking.specs.declared.said.Said.{Said}
 use Rattle.asking.specs.declared.state.State.{State}
+use Rattle.asking.proofs.AskedOwn.{asked-of}
 use Rattle.asking.proofs.EveryStep.{does_some-keeps, prepares_some-keeps}
 use Rattle.asking.proofs.Keeping.{was_asked}
 use Rattle.asking.proofs.NotedOwn.{prepares_some_key, some_key, some_notes, NotesOwn}
@@ -133,6 +134,23 @@ module _ {T H V S : Type 0} (hash : List ℕ → List ℕ) (accepted verified : 
             (subst (λ (xs : List SignedPromise). AllByRecursion (IsOwnPromise verified before.key lines start.known) (xs ++ after.changes.items)) (sym earlier)
             (join-all (IsOwnPromise verified before.key lines start.known) before.earlier.items after.changes.items old-ones (noted-ready line asked does ready))),
       )
+
+-- what is noted was asked for, also where memory ran out
+pub line-asked : {T H V S : Type 0} (hash : List ℕ → List ℕ) (accepted verified : List ℕ → List ℕ → List ℕ → Type 0) (exchanged : T → RequestContent → Frame → T → Type 0) (lines : Option (List (List ℕ))) (start : Stored)
+    (before after : Asker H V S) (said : Said) (stream : T) (reached : Scene T) (line : ScriptLine) → IsSaid lines line
+    → DoesSomeNoting hash accepted verified exchanged (background_of before) line before.changes.items after.changes.items (scene before said stream) reached → IsReady verified lines start.known before
+    → AreAsked lines start.known after.changes.items
+line-asked hash accepted verified exchanged lines start before after said stream reached line asked does (keyed, ready) =
+    asked-of verified before.key lines start.known after.changes.items (own-noted verified before.key lines start.known line before.changes.items after.changes.items
+    (subst (λ (k : List ℕ). NotesOwn verified k line before.changes.items after.changes.items) keyed (some_notes hash accepted verified exchanged (background_of before) line before.changes.items after.changes.items (scene before said stream) reached does))
+    asked (back-all (IsOwnPromise verified before.key lines start.known) before.earlier.items before.changes.items ready))
+
+-- and where nothing is noted
+pub prepared-asked : {H V S : Type 0} (verified : List ℕ → List ℕ → List ℕ → Type 0) (lines : Option (List (List ℕ))) (start : Stored) (before after : Asker H V S) → after.changes ≡ before.changes → IsReady verified lines start.known before
+    → AreAsked lines start.known after.changes.items
+prepared-asked verified lines start before after same (keyed, ready) =
+    subst (λ (xs : List SignedPromise). AreAsked lines start.known xs) (sym (ap (λ cs. cs.items) same))
+    (asked-of verified before.key lines start.known before.changes.items (back-all (IsOwnPromise verified before.key lines start.known) before.earlier.items before.changes.items ready))
 
 -- a question that settled stands for the next, once all is written
 module _ {H V S : Type 0} (hash : List ℕ → List ℕ) (accepted verified : List ℕ → List ℕ → List ℕ → Type 0) (lines : Option (List (List ℕ))) (start : Stored) (old : List ℕ) (Happened : List Act → Type 0)

@@ -23,6 +23,9 @@ use Rattle.asking.specs.Visiting.{TestsAll, TestsSome}
 no-reply : fault.NoReply ≢ fault.Stopped
 no-reply same = search (rules, same)
 
+no-memory : fault.OutOfMemory ≢ fault.Stopped
+no-memory same = search (rules, same)
+
 -- the asker and what is said are those of the scene
 abbrev pub StandsIn : {H V S T : Type 0} → (Scene T → Type 0) → Asker H V S → Said → Type 0
 StandsIn {H} {V} {S} {T} IsReached asker said = (reached : Scene T) × IsReached reached × (report_of said ≡ reached.told) × (asker.client ≡ reached.client) × (asker.monitors.items ≡ reached.monitors)
@@ -119,4 +122,15 @@ module _ (hash : List ℕ → List ℕ) (accepted verified : List ℕ → List �
       )
   watched_stands name given given' noted noted' (Err fault.Stopped) before asker said stream is same begins err halts enough = absurd (err refl)
   watched_stands name given given' noted noted' (Err fault.OutOfMemory) before asker said stream is same begins err halts enough = absurd (enough refl)
-  -- ---- without what is noted
+
+  -- ---- what is noted, also where memory ran out
+
+  pub asked_notes : {H V S A : Type 0} (asked : RequestContent) (noted noted' : List SignedPromise) (result : Result A AskFault) (before : Scene T) (asker : Asker H V S) (said : Said) (stream : T)
+      → OnOk result (AsksDirectory hash accepted verified exchanged background.marks background.token asked noted noted' before (scene asker said stream))
+      → (result ≡ Err fault.Stopped → noted' ≡ noted) → (result ≡ Err fault.Stopped → StopsAsking hash accepted verified exchanged background.token asked before (scene asker said stream))
+      → IfErr result (λ why. why ≢ fault.Stopped → HaltsAfter (AsksSome hash accepted verified exchanged background.marks background.token asked noted noted' before) why asker said)
+      → (reached : Scene T) × DoesSomeNoting hash accepted verified exchanged background (Ask asked) noted noted' before reached
+  asked_notes asked noted noted' (Ok done) before asker said stream asks same stops halts = (scene asker said stream, inr (inl asks))
+  asked_notes asked noted noted' (Err fault.NoReply) before asker said stream asks same stops halts = let (reached, some, halted) = halts no-reply in (reached, inr (inr (inr some)))
+  asked_notes asked noted noted' (Err fault.Stopped) before asker said stream asks same stops halts = (scene asker said stream, inr (inr (inl (stops refl, same refl))))
+  asked_notes asked noted noted' (Err fault.OutOfMemory) before asker said stream asks same stops halts = let (reached, some, halted) = halts no-memory in (reached, inr (inr (inr some)))

@@ -61,7 +61,7 @@ none-above mark epoch root (inr low) new above below = omega (arith, low, new, b
 abbrev pub OwnAsked : Option (List (List ℕ)) → Memory → Memory → Memory → Type 0
 OwnAsked lines start before after = (signed : SignedPromise) → WasOwn after signed → WasOwn before signed ⊎ (WasOwn start signed ⊎ IsAskedChange lines signed)
 
-asked-then : (lines : Option (List (List ℕ))) (start before after : Memory) → OwnAsked lines start before after → ((signed : SignedPromise) → WasOwn before signed → WasOwn start signed ⊎ IsAskedChange lines signed)
+pub asked-then : (lines : Option (List (List ℕ))) (start before after : Memory) → OwnAsked lines start before after → ((signed : SignedPromise) → WasOwn before signed → WasOwn start signed ⊎ IsAskedChange lines signed)
     → (signed : SignedPromise) → WasOwn after signed → WasOwn start signed ⊎ IsAskedChange lines signed
 asked-then lines start before after own old signed was = elim (own signed was) [
   | inl there ↦ old signed there

@@ -9,7 +9,7 @@ use Rattle.play.specs.Scripts.{ask_seen}
 use Rattle.asking.proofs.Ended.{asked_reaches, watched_reaches}
 use Rattle.asking.proofs.Ran.{ok_then}
 use Rattle.asking.proofs.Rising.{ask_rises, watch_rises}
-use Rattle.asking.proofs.Standing.{asked_stands, watched_stands}
+use Rattle.asking.proofs.Standing.{asked_notes, asked_stands, watched_stands}
 use Rattle.asking.proofs.run.ask_said.Goals as goal
 
 pub returns-in-Watch-clause-does : goal.returns-in-Watch-clause-does
@@ -72,3 +72,15 @@ returns-in-Watch-clause-stands g c =
 pub returns-in-Pass-clause-stands : goal.returns-in-Pass-clause-stands
 returns-in-Pass-clause-stands g c =
     rw c.in-Pass.is (λ enough. ((scene c.args.asker.now c.args.said.now c.args.stream.now), inl (refl, refl), refl, refl, refl))
+
+pub returns-in-Ask-clause-notes : goal.returns-in-Ask-clause-notes
+returns-in-Ask-clause-notes g c =
+    rw c.in-Ask.is (asked_notes g.H.NodeHash.digest_of g.V.VufCheck.accepted g.S.Verifier.verified (ExchangesFrames g.T.Write.contents g.T.Read.remaining) (background_of c.args.asker.now) (ask_seen c.in-Ask.ask)
+    c.args.asker.now.changes.items c.ask.new.self.changes.items c.ask.result (scene c.args.asker.now c.args.said.now c.args.stream.now) c.ask.new.self c.ask.new.said c.ask.new.stream
+    c.ask.ensures.asks c.ask.ensures.unnoted c.ask.ensures.stops c.ask.ensures.halts)
+
+pub returns-in-Watch-clause-notes : goal.returns-in-Watch-clause-notes
+returns-in-Watch-clause-notes g c = (scene c.args.asker.now c.args.said.now c.args.stream.now, inl (refl, ap (λ (changes : Vec SignedPromise Global). changes.items) c.watch.ensures.stays.4))
+
+pub returns-in-Pass-clause-notes : goal.returns-in-Pass-clause-notes
+returns-in-Pass-clause-notes g c = (scene c.args.asker.now c.args.said.now c.args.stream.now, inl (refl, refl))

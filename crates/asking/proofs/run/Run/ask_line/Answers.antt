@@ -12,7 +12,7 @@ use Rattle.asking.specs.declared.ask_fault.AskFault.TheVariants.{OutOfMemory as 
 use Rattle.asking.specs.Runs.{Background}
 use Rattle.asking.specs.Saves.{Act}
 use Rattle.asking.specs.Standing.{standing, StateStands}
-use Rattle.asking.proofs.RunSteps.{line-ready, line-stands, settled-run, told-so}
+use Rattle.asking.proofs.RunSteps.{line-asked, line-ready, line-stands, settled-run, told-so}
 use Rattle.asking.proofs.Written.{state-kept}
 use Rattle.asking.proofs.run.Run.ask_line.Goals as goal
 
@@ -65,16 +65,18 @@ returns-clause-stands g c = λ lines start old acts among stands.
     let state = c.args.self.now.state in
     let kept = state-kept g.H.NodeHash.digest_of g.V.VufCheck.accepted g.S.Verifier.verified lines c.args.asker.now.key start old (λ (done : List Act). g.K.Keeper.has c.args.keeper.now (done ++ acts)) c.args.self.now.state (g.W.Write.contents c.args.writer.now)
     (standing c.args.asker.now.client c.args.asker.now.monitors.items c.args.self.now.said.text.items) stands.0 in
+    let (noted, notes) = c.in-Some-ask_said.ensures.notes in
+    let changes = line-asked g.H.NodeHash.digest_of g.V.VufCheck.accepted g.S.Verifier.verified (ExchangesFrames g.T.Write.contents g.T.Read.remaining) lines start before after said c.args.stream.now noted line (among line seen) notes stands.2 in
     let enough : asked ≢ Err NoMemory → StateStands g.H.NodeHash.digest_of g.V.VufCheck.accepted g.S.Verifier.verified lines before.key start old happened state out (standing after.client after.monitors.items said'.text.items) = λ some.
     let (reached, does, told, client, monitors) = c.in-Some-ask_said.ensures.stands some in
     line-stands g.H.NodeHash.digest_of g.V.VufCheck.accepted g.S.Verifier.verified (ExchangesFrames g.T.Write.contents g.T.Read.remaining) lines start old happened before after said said' c.args.stream.now out reached told client monitors line state (among line seen) does stands in (
-      c.settle.ensures.kept lines before.key start old acts kept enough,
+      c.settle.ensures.kept lines before.key start old acts changes kept enough,
       settled-run g.H.NodeHash.digest_of g.V.VufCheck.accepted g.S.Verifier.verified lines start old happened' before.key after (ap (λ (b : Background). b.key) c.ask_said.ensures.stays) c.settle.new.self.said said'.status c.settle.result asked
           c.settle.new.self.state (g.W.Write.contents c.settle.new.writer) c.settle.ensures.asked (told-so c.settle.result out (g.W.Write.contents c.settle.new.writer) said'.text.items c.settle.new.self.said said'.status c.settle.ensures.writes)
           (stands.1 ∙ sym (ap (λ (b : Background). b.marks) c.ask_said.ensures.stays))
           (λ some. let (reached, does, told, client, monitors) = c.in-Some-ask_said.ensures.stands some in
           line-ready g.H.NodeHash.digest_of g.V.VufCheck.accepted g.S.Verifier.verified (ExchangesFrames g.T.Write.contents g.T.Read.remaining) lines start old happened before after said said' c.args.stream.now out reached told client monitors line (among line seen) does c.ask_said.ensures.stays stands.2)
-          (ok_then c.settle.result c.settle.ensures.stands (λ goes some. goes lines before.key start old acts (enough some))),
+          (ok_then c.settle.result c.settle.ensures.stands (λ goes some. goes lines before.key start old acts changes (enough some))),
     )
 
 pub returns-in_err-line-clause-stands : goal.returns-in_err-line-clause-stands

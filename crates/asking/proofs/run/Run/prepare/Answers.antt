@@ -13,7 +13,7 @@ use Rattle.asking.specs.Runs.{Background}
 use Rattle.asking.specs.Saves.{Act}
 use Rattle.asking.specs.Standing.{standing, StateIsKept, StateStands}
 use Rattle.asking.proofs.Ran.{ok_then}
-use Rattle.asking.proofs.RunSteps.{prepared-ready, prepared-stands, settled-run, told-so}
+use Rattle.asking.proofs.RunSteps.{prepared-asked, prepared-ready, prepared-stands, settled-run, told-so}
 use Rattle.asking.proofs.Written.{state-kept}
 use Rattle.asking.proofs.run.Run.prepare.Goals as goal
 
@@ -39,16 +39,17 @@ returns-clause-stands g c = λ lines start old acts stands.
     let happened : List Act → Type 0 = λ done. g.K.Keeper.has c.args.keeper.now (done ++ acts) in
     let happened' : List Act → Type 0 = λ done. g.K.Keeper.has c.settle.new.keeper (done ++ acts) in
     let still = c.look_around-prepared.ensures.still in
+    let asked = prepared-asked g.S.Verifier.verified lines start before after c.look_around-prepared.ensures.changes stands.2 in
     let kept = subst (λ (state : Option State). StateIsKept g.H.NodeHash.digest_of g.V.VufCheck.accepted g.S.Verifier.verified lines before.key start old happened state out) (sym still)
     (state-kept g.H.NodeHash.digest_of g.V.VufCheck.accepted g.S.Verifier.verified lines before.key start old happened c.args.self.now.state out (standing before.client before.monitors.items said.text.items) stands.0) in
     let enough : c.look_around-prepared.result ≢ Err NoMemory → StateStands g.H.NodeHash.digest_of g.V.VufCheck.accepted g.S.Verifier.verified lines before.key start old happened c.look_around-prepared.new.self.state out (standing after.client after.monitors.items said'.text.items) = λ some.
     let (reached, prepares, told, client, monitors) = c.look_around-prepared.ensures.stands some in
     subst (λ (state : Option State). StateStands g.H.NodeHash.digest_of g.V.VufCheck.accepted g.S.Verifier.verified lines before.key start old happened state out (standing after.client after.monitors.items said'.text.items)) (sym still)
     (prepared-stands g.H.NodeHash.digest_of g.V.VufCheck.accepted g.S.Verifier.verified (ExchangesFrames g.T.Write.contents g.T.Read.remaining) lines start old happened before after said said' c.args.stream.now out reached told client monitors (c.args.self.now.state ≡ None) c.args.self.now.state prepares stands) in (
-      c.settle.ensures.kept lines before.key start old acts kept enough,
+      c.settle.ensures.kept lines before.key start old acts asked kept enough,
       settled-run g.H.NodeHash.digest_of g.V.VufCheck.accepted g.S.Verifier.verified lines start old happened' before.key after (ap (λ (b : Background). b.key) c.look_around-prepared.ensures.stays) c.settle.new.self.said said'.status c.settle.result c.look_around-prepared.result
           c.settle.new.self.state (g.W.Write.contents c.settle.new.writer) c.settle.ensures.asked (told-so c.settle.result out (g.W.Write.contents c.settle.new.writer) said'.text.items c.settle.new.self.said said'.status c.settle.ensures.writes) (stands.1 ∙ sym (ap (λ (b : Background). b.marks) c.look_around-prepared.ensures.stays))
           (λ some. let (reached, prepares, told, client, monitors) = c.look_around-prepared.ensures.stands some in
           prepared-ready g.H.NodeHash.digest_of g.V.VufCheck.accepted g.S.Verifier.verified (ExchangesFrames g.T.Write.contents g.T.Read.remaining) lines start old happened before after said said' c.args.stream.now out reached told client monitors (c.args.self.now.state ≡ None) prepares c.look_around-prepared.ensures.stays c.look_around-prepared.ensures.changes stands.2)
-          (ok_then c.settle.result c.settle.ensures.stands (λ goes some. goes lines before.key start old acts (enough some))),
+          (ok_then c.settle.result c.settle.ensures.stands (λ goes some. goes lines before.key start old acts asked (enough some))),
     )

@@ -60,7 +60,7 @@ returns-clause-keeps g c = λ settled.
     told c.in_ok-add.ensures.adds (c.write.ensures.still ∙ c.explain_stop.ensures.still) saves
 
 pub returns-in_err-write-clause-kept : goal.returns-in_err-write-clause-kept
-returns-in_err-write-clause-kept g c = λ lines key start old acts kept enough.
+returns-in_err-write-clause-kept g c = λ lines key start old acts changes kept enough.
     let client = c.args.asker.now.client in
     let monitors = c.args.asker.now.monitors.items in
     let out = g.W.Write.contents c.args.writer.now in
@@ -70,11 +70,11 @@ returns-in_err-write-clause-kept g c = λ lines key start old acts kept enough.
     let still : c.write.new.self.state ≡ c.add.new.self.state = c.write.ensures.still ∙ c.explain_stop.ensures.still in
     let same : c.explain_stop.new.self.said.text.items ≡ said = ap (λ (r : Report). r.lines) (c.explain_stop.ensures.said ∙ ap report_of c.add.ensures.said) in
     let written = subst (λ (state : Option State). StateIsKept g.H.NodeHash.digest_of g.V.VufCheck.accepted g.S.Verifier.verified lines key start old after state out') (sym still)
-    (state-written g.H.NodeHash.digest_of g.V.VufCheck.accepted g.S.Verifier.verified lines key start old after c.add.new.self.state out out' c.explain_stop.new.self.said.text.items c.write.ensures.some (c.add.ensures.kept lines key start old acts kept)) in
+    (state-written g.H.NodeHash.digest_of g.V.VufCheck.accepted g.S.Verifier.verified lines key start old after c.add.new.self.state out out' c.explain_stop.new.self.said.text.items c.write.ensures.some (c.add.ensures.kept lines key start old acts changes kept)) in
     written
 
 pub returns-in_err-save-clause-kept : goal.returns-in_err-save-clause-kept
-returns-in_err-save-clause-kept g c = λ lines key start old acts kept enough.
+returns-in_err-save-clause-kept g c = λ lines key start old acts changes kept enough.
     let client = c.args.asker.now.client in
     let monitors = c.args.asker.now.monitors.items in
     let out = g.W.Write.contents c.args.writer.now in
@@ -84,19 +84,19 @@ returns-in_err-save-clause-kept g c = λ lines key start old acts kept enough.
     let still : c.write.new.self.state ≡ c.add.new.self.state = c.write.ensures.still ∙ c.explain_stop.ensures.still in
     let same : c.explain_stop.new.self.said.text.items ≡ said = ap (λ (r : Report). r.lines) (c.explain_stop.ensures.said ∙ ap report_of c.add.ensures.said) in
     let written = subst (λ (state : Option State). StateIsKept g.H.NodeHash.digest_of g.V.VufCheck.accepted g.S.Verifier.verified lines key start old after state out') (sym still)
-    (state-written g.H.NodeHash.digest_of g.V.VufCheck.accepted g.S.Verifier.verified lines key start old after c.add.new.self.state out out' c.explain_stop.new.self.said.text.items c.write.ensures.some (c.add.ensures.kept lines key start old acts kept)) in
+    (state-written g.H.NodeHash.digest_of g.V.VufCheck.accepted g.S.Verifier.verified lines key start old after c.add.new.self.state out out' c.explain_stop.new.self.said.text.items c.write.ensures.some (c.add.ensures.kept lines key start old acts changes kept)) in
     elim (memory-cases c.args.asked) [
       | inl none ↦ let (state, keeper) = c.save.ensures.none none in rw (state, keeper) written
       | inr some ↦
           let stood = subst (λ (state : Option State). StateStands g.H.NodeHash.digest_of g.V.VufCheck.accepted g.S.Verifier.verified lines key start old after state out' (standing client monitors [])) (sym still)
-          (state-stands-written g.H.NodeHash.digest_of g.V.VufCheck.accepted g.S.Verifier.verified lines key start old after c.add.new.self.state out out' client monitors said (subst (λ (t : List ℕ). Appends out out' t) same (c.in_ok-write.ensures.writes.0)) (c.in_ok-add.ensures.stands lines key start old acts said (enough some))) in
+          (state-stands-written g.H.NodeHash.digest_of g.V.VufCheck.accepted g.S.Verifier.verified lines key start old after c.add.new.self.state out out' client monitors said (subst (λ (t : List ℕ). Appends out out' t) same (c.in_ok-write.ensures.writes.0)) (c.in_ok-add.ensures.stands lines key start old acts said changes (enough some))) in
           let up-to = subst (λ (state : Option State). IfSome state (λ s. IsUpTo client s.epoch)) (sym still) c.in_ok-add.ensures.up_to in
           let saved = c.save.ensures.kept lines key start old acts up-to stood in
           state-kept g.H.NodeHash.digest_of g.V.VufCheck.accepted g.S.Verifier.verified lines key start old (λ (done : List Act). g.K.Keeper.has c.save.new.keeper (done ++ acts)) c.save.new.self.state out' (standing client monitors []) saved
     ]
 
 pub returns-in_err-asked-clause-kept : goal.returns-in_err-asked-clause-kept
-returns-in_err-asked-clause-kept g c = λ lines key start old acts kept enough.
+returns-in_err-asked-clause-kept g c = λ lines key start old acts changes kept enough.
     let client = c.args.asker.now.client in
     let monitors = c.args.asker.now.monitors.items in
     let out = g.W.Write.contents c.args.writer.now in
@@ -106,19 +106,19 @@ returns-in_err-asked-clause-kept g c = λ lines key start old acts kept enough.
     let still : c.write.new.self.state ≡ c.add.new.self.state = c.write.ensures.still ∙ c.explain_stop.ensures.still in
     let same : c.explain_stop.new.self.said.text.items ≡ said = ap (λ (r : Report). r.lines) (c.explain_stop.ensures.said ∙ ap report_of c.add.ensures.said) in
     let written = subst (λ (state : Option State). StateIsKept g.H.NodeHash.digest_of g.V.VufCheck.accepted g.S.Verifier.verified lines key start old after state out') (sym still)
-    (state-written g.H.NodeHash.digest_of g.V.VufCheck.accepted g.S.Verifier.verified lines key start old after c.add.new.self.state out out' c.explain_stop.new.self.said.text.items c.write.ensures.some (c.add.ensures.kept lines key start old acts kept)) in
+    (state-written g.H.NodeHash.digest_of g.V.VufCheck.accepted g.S.Verifier.verified lines key start old after c.add.new.self.state out out' c.explain_stop.new.self.said.text.items c.write.ensures.some (c.add.ensures.kept lines key start old acts changes kept)) in
     elim (memory-cases c.args.asked) [
       | inl none ↦ let (state, keeper) = c.save.ensures.none none in rw (state, keeper) written
       | inr some ↦
           let stood = subst (λ (state : Option State). StateStands g.H.NodeHash.digest_of g.V.VufCheck.accepted g.S.Verifier.verified lines key start old after state out' (standing client monitors [])) (sym still)
-          (state-stands-written g.H.NodeHash.digest_of g.V.VufCheck.accepted g.S.Verifier.verified lines key start old after c.add.new.self.state out out' client monitors said (subst (λ (t : List ℕ). Appends out out' t) same (c.in_ok-write.ensures.writes.0)) (c.in_ok-add.ensures.stands lines key start old acts said (enough some))) in
+          (state-stands-written g.H.NodeHash.digest_of g.V.VufCheck.accepted g.S.Verifier.verified lines key start old after c.add.new.self.state out out' client monitors said (subst (λ (t : List ℕ). Appends out out' t) same (c.in_ok-write.ensures.writes.0)) (c.in_ok-add.ensures.stands lines key start old acts said changes (enough some))) in
           let up-to = subst (λ (state : Option State). IfSome state (λ s. IsUpTo client s.epoch)) (sym still) c.in_ok-add.ensures.up_to in
           let saved = c.save.ensures.kept lines key start old acts up-to stood in
           state-kept g.H.NodeHash.digest_of g.V.VufCheck.accepted g.S.Verifier.verified lines key start old (λ (done : List Act). g.K.Keeper.has c.save.new.keeper (done ++ acts)) c.save.new.self.state out' (standing client monitors []) saved
     ]
 
 pub returns-clause-kept : goal.returns-clause-kept
-returns-clause-kept g c = λ lines key start old acts kept enough.
+returns-clause-kept g c = λ lines key start old acts changes kept enough.
     let client = c.args.asker.now.client in
     let monitors = c.args.asker.now.monitors.items in
     let out = g.W.Write.contents c.args.writer.now in
@@ -128,19 +128,19 @@ returns-clause-kept g c = λ lines key start old acts kept enough.
     let still : c.write.new.self.state ≡ c.add.new.self.state = c.write.ensures.still ∙ c.explain_stop.ensures.still in
     let same : c.explain_stop.new.self.said.text.items ≡ said = ap (λ (r : Report). r.lines) (c.explain_stop.ensures.said ∙ ap report_of c.add.ensures.said) in
     let written = subst (λ (state : Option State). StateIsKept g.H.NodeHash.digest_of g.V.VufCheck.accepted g.S.Verifier.verified lines key start old after state out') (sym still)
-    (state-written g.H.NodeHash.digest_of g.V.VufCheck.accepted g.S.Verifier.verified lines key start old after c.add.new.self.state out out' c.explain_stop.new.self.said.text.items c.write.ensures.some (c.add.ensures.kept lines key start old acts kept)) in
+    (state-written g.H.NodeHash.digest_of g.V.VufCheck.accepted g.S.Verifier.verified lines key start old after c.add.new.self.state out out' c.explain_stop.new.self.said.text.items c.write.ensures.some (c.add.ensures.kept lines key start old acts changes kept)) in
     elim (memory-cases c.args.asked) [
       | inl none ↦ let (state, keeper) = c.save.ensures.none none in rw (state, keeper) written
       | inr some ↦
           let stood = subst (λ (state : Option State). StateStands g.H.NodeHash.digest_of g.V.VufCheck.accepted g.S.Verifier.verified lines key start old after state out' (standing client monitors [])) (sym still)
-          (state-stands-written g.H.NodeHash.digest_of g.V.VufCheck.accepted g.S.Verifier.verified lines key start old after c.add.new.self.state out out' client monitors said (subst (λ (t : List ℕ). Appends out out' t) same (c.in_ok-write.ensures.writes.0)) (c.in_ok-add.ensures.stands lines key start old acts said (enough some))) in
+          (state-stands-written g.H.NodeHash.digest_of g.V.VufCheck.accepted g.S.Verifier.verified lines key start old after c.add.new.self.state out out' client monitors said (subst (λ (t : List ℕ). Appends out out' t) same (c.in_ok-write.ensures.writes.0)) (c.in_ok-add.ensures.stands lines key start old acts said changes (enough some))) in
           let up-to = subst (λ (state : Option State). IfSome state (λ s. IsUpTo client s.epoch)) (sym still) c.in_ok-add.ensures.up_to in
           let saved = c.save.ensures.kept lines key start old acts up-to stood in
           state-kept g.H.NodeHash.digest_of g.V.VufCheck.accepted g.S.Verifier.verified lines key start old (λ (done : List Act). g.K.Keeper.has c.save.new.keeper (done ++ acts)) c.save.new.self.state out' (standing client monitors []) saved
     ]
 
 pub returns-clause-stands : goal.returns-clause-stands
-returns-clause-stands g c = λ lines key start old acts stands.
+returns-clause-stands g c = λ lines key start old acts changes stands.
     let kept = state-kept g.H.NodeHash.digest_of g.V.VufCheck.accepted g.S.Verifier.verified lines key start old (λ (done : List Act). g.K.Keeper.has c.args.keeper.now (done ++ acts)) c.args.self.now.state (g.W.Write.contents c.args.writer.now) (standing c.args.asker.now.client c.args.asker.now.monitors.items c.args.self.now.said.text.items) stands in
     let client = c.args.asker.now.client in
     let monitors = c.args.asker.now.monitors.items in
@@ -151,9 +151,9 @@ returns-clause-stands g c = λ lines key start old acts stands.
     let still : c.write.new.self.state ≡ c.add.new.self.state = c.write.ensures.still ∙ c.explain_stop.ensures.still in
     let same : c.explain_stop.new.self.said.text.items ≡ said = ap (λ (r : Report). r.lines) (c.explain_stop.ensures.said ∙ ap report_of c.add.ensures.said) in
     let written = subst (λ (state : Option State). StateIsKept g.H.NodeHash.digest_of g.V.VufCheck.accepted g.S.Verifier.verified lines key start old after state out') (sym still)
-    (state-written g.H.NodeHash.digest_of g.V.VufCheck.accepted g.S.Verifier.verified lines key start old after c.add.new.self.state out out' c.explain_stop.new.self.said.text.items c.write.ensures.some (c.add.ensures.kept lines key start old acts kept)) in
+    (state-written g.H.NodeHash.digest_of g.V.VufCheck.accepted g.S.Verifier.verified lines key start old after c.add.new.self.state out out' c.explain_stop.new.self.said.text.items c.write.ensures.some (c.add.ensures.kept lines key start old acts changes kept)) in
     let stood = subst (λ (state : Option State). StateStands g.H.NodeHash.digest_of g.V.VufCheck.accepted g.S.Verifier.verified lines key start old after state out' (standing client monitors [])) (sym still)
-    (state-stands-written g.H.NodeHash.digest_of g.V.VufCheck.accepted g.S.Verifier.verified lines key start old after c.add.new.self.state out out' client monitors said (subst (λ (t : List ℕ). Appends out out' t) same (c.in_ok-write.ensures.writes.0)) (c.in_ok-add.ensures.stands lines key start old acts said stands)) in
+    (state-stands-written g.H.NodeHash.digest_of g.V.VufCheck.accepted g.S.Verifier.verified lines key start old after c.add.new.self.state out out' client monitors said (subst (λ (t : List ℕ). Appends out out' t) same (c.in_ok-write.ensures.writes.0)) (c.in_ok-add.ensures.stands lines key start old acts said changes stands)) in
     let up-to = subst (λ (state : Option State). IfSome state (λ s. IsUpTo client s.epoch)) (sym still) c.in_ok-add.ensures.up_to in
     let saved = c.save.ensures.kept lines key start old acts up-to stood in
     saved

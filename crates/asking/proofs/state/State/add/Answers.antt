@@ -5,12 +5,12 @@ use Rattle.monitor.specs.Monitors.{Monitor}
 use Rattle.asking.specs.Saves.{Act}
 use Rattle.asking.specs.Standing.{standing}
 use Rattle.asking.proofs.Adding.{begun-among, learns-stay}
-use Rattle.asking.proofs.AskedOwn.{begun-promises, changes-asked, lines-promises, none-asked, some-begun-promises, some-lines-promises}
+use Rattle.asking.proofs.AskedOwn.{begun-promises, changes-asked, lines-promises, some-begun-promises, some-lines-promises}
 use Rattle.asking.proofs.Earlier.{ok_so}
 use Rattle.asking.proofs.Keeping.{learned_before}
 use Rattle.asking.proofs.PutMarks.{begun-marks, lines-marks, lines-stay, monitors-put, same-marks, some-lines-marks, some-monitors-marks}
 use Rattle.asking.proofs.Saving.{kept-on, kept-so, stands-on, stands-so}
-use Rattle.asking.proofs.Stood.{kept-known, kept-roots, stands-begun, stands-roots, stands-same}
+use Rattle.asking.proofs.Stood.{kept-known, kept-roots, stands-begun, stands-roots, stands-same, unchanged-own}
 use Rattle.asking.proofs.state.State.add.Goals as goal
 
 pub returns-clause-learns : goal.returns-clause-learns
@@ -42,7 +42,7 @@ returns-in_err-learn_told-clause-kept g c = λ lines key start old acts asked ke
     let before : List Act → Type 0 = λ done. g.K.Keeper.has c.args.keeper.now (done ++ acts) in
     let same = some-lines-marks EvidenceLines (lines_of c.args.told.now) known c.learn_told.new.self c.in_err-learn_told.ensures.err in
     kept-known g.H.NodeHash.digest_of g.V.VufCheck.accepted g.S.Verifier.verified lines key start old before c.args.self.now.epoch known out kept c.learn_told.new.self (same-marks known c.learn_told.new.self same)
-    (none-asked lines start.known known c.learn_told.new.self (some-lines-promises EvidenceLines (lines_of c.args.told.now) known c.learn_told.new.self c.in_err-learn_told.ensures.err))
+    (unchanged-own lines start.known known c.learn_told.new.self (some-lines-promises EvidenceLines (lines_of c.args.told.now) known c.learn_told.new.self c.in_err-learn_told.ensures.err))
 
 pub returns-in_err-hand_roots-clause-kept : goal.returns-in_err-hand_roots-clause-kept
 returns-in_err-hand_roots-clause-kept g c = λ lines key start old acts asked kept.
@@ -51,7 +51,7 @@ returns-in_err-hand_roots-clause-kept g c = λ lines key start old acts asked ke
     let before : List Act → Type 0 = λ done. g.K.Keeper.has c.args.keeper.now (done ++ acts) in
     let (shown, shows, grown) = c.in_ok-learn_told.ensures.ok in
     let first = kept-known g.H.NodeHash.digest_of g.V.VufCheck.accepted g.S.Verifier.verified lines key start old before c.args.self.now.epoch known out kept c.learn_told.new.self (lines-marks EvidenceLines (lines_of c.args.told.now) known c.learn_told.new.self shown shows)
-    (none-asked lines start.known known c.learn_told.new.self (lines-promises EvidenceLines (lines_of c.args.told.now) known c.learn_told.new.self shown shows)) in
+    (unchanged-own lines start.known known c.learn_told.new.self (lines-promises EvidenceLines (lines_of c.args.told.now) known c.learn_told.new.self shown shows)) in
     let after : List Act → Type 0 = λ done. g.K.Keeper.has c.hand_roots.new.keeper (done ++ acts) in
     let rooted = kept-so g.H.NodeHash.digest_of g.V.VufCheck.accepted g.S.Verifier.verified lines key start old after c.hand_roots.new.self.epoch c.hand_roots.new.self.epoch c.learn_told.new.self c.hand_roots.new.self.memory out refl c.hand_roots.ensures.same.0
     (kept-roots g.H.NodeHash.digest_of g.V.VufCheck.accepted g.S.Verifier.verified lines key start old before c.args.self.now.epoch c.learn_told.new.self out first after c.hand_roots.new.self.epoch c.args.asker.now.client.chain.roots c.hand_roots.ensures.rises (λ done has. c.hand_roots.ensures.hands (done ++ acts) has)) in
@@ -64,7 +64,7 @@ returns-in_err-learn_promises-clause-kept g c = λ lines key start old acts aske
     let before : List Act → Type 0 = λ done. g.K.Keeper.has c.args.keeper.now (done ++ acts) in
     let (shown, shows, grown) = c.in_ok-learn_told.ensures.ok in
     let first = kept-known g.H.NodeHash.digest_of g.V.VufCheck.accepted g.S.Verifier.verified lines key start old before c.args.self.now.epoch known out kept c.learn_told.new.self (lines-marks EvidenceLines (lines_of c.args.told.now) known c.learn_told.new.self shown shows)
-    (none-asked lines start.known known c.learn_told.new.self (lines-promises EvidenceLines (lines_of c.args.told.now) known c.learn_told.new.self shown shows)) in
+    (unchanged-own lines start.known known c.learn_told.new.self (lines-promises EvidenceLines (lines_of c.args.told.now) known c.learn_told.new.self shown shows)) in
     let after : List Act → Type 0 = λ done. g.K.Keeper.has c.hand_roots.new.keeper (done ++ acts) in
     let rooted = kept-so g.H.NodeHash.digest_of g.V.VufCheck.accepted g.S.Verifier.verified lines key start old after c.hand_roots.new.self.epoch c.hand_roots.new.self.epoch c.learn_told.new.self c.hand_roots.new.self.memory out refl c.hand_roots.ensures.same.0
     (kept-roots g.H.NodeHash.digest_of g.V.VufCheck.accepted g.S.Verifier.verified lines key start old before c.args.self.now.epoch c.learn_told.new.self out first after c.hand_roots.new.self.epoch c.args.asker.now.client.chain.roots c.hand_roots.ensures.rises (λ done has. c.hand_roots.ensures.hands (done ++ acts) has)) in
@@ -79,7 +79,7 @@ returns-in_err-mark_begun-clause-kept g c = λ lines key start old acts asked ke
     let before : List Act → Type 0 = λ done. g.K.Keeper.has c.args.keeper.now (done ++ acts) in
     let (shown, shows, grown) = c.in_ok-learn_told.ensures.ok in
     let first = kept-known g.H.NodeHash.digest_of g.V.VufCheck.accepted g.S.Verifier.verified lines key start old before c.args.self.now.epoch known out kept c.learn_told.new.self (lines-marks EvidenceLines (lines_of c.args.told.now) known c.learn_told.new.self shown shows)
-    (none-asked lines start.known known c.learn_told.new.self (lines-promises EvidenceLines (lines_of c.args.told.now) known c.learn_told.new.self shown shows)) in
+    (unchanged-own lines start.known known c.learn_told.new.self (lines-promises EvidenceLines (lines_of c.args.told.now) known c.learn_told.new.self shown shows)) in
     let after : List Act → Type 0 = λ done. g.K.Keeper.has c.hand_roots.new.keeper (done ++ acts) in
     let rooted = kept-so g.H.NodeHash.digest_of g.V.VufCheck.accepted g.S.Verifier.verified lines key start old after c.hand_roots.new.self.epoch c.hand_roots.new.self.epoch c.learn_told.new.self c.hand_roots.new.self.memory out refl c.hand_roots.ensures.same.0
     (kept-roots g.H.NodeHash.digest_of g.V.VufCheck.accepted g.S.Verifier.verified lines key start old before c.args.self.now.epoch c.learn_told.new.self out first after c.hand_roots.new.self.epoch c.args.asker.now.client.chain.roots c.hand_roots.ensures.rises (λ done has. c.hand_roots.ensures.hands (done ++ acts) has)) in
@@ -89,7 +89,7 @@ returns-in_err-mark_begun-clause-kept g c = λ lines key start old acts asked ke
     (kept-known g.H.NodeHash.digest_of g.V.VufCheck.accepted g.S.Verifier.verified lines key start old after c.hand_roots.new.self.epoch c.hand_roots.new.self.memory out rooted c.learn_promises.new.self.memory (same-marks c.hand_roots.new.self.memory c.learn_promises.new.self.memory stays)
     (changes-asked lines start.known c.args.asker.now.changes.items c.hand_roots.new.self.memory c.learn_promises.new.self.memory asked c.learn_promises.ensures.own)) in
     kept-known g.H.NodeHash.digest_of g.V.VufCheck.accepted g.S.Verifier.verified lines key start old after c.learn_promises.new.self.epoch c.learn_promises.new.self.memory out told c.mark_begun.new.self (some-monitors-marks c.behind-begun.result.now c.learn_promises.new.self.memory c.mark_begun.new.self c.in_err-mark_begun.ensures.err)
-    (none-asked lines start.known c.learn_promises.new.self.memory c.mark_begun.new.self (some-begun-promises c.behind-begun.result.now c.learn_promises.new.self.memory c.mark_begun.new.self c.in_err-mark_begun.ensures.err))
+    (unchanged-own lines start.known c.learn_promises.new.self.memory c.mark_begun.new.self (some-begun-promises c.behind-begun.result.now c.learn_promises.new.self.memory c.mark_begun.new.self c.in_err-mark_begun.ensures.err))
 
 pub returns-clause-kept : goal.returns-clause-kept
 returns-clause-kept g c = λ lines key start old acts asked kept.
@@ -98,7 +98,7 @@ returns-clause-kept g c = λ lines key start old acts asked kept.
     let before : List Act → Type 0 = λ done. g.K.Keeper.has c.args.keeper.now (done ++ acts) in
     let (shown, shows, grown) = c.in_ok-learn_told.ensures.ok in
     let first = kept-known g.H.NodeHash.digest_of g.V.VufCheck.accepted g.S.Verifier.verified lines key start old before c.args.self.now.epoch known out kept c.learn_told.new.self (lines-marks EvidenceLines (lines_of c.args.told.now) known c.learn_told.new.self shown shows)
-    (none-asked lines start.known known c.learn_told.new.self (lines-promises EvidenceLines (lines_of c.args.told.now) known c.learn_told.new.self shown shows)) in
+    (unchanged-own lines start.known known c.learn_told.new.self (lines-promises EvidenceLines (lines_of c.args.told.now) known c.learn_told.new.self shown shows)) in
     let after : List Act → Type 0 = λ done. g.K.Keeper.has c.hand_roots.new.keeper (done ++ acts) in
     let rooted = kept-so g.H.NodeHash.digest_of g.V.VufCheck.accepted g.S.Verifier.verified lines key start old after c.hand_roots.new.self.epoch c.hand_roots.new.self.epoch c.learn_told.new.self c.hand_roots.new.self.memory out refl c.hand_roots.ensures.same.0
     (kept-roots g.H.NodeHash.digest_of g.V.VufCheck.accepted g.S.Verifier.verified lines key start old before c.args.self.now.epoch c.learn_told.new.self out first after c.hand_roots.new.self.epoch c.args.asker.now.client.chain.roots c.hand_roots.ensures.rises (λ done has. c.hand_roots.ensures.hands (done ++ acts) has)) in
@@ -110,7 +110,7 @@ returns-clause-kept g c = λ lines key start old acts asked kept.
     let (marked, marks, longest) = c.in_ok-mark_begun.ensures.ok in
     let begun = kept-known g.H.NodeHash.digest_of g.V.VufCheck.accepted g.S.Verifier.verified lines key start old after c.learn_promises.new.self.epoch c.learn_promises.new.self.memory out told c.mark_begun.new.self
     (begun-marks c.behind-begun.result.now c.learn_promises.new.self.memory c.mark_begun.new.self (monitors-put c.behind-begun.result.now c.learn_promises.new.self.memory c.mark_begun.new.self marked marks))
-    (none-asked lines start.known c.learn_promises.new.self.memory c.mark_begun.new.self (begun-promises c.behind-begun.result.now c.learn_promises.new.self.memory c.mark_begun.new.self marked marks)) in
+    (unchanged-own lines start.known c.learn_promises.new.self.memory c.mark_begun.new.self (begun-promises c.behind-begun.result.now c.learn_promises.new.self.memory c.mark_begun.new.self marked marks)) in
     kept-on g.H.NodeHash.digest_of g.V.VufCheck.accepted g.S.Verifier.verified lines key start old after (λ (done : List Act). g.K.Keeper.has c.hand_on.new.keeper (done ++ acts)) c.learn_promises.new.self.epoch c.hand_on.new.self.epoch c.mark_begun.new.self c.hand_on.new.self.memory out
     c.hand_on.ensures.same.1 c.hand_on.ensures.same.0 (λ done has. c.hand_on.ensures.hands (done ++ acts) has) begun
 
@@ -123,7 +123,7 @@ returns-clause-stands g c = ok_so c.hand_on.result (λ lines key start old acts 
     let (shown, shows, grown) = c.in_ok-learn_told.ensures.ok in
     let evident = lines-stay EvidenceLines (lines_of c.args.told.now) known c.learn_told.new.self shown shows in
     let first = stands-same g.H.NodeHash.digest_of g.V.VufCheck.accepted g.S.Verifier.verified lines key start old before c.args.self.now.epoch known out now stands c.learn_told.new.self evident (same-marks known c.learn_told.new.self evident)
-    (none-asked lines start.known known c.learn_told.new.self (lines-promises EvidenceLines (lines_of c.args.told.now) known c.learn_told.new.self shown shows)) in
+    (unchanged-own lines start.known known c.learn_told.new.self (lines-promises EvidenceLines (lines_of c.args.told.now) known c.learn_told.new.self shown shows)) in
     let after : List Act → Type 0 = λ done. g.K.Keeper.has c.hand_roots.new.keeper (done ++ acts) in
     let rooted = stands-so g.H.NodeHash.digest_of g.V.VufCheck.accepted g.S.Verifier.verified lines key start old after c.hand_roots.new.self.epoch c.hand_roots.new.self.epoch c.learn_told.new.self c.hand_roots.new.self.memory out now refl c.hand_roots.ensures.same.0
     (stands-roots g.H.NodeHash.digest_of g.V.VufCheck.accepted g.S.Verifier.verified lines key start old before c.args.self.now.epoch c.learn_told.new.self out now first after c.hand_roots.new.self.epoch c.hand_roots.ensures.rises (λ done has. c.hand_roots.ensures.hands (done ++ acts) has)) in

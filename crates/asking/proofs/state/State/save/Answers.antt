@@ -3,11 +3,11 @@ use Rattle.textio.specs.Lines.{lines_of}
 use Rattle.memory.specs.declared.kind.Kind.TheVariants.{Alarms}
 use Rattle.asking.specs.Saves.{Act}
 use Rattle.asking.specs.Standing.{standing}
-use Rattle.asking.proofs.AskedOwn.{lines-promises, none-asked, some-lines-promises}
+use Rattle.asking.proofs.AskedOwn.{lines-promises, some-lines-promises}
 use Rattle.asking.proofs.Keeping.{learned_after}
 use Rattle.asking.proofs.PutMarks.{lines-stay, same-marks, some-lines-marks}
 use Rattle.asking.proofs.Saving.{may-among, stands-on, stands-saved, stands-so}
-use Rattle.asking.proofs.Stood.{stands-same}
+use Rattle.asking.proofs.Stood.{stands-same, unchanged-own}
 use Rattle.asking.proofs.state.State.save.Goals as goal
 
 pub returns-clause-learns : goal.returns-clause-learns
@@ -27,7 +27,7 @@ returns-in_err-learn_told-clause-kept g c = λ lines key start old acts up-to st
     let same = some-lines-marks Alarms (lines_of c.args.told.now) known c.learn_told.new.self c.in_err-learn_told.ensures.err in
     stands-same g.H.NodeHash.digest_of g.V.VufCheck.accepted g.S.Verifier.verified lines key start old (λ (done : List Act). g.K.Keeper.has c.args.keeper.now (done ++ acts)) c.args.self.now.epoch known
     (g.W.Write.contents c.args.writer.now) (standing c.args.asker.now.client c.args.asker.now.monitors.items []) stands c.learn_told.new.self same (same-marks known c.learn_told.new.self same)
-    (none-asked lines start.known known c.learn_told.new.self (some-lines-promises Alarms (lines_of c.args.told.now) known c.learn_told.new.self c.in_err-learn_told.ensures.err))
+    (unchanged-own lines start.known known c.learn_told.new.self (some-lines-promises Alarms (lines_of c.args.told.now) known c.learn_told.new.self c.in_err-learn_told.ensures.err))
 
 pub returns-in_err-learn_marks-clause-kept : goal.returns-in_err-learn_marks-clause-kept
 returns-in_err-learn_marks-clause-kept g c = λ lines key start old acts up-to stands.
