@@ -20,9 +20,6 @@ use Rattle.asking.proofs.Adding.{all-self, drop-among}
 use Rattle.asking.proofs.PutMarks.{cons-cases, cons-front}
 use Rattle.asking.proofs.Stood.{all-in, OwnAsked}
 
-pub same-own : (before after : Memory) → after.promises ≡ before.promises → AddsNoOwn before after
-same-own before after same signed (promised, has, this, own) = (promised, subst (λ (all : List PromisedMade). Contains all promised) same has, this, own)
-
 -- ---- what learns no promise
 
 each-promises : {X : Type 0} (Does : X → Memory → List Item → Memory → Type 0) → ((x : X) (before after : Memory) (news : List Item) → Does x before news after → after.promises ≡ before.promises)
