@@ -156,7 +156,8 @@ where
 }
 
 /// Asks what the words of an order ask, or the lines of the input, over a stream to a directory, and writes the
-/// line of each answer. The words of refusals go to the errors. Returns how the run ended, with the status of `ask`.
+/// line of each answer. The words of refusals go to the errors. Where the order has a state, the keeper keeps it. Returns
+/// how the run ended, with the status of `ask`.
 ///
 /// # Errors
 ///
