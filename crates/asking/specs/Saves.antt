@@ -87,9 +87,9 @@ WasStored before name root = Contains before.roots root
     × ((mark : Mark) × Contains before.known.marks mark × (mark.name ≡ name) × (mark.since < root.body.epoch) × (root.body.epoch ≤ mark.epoch))
 
 module _ (hash : List ℕ → List ℕ) (accepted : List ℕ → List ℕ → List ℕ → Type 0) (Given : List ℕ → Option (List ℕ) → Type 0) (Own Asked : SignedPromise → Type 0) where
-  -- What files have that had something else before a run, where this text was written in it: roots are added alone, and no
-  -- mark is lost; of each root up to a mark it was told, or the root's epoch had been watched before. A promise for a change
-  -- of the owner's own is an old one, or was asked for.
+  -- What is stored where something else was before a run, and this text was written in it: roots are only added, and no mark
+  -- that was there is lost; of each root above the begin of a mark, up to the mark, it was told, or the root's epoch had been
+  -- watched before. A promise for a change of the owner's own is an old one, or was asked for.
   pub record KeepsTold (before : Stored) (text : List ℕ) (after : Stored) : Type 0 where
     pub grows : (more : List SignedRoot) × (after.roots ≡ before.roots ++ more)
     pub stays : (old : Mark) → Contains before.known.marks old → HasMark after.known.marks old

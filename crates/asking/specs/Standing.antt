@@ -16,7 +16,7 @@ use Rattle.asking.specs.Scenes.{Scene}
 use Rattle.asking.specs.declared.asker.Asker.{Asker}
 use Rattle.asking.specs.declared.state.State.{State}
 
--- each mark has nothing above this epoch, or nothing at all
+-- no mark is above this epoch, unless nothing was watched of it
 abbrev pub Fits : ℕ → Memory → Type 0
 Fits epoch known = (mark : Mark) → Contains known.marks mark → (mark.epoch ≤ mark.since) ⊎ (mark.epoch ≤ epoch)
 
@@ -44,7 +44,7 @@ standing client monitors lines = record { client = client; monitors = monitors; 
 
 module _ (hash : List ℕ → List ℕ) (accepted verified : List ℕ → List ℕ → List ℕ → Type 0) (lines : Option (List (List ℕ))) (key : List ℕ) (start : Stored) (old : List ℕ) where
   -- What was kept in a run, and what is to be kept next, was told before. The output had one text before the run, which began
-  -- with what was stored. No root of an epoch up to this one is still to be kept.
+  -- with what was stored. Roots that are added next are above this epoch.
   pub record IsKept (Happened : List Act → Type 0) (epoch : ℕ) (known : Memory) (out : Option (List ℕ)) : Type 0 where
     pub acts : List Act
     pub happened : Happened acts

@@ -30,7 +30,7 @@ where
     pub asker: Asker<H, V, S>,
     /// The same memory once more. It grows while the run goes on.
     pub memory: Memory,
-    /// How many bytes its text has.
+    /// How many bytes are kept of it.
     pub size: usize,
 }
 

@@ -34,9 +34,9 @@ pub fn watched_epochs_are_told<T: Read + Write, H: NodeHash, V: VufCheck, S: Ver
 {}
 
 /// Whatever runs there were over one state, and wherever each was stopped: each root of the state that a mark says was
-/// watched is told in the output of one of the runs, before the mark was stored. And no mark of an earlier run is lost:
-/// the state has one of its name that begins no later. And each promise that the state has for a change of the owner's own
-/// is for one that a line of some run asks for.
+/// watched is told in the output of one of the runs, before the last of what that run did to the state. No mark of an
+/// earlier run is lost: the state has one of its name that begins no later. Each promise that the state has for a change of
+/// the owner's own is for one that a line of some run asks for.
 pub fn stored_marks_are_told<H: NodeHash, V: VufCheck, S: Verifier>()
     ensures told { (key : List ℕ) (runs : List (StateRun (Option (List (List ℕ))))) → AllRun H.digest_of V.accepted IsAsked (λ asked found. IsOwnPromise S.verified key asked found.known) IsAskedChange runs
         → (mark : Mark) → Contains (left_by runs).known.marks mark

@@ -60,7 +60,8 @@ fn behind<A>(elements: &[A], count: usize) -> &[A]
 impl State {
     /// A state that is not loaded.
     pub(crate) fn new(alloc: Global) -> Self
-        ensures { (result.memory ≡ nothing) × (result.epoch ≡ 0) × (result.is_loaded ≡ false) }
+        ensures fresh { (result.memory ≡ nothing) × (result.epoch ≡ 0) × (result.is_loaded ≡ false) }
+        ensures looked { (result.changes ≡ 0) × (result.monitors ≡ 0) × (result.tested.items ≡ []) }
     {
         State {
             alloc,
@@ -100,6 +101,7 @@ impl State {
         ensures knows { IfOk result (λ loaded. IfOk loaded (λ asker. (asker.key ≡ key) × (asker.token ≡ token) × (asker.monitors.items ≡ []) × (asker.changes.items ≡ []))) }
         ensures memory { IfOk result (λ loaded. IfOk loaded (λ asker. ((self.new).memory ≡ asker.known) × (asker.marks.items ≡ asker.known.marks))) }
         ensures marks { IfOk result (λ loaded. IfOk loaded (λ asker. AreWithin asker.client.chain asker.known × HasOneOfEachName asker.known × IsHeadEpoch asker.client.chain (self.new).epoch)) }
+        ensures looked { ((self.new).changes ≡ (self.old).changes) × ((self.new).monitors ≡ (self.old).monitors) × ((self.new).tested ≡ (self.old).tested) }
         ensures none { IfOk result (λ loaded. IfErr loaded (λ unused. ((self.new).memory ≡ (self.old).memory) × ((self.new).epoch ≡ (self.old).epoch))) }
         ensures sound { IfOk result (λ loaded. IfOk loaded (λ asker. IsSoundFor H.digest_of V.accepted S.verified key asker.client)) }
         ensures kept { IfOk result (λ loaded. IfOk loaded (λ asker. KeepsAll asker.client asker.earlier.items)) }
@@ -165,7 +167,9 @@ impl State {
         // Evidence is remembered even if no root can be added.
         self.memory
             .learn_told(self.alloc, told, Kind::EvidenceLines, &mut lines)?;
+        self.size = if lines.is_empty() { size } else { None };
         self.hand_roots(keeper, writer, asker)?;
+        self.size = None;
         self.learn_promises(asker, &mut lines)?;
         let begun = behind(&asker.monitors, self.monitors);
         self.memory.mark_begun(begun, &mut lines)?;
@@ -226,6 +230,7 @@ impl State {
         ensures same { ((self.new).memory ≡ (self.old).memory) × ((self.new).changes ≡ (self.old).changes) × ((self.new).head ≡ (self.old).head) × ((self.new).monitors ≡ (self.old).monitors) }
         ensures hands { (acts : List Act) → K.has keeper.old acts → K.has keeper.new (AddsRoots (roots_above (self.old).epoch asker.now.client.chain.roots) (W.contents writer.now) ∷ acts) }
         ensures rises { (self.old).epoch ≤ (self.new).epoch }
+        ensures exact { ((self.new).epoch ≡ (self.old).epoch) ⊎ IsHeadEpoch asker.now.client.chain (self.new).epoch }
         ensures up_to { OnOk result (IsUpTo asker.now.client (self.new).epoch) }
     {
         keeper.add_roots(&asker.client, self.epoch, writer)?;
@@ -329,6 +334,7 @@ impl State {
         ensures marks { (self.new).memory.marks ≡ (self.old).memory.marks }
         ensures own { AddsNoOwn (self.old).memory (self.new).memory }
         ensures hands { (acts : List Act) → K.has keeper.old acts → K.has keeper.new acts ⊎ (((self.old).is_loaded ≡ true) × K.has keeper.new (Remembers (self.new).memory (W.contents writer.now) ∷ acts)) }
+        ensures beside { (self.old).epoch ≡ 0 → (acts : List Act) → K.has keeper.old acts → K.has keeper.new acts }
         ensures same { ((self.new).is_loaded ≡ (self.old).is_loaded) × ((self.new).epoch ≡ (self.old).epoch) }
     {
         // A memory is kept beside a chain alone.

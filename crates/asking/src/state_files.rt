@@ -366,6 +366,7 @@ impl<F: Files<File = File>> Keeper for StateFiles<'_, F> {
         text: &[u8],
         _writer: &W,
     ) -> Result<(), ProgramFault> {
+        self.kept = None;
         replace(self.alloc, self.files, self.beside.as_str(), text)
     }
 }
