@@ -2,6 +2,7 @@
 use Rattle.std.proofs.Common.{◌≡◌, ◌∙◌, ◌⊎◌, ℕ, ◌||◌, Bool, true, false, List, [], ◌∷◌, ◌++◌, drop, map, Contains, Option, ap, append-nil, arith, inl, inr, refl, subst, sym}
 use Rattle.std.specs.List.{AllByRecursion}
 use Rattle.std.proofs.lemmas.List.Elements.{Contains-append_cases, Contains-append_left, Contains-append_right}
+use Rattle.rootchain.specs.Promises.{IsSignedPromise}
 use Rattle.rootchain.specs.declared.signed_promise.SignedPromise.{SignedPromise}
 use Rattle.monitor.specs.Monitors.{Monitor}
 use Rattle.memory.specs.Learning.{promised_item, BeginsOne, Each, EachOfSome, IsOfKind, LearnsLine, LearnsOne, MarksOne}
@@ -71,7 +72,7 @@ either-own true own is = inl refl
 either-own false own is = inr is
 
 -- one more is the owner's own, if it is one
-takes-one : (own : Bool) (one : SignedPromise) (before after : Memory) → Takes (promised_item own one) before after → (signed : SignedPromise) → WasOwn after signed → WasOwn before signed ⊎ ((own ≡ true) × (one ≡ signed))
+pub takes-one : (own : Bool) (one : SignedPromise) (before after : Memory) → Takes (promised_item own one) before after → (signed : SignedPromise) → WasOwn after signed → WasOwn before signed ⊎ ((own ≡ true) × (one ≡ signed))
 takes-one own one before after (inl (front, kept, behind, was, same, be), is) signed (promised, has, this, so) =
     elim (Contains-append_cases front (either kept (record { signed = one; is_own = own }) ∷ behind) promised (subst (λ (all : List PromisedMade). Contains all promised) be has)) [
       | inl early ↦ inl (promised, there (Contains-append_left front (kept ∷ behind) promised early), this, so)
@@ -157,12 +158,17 @@ whole-of Does xs before after news each = (xs, [], news, sym (append-nil xs), ea
 pub changes-asked : (lines : Option (List (List ℕ))) (start : Memory) (changes : List SignedPromise) (before after : Memory) → AreAsked lines start changes → AddsOwn changes before after → OwnAsked lines start before after
 changes-asked lines start changes before after asked adds signed own = elim (adds signed own) [
   | inl old ↦ inl old
-  | inr new ↦ inr (all-in (λ (s : SignedPromise). WasOwn start s ⊎ IsAskedChange lines s) changes signed asked new)
+  | inr new ↦ inr (all-in (λ (s : SignedPromise). IsSignedPromise s × (WasOwn start s ⊎ IsAskedChange lines s)) changes signed asked new).1
 ]
 
 pub asked-of : (verified : List ℕ → List ℕ → List ℕ → Type 0) (key : List ℕ) (lines : Option (List (List ℕ))) (known : Memory) (promises : List SignedPromise) → AllByRecursion (IsOwnPromise verified key lines known) promises → AreAsked lines known promises
 asked-of verified key lines known [] all = tt
-asked-of verified key lines known (signed ∷ promises) all = (all.0.1, asked-of verified key lines known promises all.1)
+asked-of verified key lines known (signed ∷ promises) all = ((all.0.0.0, all.0.1), asked-of verified key lines known promises all.1)
+
+-- and is well formed
+pub asked-formed : (lines : Option (List (List ℕ))) (known : Memory) (promises : List SignedPromise) → AreAsked lines known promises → AllByRecursion IsSignedPromise promises
+asked-formed lines known [] all = tt
+asked-formed lines known (signed ∷ promises) all = (all.0.0, asked-formed lines known promises all.1)
 
 -- ---- what is left
 

@@ -6,14 +6,15 @@ use Rattle.rootchain.specs.Chains.{IsChain, KeyedRoots}
 use Rattle.rootchain.specs.SignedRoots.{IsSignedRoot}
 use Rattle.rootchain.specs.declared.signed_promise.SignedPromise.{SignedPromise}
 use Rattle.rootchain.specs.declared.signed_root.SignedRoot.{SignedRoot}
-use Rattle.client.specs.Clients.{Client, IsPromised, IsSoundClient}
+use Rattle.client.specs.Clients.{Client, HasRootOf, IsPromised, IsSoundClient}
 use Rattle.client.specs.Starting.{Starts}
 use Rattle.memory.specs.Memories.{nothing, Memory}
+use Rattle.memory.specs.Texts.{HasWholeLines, Spells}
 use Rattle.monitor.specs.Monitors.{Monitor}
 use Rattle.asking.specs.Owning.{Owns}
 use Rattle.asking.specs.Remembering.{AreWithin}
 use Rattle.asking.specs.Runs.{background_of, new_background, Background, IsSoundFor, KeepsAll}
-use Rattle.asking.specs.Saves.{stored_by, stored_nothing, Act, HasOneOfEachName, IsAsked, IsAskedChange, IsHeadEpoch, IsOwnPromise, Loads, Stored, WasOwn}
+use Rattle.asking.specs.Saves.{stored_nothing, Act, AreEarlier, Found, HasOneOfEachName, IsAsked, IsAskedChange, IsHeadEpoch, IsOwnPromise, Loads, WasOwn}
 use Rattle.asking.specs.Standing.{standing, Fits, HasBegun, HasFailed, HasLoaded, IsFresh, IsKept, IsLeft, IsReady, RunStands, Stands}
 use Rattle.wire.specs.Frames.{Frame}
 use Rattle.wire.specs.Requests.{RequestContent}
@@ -57,17 +58,32 @@ kept-own hash accepted verified client sound lines known (signed ∷ promises) k
     let promised = all-in (IsPromised hash verified client.chain) client.promises signed sound.promises keeps.0 in
     (((promised.form, promised.verifies), inl own.0), kept-own hash accepted verified client sound lines known promises keeps.1 own.1)
 
+-- and the chain has its root
+kept-rooted : (hash : List ℕ → List ℕ) (accepted verified : List ℕ → List ℕ → List ℕ → Type 0) (client : Client) → IsSoundClient hash accepted verified client → (promises : List SignedPromise) → KeepsAll client promises
+    → (signed : SignedPromise) → Contains promises signed → HasRootOf hash client.chain signed.promise
+kept-rooted hash accepted verified client sound promises keeps signed has =
+    (all-in (IsPromised hash verified client.chain) client.promises signed sound.promises (all-in (Contains client.promises) promises signed keeps has)).rooted
+
+-- nothing has no promise
+none-own : (signed : SignedPromise) → WasOwn nothing signed → ⊥
+none-own signed (promised, has, this, own) = omega (arith, has.1)
+
 module _ (hash : List ℕ → List ℕ) (accepted verified : List ℕ → List ℕ → List ℕ → Type 0) (lines : Option (List (List ℕ))) (key : List ℕ) (old : List ℕ) where
   -- where this is loaded, all that it says was watched was watched before
-  loads-all : (start : Stored) (Happened : List Act → Type 0) (epoch : ℕ) → Happened (Loads start ∷ []) → Fits epoch start.known → HasOneOfEachName start.known → IsKept hash accepted verified lines key start old Happened epoch start.known (Some old)
-  loads-all start Happened epoch happened fits once = record {
-    acts = Loads start ∷ [];
+  loads-all : (start : Found) (said : List ℕ) (Happened : List Act → Type 0) (epoch : ℕ) → Happened (Loads (record { roots = start.roots; text = said }) ∷ []) → HasWholeLines said → Spells said (Ok start.known) → Fits epoch start.known → HasOneOfEachName start.known
+      → IsKept hash accepted verified lines key start old Happened epoch start.known [] (Some old)
+  loads-all start said Happened epoch happened whole spells fits once = record {
+    acts = Loads (record { roots = start.roots; text = said }) ∷ [];
     happened = happened;
     text = [];
     is-out = ap Some (sym (append-nil old));
-    all = (refl, refl);
-    now = loads-kept hash accepted (IsAsked lines) (IsOwnPromise verified key lines start.known) (IsAskedChange lines) start [];
-    next = loads-kept hash accepted (IsAsked lines) (IsOwnPromise verified key lines start.known) (IsAskedChange lines) start [];
+    all = ((refl, spells), refl);
+    saved = start.known;
+    whole = whole;
+    spells = spells;
+    ahead = refl;
+    now = loads-kept hash accepted (IsAsked lines) (IsOwnPromise verified key lines start.known) (IsAskedChange lines) start [] start.roots refl;
+    next = loads-kept hash accepted (IsAsked lines) (IsOwnPromise verified key lines start.known) (IsAskedChange lines) start [] start.roots refl;
     early = λ mark has root among above below. among;
     low-start = fits;
     low = fits;
@@ -77,12 +93,14 @@ module _ (hash : List ℕ → List ℕ) (accepted verified : List ℕ → List �
   }
 
   -- and a client without monitors stands so to it
-  owns-all : (start : Stored) (client : Client) (said : List ℕ) → IsChain hash verified client.chain → AllByRecursion IsSignedRoot client.chain.roots → AllByRecursion (Contains client.chain.roots) start.roots → AreWithin client.chain start.known
-      → Owns hash accepted verified (IsAsked lines) (IsOwnPromise verified key lines start.known) [] start.roots start.known.marks start.known.marks (standing client [] said)
-  owns-all start client said chain formed stores within = record {
+  owns-all : (start : Found) (client : Client) (said : List ℕ) → IsChain hash verified client.chain → AllByRecursion IsSignedRoot client.chain.roots → AllByRecursion (Contains client.chain.roots) start.roots → AreWithin client.chain start.known
+      → ((signed : SignedPromise) → WasOwn start.known signed → HasRootOf hash client.chain signed.promise)
+      → Owns hash accepted verified (IsAsked lines) (IsOwnPromise verified key lines start.known) start.known [] start.roots start.known.marks start.known.marks (standing client [] said)
+  owns-all start client said chain formed stores within rooted = record {
     chain = chain;
     formed = formed;
     stores = stores;
+    rooted = rooted;
     watched = tt;
     held = λ mark has. record {
       low = inr (within mark has);
@@ -93,27 +111,35 @@ module _ (hash : List ℕ → List ℕ) (accepted verified : List ℕ → List �
 
   -- ---- a state that is loaded
 
+  -- what is found where this asks with it
+  abbrev found_by : {H V S : Type 0} → Asker H V S → Found
+  found_by asker = record { roots = asker.client.chain.roots; known = asker.known }
+
+  abbrev found_nothing : Found
+  found_nothing = record { roots = []; known = nothing }
+
   module _ {H V S : Type 0} (asker : Asker H V S) (Before After : List Act → Type 0) (acts : List Act) (before : Before acts) where
     pub loaded-kept : (state : Option State) → HasLoaded Before After asker state → IsLeft hash accepted verified lines key old (λ done. After (done ++ acts)) state (Some old)
     loaded-kept None loaded = absurd loaded
-    loaded-kept (Some state) (goes, same, marks, none, within, once, at, own) = inr (
-      stored_by asker,
-      subst (λ (known : Memory). IsKept hash accepted verified lines key (stored_by asker) old (λ done. After (done ++ acts)) state.epoch known (Some old)) (sym same)
-          (loads-all (stored_by asker) (λ done. After (done ++ acts)) state.epoch (goes acts before) (within-fits asker.client.chain asker.known state.epoch within at) once),
+    loaded-kept (Some state) ((text, whole, spells, goes), same, marks, none, within, once, at, own) = inr (
+      found_by asker,
+      [],
+      subst (λ (known : Memory). IsKept hash accepted verified lines key (found_by asker) old (λ done. After (done ++ acts)) state.epoch known [] (Some old)) (sym same)
+          (loads-all (found_by asker) text (λ done. After (done ++ acts)) state.epoch (goes acts before) whole spells (within-fits asker.client.chain asker.known state.epoch within at) once),
     )
 
     pub loaded-stands : (state : Option State) (said : List ℕ) → HasLoaded Before After asker state → IsSoundFor hash accepted verified key asker.client → KeepsAll asker.client asker.earlier.items → asker.key ≡ key → asker.monitors.items ≡ []
-        → (start : Stored) × RunStands hash accepted verified lines start old (λ done. After (done ++ acts)) asker said state (Some old)
+        → (start : Found) × RunStands hash accepted verified lines start old (λ done. After (done ++ acts)) asker said state (Some old)
     unfolding loads-all
     loaded-stands None said loaded sound keeps same-key none = absurd loaded
-    loaded-stands (Some state) said (goes, same, marks, changes, within, once, at, own) (keyed, chain, is) keeps same-key none = (
-      stored_by asker,
+    loaded-stands (Some state) said ((text, whole, spells, goes), same, marks, changes, within, once, at, own) (keyed, chain, is) keeps same-key none = (
+      found_by asker,
       (
-        subst (λ (k : List ℕ). Stands hash accepted verified lines k (stored_by asker) old (λ done. After (done ++ acts)) state.epoch state.memory (Some old) (standing asker.client asker.monitors.items said)) (sym same-key)
-            (subst (λ (known : Memory). Stands hash accepted verified lines key (stored_by asker) old (λ done. After (done ++ acts)) state.epoch known (Some old) (standing asker.client asker.monitors.items said)) (sym same) (record {
-              kept = loads-all (stored_by asker) (λ done. After (done ++ acts)) state.epoch (goes acts before) (within-fits asker.client.chain asker.known state.epoch within at) once;
-              owns = subst (λ (ms : List Monitor). Owns hash accepted verified (IsAsked lines) (IsOwnPromise verified key lines asker.known) [] asker.client.chain.roots asker.known.marks asker.known.marks (standing asker.client ms said)) (sym none)
-                  (owns-all (stored_by asker) asker.client said chain is.roots (all-self asker.client.chain.roots) within);
+        subst (λ (k : List ℕ). Stands hash accepted verified lines k (found_by asker) old (λ done. After (done ++ acts)) state.epoch state.memory [] (Some old) (standing asker.client asker.monitors.items said)) (sym same-key)
+            (subst (λ (known : Memory). Stands hash accepted verified lines key (found_by asker) old (λ done. After (done ++ acts)) state.epoch known [] (Some old) (standing asker.client asker.monitors.items said)) (sym same) (record {
+              kept = loads-all (found_by asker) text (λ done. After (done ++ acts)) state.epoch (goes acts before) whole spells (within-fits asker.client.chain asker.known state.epoch within at) once;
+              owns = subst (λ (ms : List Monitor). Owns hash accepted verified (IsAsked lines) (IsOwnPromise verified key lines asker.known) asker.known [] asker.client.chain.roots asker.known.marks asker.known.marks (standing asker.client ms said)) (sym none)
+                  (owns-all (found_by asker) asker.client said chain is.roots (all-self asker.client.chain.roots) within (λ signed was. kept-rooted hash accepted verified asker.client is asker.earlier.items keeps signed (own.all signed was)));
             })),
         sym marks,
         (
@@ -121,23 +147,24 @@ module _ (hash : List ℕ → List ℕ) (accepted verified : List ℕ → List �
           subst (λ (new : List SignedPromise). AllByRecursion (IsOwnPromise verified asker.key lines asker.known) (asker.earlier.items ++ new)) (sym changes)
               (subst (λ (all : List SignedPromise). AllByRecursion (IsOwnPromise verified asker.key lines asker.known) all) (sym (append-nil asker.earlier.items))
               (subst (λ (k : List ℕ). AllByRecursion (IsOwnPromise verified k lines asker.known) asker.earlier.items) (keyed ∙ sym same-key)
-              (kept-own hash accepted verified asker.client is lines asker.known asker.earlier.items keeps own))),
+              (kept-own hash accepted verified asker.client is lines asker.known asker.earlier.items keeps own.were))),
+          own,
         ),
       ),
     )
 
   -- ---- a state that begins
 
-  begun-kept : (state : State) (Happened : List Act → Type 0) → state.memory ≡ nothing → Happened (Loads stored_nothing ∷ []) → IsKept hash accepted verified lines key stored_nothing old Happened state.epoch state.memory (Some old)
+  begun-kept : (state : State) (Happened : List Act → Type 0) → state.memory ≡ nothing → Happened (Loads stored_nothing ∷ []) → IsKept hash accepted verified lines key found_nothing old Happened state.epoch state.memory [] (Some old)
   begun-kept state Happened none happened =
-      subst (λ (known : Memory). IsKept hash accepted verified lines key stored_nothing old Happened state.epoch known (Some old)) (sym none) (loads-all stored_nothing Happened state.epoch happened (none-fits state.epoch) tt)
+      subst (λ (known : Memory). IsKept hash accepted verified lines key found_nothing old Happened state.epoch known [] (Some old)) (sym none) (loads-all found_nothing [] Happened state.epoch happened (inl refl) refl (none-fits state.epoch) tt)
 
   module _ (Before After : List Act → Type 0) (acts : List Act) (before : Before acts) where
     pub begun-left : (first state : Option State) → IsFresh first → HasBegun Before After first state → IsLeft hash accepted verified lines key old (λ done. After (done ++ acts)) state (Some old)
     begun-left None state fresh (none, goes) = subst (λ (s : Option State). IsLeft hash accepted verified lines key old (λ done. After (done ++ acts)) s (Some old)) (sym none) (goes acts before)
     begun-left (Some was) state fresh (now, is, goes, same, at) =
         subst (λ (s : Option State). IsLeft hash accepted verified lines key old (λ done. After (done ++ acts)) s (Some old)) (sym is)
-        (inr (stored_nothing, begun-kept now (λ done. After (done ++ acts)) (same ∙ fresh.0) (goes acts before)))
+        (inr (found_nothing, [], begun-kept now (λ done. After (done ++ acts)) (same ∙ fresh.0) (goes acts before)))
 
     module _ {H V S : Type 0} (asker : Asker H V S) (said : List ℕ) (same-key : asker.key ≡ key) (token : List ℕ) (knows : (background_of asker ≡ new_background key token) × (asker.monitors.items ≡ []) × (asker.changes.items ≡ [])) (frame : List ℕ) (starts : Starts verified key frame (Ok asker.client)) where
       abbrev root : SignedRoot
@@ -163,19 +190,20 @@ module _ (hash : List ℕ → List ℕ) (accepted verified : List ℕ → List �
         ap (λ (c : Client). c.chain.key) starts.2 ∙ sym same-key,
         subst (λ (old : List SignedPromise). AllByRecursion (IsOwnPromise verified asker.key lines nothing) (old ++ asker.changes.items)) (sym earlier-none)
             (subst (λ (new : List SignedPromise). AllByRecursion (IsOwnPromise verified asker.key lines nothing) new) (sym knows.2) tt),
+        subst (AreEarlier nothing) (sym earlier-none) (record { were = tt; all = λ signed was. absurd (none-own signed was) }),
       )
 
-      pub begun-stands : (first state : Option State) → IsFresh first → HasBegun Before After first state → (start : Stored) × RunStands hash accepted verified lines start old (λ done. After (done ++ acts)) asker said state (Some old)
+      pub begun-stands : (first state : Option State) → IsFresh first → HasBegun Before After first state → (start : Found) × RunStands hash accepted verified lines start old (λ done. After (done ++ acts)) asker said state (Some old)
       unfolding loads-all
-      begun-stands None state fresh (none, goes) = (stored_nothing, subst (λ (s : Option State). RunStands hash accepted verified lines stored_nothing old (λ done. After (done ++ acts)) asker said s (Some old)) (sym none) (goes acts before, sym marks-none, begun-ready))
+      begun-stands None state fresh (none, goes) = (found_nothing, subst (λ (s : Option State). RunStands hash accepted verified lines found_nothing old (λ done. After (done ++ acts)) asker said s (Some old)) (sym none) (goes acts before, sym marks-none, begun-ready))
       begun-stands (Some was) state fresh (now, is, goes, same, at) = (
-        stored_nothing,
-        subst (λ (s : Option State). RunStands hash accepted verified lines stored_nothing old (λ done. After (done ++ acts)) asker said s (Some old)) (sym is) (
-          subst (λ (k : List ℕ). Stands hash accepted verified lines k stored_nothing old (λ done. After (done ++ acts)) now.epoch now.memory (Some old) (standing asker.client asker.monitors.items said)) (sym same-key)
-              (subst (λ (known : Memory). Stands hash accepted verified lines key stored_nothing old (λ done. After (done ++ acts)) now.epoch known (Some old) (standing asker.client asker.monitors.items said)) (sym (same ∙ fresh.0)) (record {
-                kept = loads-all stored_nothing (λ done. After (done ++ acts)) now.epoch (goes acts before) (none-fits now.epoch) tt;
-                owns = subst (λ (ms : List Monitor). Owns hash accepted verified (IsAsked lines) (IsOwnPromise verified key lines nothing) [] [] [] [] (standing asker.client ms said)) (sym knows.1)
-                    (owns-all stored_nothing asker.client said is-chain is-formed tt none-within);
+        found_nothing,
+        subst (λ (s : Option State). RunStands hash accepted verified lines found_nothing old (λ done. After (done ++ acts)) asker said s (Some old)) (sym is) (
+          subst (λ (k : List ℕ). Stands hash accepted verified lines k found_nothing old (λ done. After (done ++ acts)) now.epoch now.memory [] (Some old) (standing asker.client asker.monitors.items said)) (sym same-key)
+              (subst (λ (known : Memory). Stands hash accepted verified lines key found_nothing old (λ done. After (done ++ acts)) now.epoch known [] (Some old) (standing asker.client asker.monitors.items said)) (sym (same ∙ fresh.0)) (record {
+                kept = loads-all found_nothing [] (λ done. After (done ++ acts)) now.epoch (goes acts before) (inl refl) refl (none-fits now.epoch) tt;
+                owns = subst (λ (ms : List Monitor). Owns hash accepted verified (IsAsked lines) (IsOwnPromise verified key lines nothing) nothing [] [] [] [] (standing asker.client ms said)) (sym knows.1)
+                    (owns-all found_nothing asker.client said is-chain is-formed tt none-within (λ signed was. absurd (none-own signed was)));
               })),
           sym marks-none,
           begun-ready,
@@ -194,7 +222,7 @@ module _ (hash : List ℕ → List ℕ) (accepted verified : List ℕ → List �
       → IfOk result (λ asker. StartsAtHead verified exchanged key stream asker.client after) → IfOk result (λ asker. (background_of asker ≡ new_background key token) × (asker.monitors.items ≡ []))
       → IfOk result (λ asker. asker.changes.items ≡ []) → HasBegun Before After first state
       → IfOk result (λ asker. IsFresh first → (lines : Option (List (List ℕ))) (old : List ℕ) (acts : List Act) → Before acts
-      → (start : Stored) × RunStands hash accepted verified lines start old (λ done. After (done ++ acts)) asker said state (Some old))
+      → (start : Found) × RunStands hash accepted verified lines start old (λ done. After (done ++ acts)) asker said state (Some old))
   begun_run (Ok asker) exchanged stream after said token (frame, exchange, answers, starts) knows changes begun = λ fresh lines old acts has.
       begun-stands hash accepted verified lines key old Before After acts has asker said (ap (λ (b : Background). b.key) knows.0) token (knows.0, knows.1, changes) frame.body starts first state fresh begun
   begun_run (Err fault) exchanged stream after said token starts knows changes begun = tt

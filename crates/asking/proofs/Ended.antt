@@ -1,5 +1,5 @@
 -- How a run ends before all is asked.
-use Rattle.std.proofs.Common.{◌≡◌, ◌≢◌, ◌∙◌, ◌<◌, ℕ, true, List, [], ◌∷◌, ◌++◌, Bor, Option, None, Some, Result, Ok, Err, ap, option_map, append-nil, append_assoc, inl, inr, refl, rules, subst, sym}
+use Rattle.std.proofs.Common.{◌≡◌, ◌≢◌, ◌∙◌, ◌<◌, ◌≤◌, ℕ, true, List, [], ◌∷◌, ◌++◌, Bor, Option, None, Some, Result, Ok, Err, ap, option_map, append-nil, append_assoc, inl, inr, refl, rules, subst, sym}
 use Rattle.std.specs.Prelude.{IfErr, IfOk, IfSome, OnErr, OnOk}
 use Rattle.std.proofs.KnownBytes.{Appends-nil, Appends-trans, Keeps-refl}
 use Rattle.std.specs.declared.net.tcp.TcpStream.{TcpStream}
@@ -9,6 +9,11 @@ use Rattle.sigiface.specs.StandIn.{KeyedVerifies}
 use Rattle.rootchain.specs.declared.signed_promise.SignedPromise.{SignedPromise}
 use Rattle.textio.specs.Lines.{lines_of}
 use Rattle.textio.specs.Output.{WritesSome}
+use Rattle.textio.specs.declared.program_fault.ProgramFault.{ProgramFault}
+use Rattle.textio.specs.declared.program_fault.ProgramFault.TheVariants.{CannotWrite}
+use Rattle.std.specs.Io.KnownBytes.{Appends}
+use Rattle.asking.specs.declared.ask_fault.RunFault.{RunFault}
+use Rattle.asking.specs.declared.ask_fault.RunFault.TheVariants.{Program}
 use Rattle.wire.specs.Frames.{Frame}
 use Rattle.commands.specs.Operations.{Head}
 use Rattle.wire.specs.Requests.{RequestContent, Query}
@@ -20,11 +25,11 @@ use Rattle.asking.specs.declared.asker.Asker.{Asker}
 use Rattle.memory.specs.declared.mark.Mark.{Mark}
 use Rattle.asking.specs.declared.order.AskOrder.{AskOrder}
 use Rattle.asking.specs.declared.run.RunEnd.{RunEnd}
-use Rattle.asking.specs.declared.run.RunEnd.TheVariants.{Whole, Stopped}
+use Rattle.asking.specs.declared.run.RunEnd.TheVariants.{Whole, Stopped, Unwritten}
 use Rattle.asking.specs.declared.said.Said.{Said}
 use Rattle.asking.specs.AskOptions.{AskOptions, ask_keys_of, ask_values}
 use Rattle.asking.specs.Asking.{AsksDirectory, AsksSome, FindsSome, StopsAsking}
-use Rattle.asking.specs.Ending.{AsksNext, AsksOverSocket, AsksPart, AsksSomeLine, BeginsNone, DoesSome, end_status, EndsEarly, FailsAs, FailsOverSocket, HoldsBack, PreparesSome, RunEndsAt, RunsAs, stopped_status, TakesSomeNew}
+use Rattle.asking.specs.Ending.{AsksNext, AsksOverSocket, AsksPart, AsksSomeLine, BeginsNone, DoesSome, end_status, EndsEarly, EndsWith, FailsAs, FailsOverSocket, FailsWith, HoldsBack, PreparesSome, RunEndsAt, RunsAs, stopped_status, TakesSomeNew, WritesUnless}
 use Rattle.asking.specs.Exchanges.{ExchangesFrames}
 use Rattle.asking.specs.Following.{StopsAfter, TakesSome}
 use Rattle.asking.specs.Joining.{own_for, BeginsSome, BeginsWatch}
@@ -44,6 +49,9 @@ pub err_so : {A E P : Type 0} (result : Result A E) → P → OnErr result P
 err_so (Ok done) holds = tt
 err_so (Err why) holds = holds
 
+abbrev WriteFailed : Result (Unit {0}) RunFault → Type 0
+WriteFailed outcome = outcome ≡ Err (Program CannotWrite)
+
 -- ---- what is written
 
 -- nothing is written
@@ -51,22 +59,39 @@ pub some_not : (old : Option (List ℕ)) (text : List ℕ) → WritesSome old ol
 some_not old text = (text, ([], refl, Appends-nil old))
 
 -- all is still said
-pub leaves_same : (old : Option (List ℕ)) (said : Said) (told : Report) → report_of said ≡ told → HoldsBack old said told old
-leaves_same old said told same = (ap (λ (r : Report). r.status) same, [], [], sym (append-nil said.text.items ∙ ap (λ (r : Report). r.lines) same), Appends-nil old)
+pub leaves_same : (Failed : Type 0) (old : Option (List ℕ)) (said : Said) (told : Report) → report_of said ≡ told → HoldsBack Failed old said told old
+leaves_same Failed old said told same = (ap (λ (r : Report). r.status) same, [], [], sym (append-nil said.text.items ∙ ap (λ (r : Report). r.lines) same), Appends-nil old, inl refl)
 
 -- it is written, and nothing is said any more
-pub leaves_written : (old new : Option (List ℕ)) (said said' : Said) (told : Report) → report_of said ≡ told → WritesSome old new said.text.items → said'.text.items ≡ [] → said'.status ≡ said.status → HoldsBack new said' told old
-leaves_written old new said said' told same (rest, (front, parts, appends)) empty status = (
+pub leaves_written : (Failed : Type 0) (old new : Option (List ℕ)) (said said' : Said) (told : Report) → report_of said ≡ told → Appends old new said.text.items → said'.text.items ≡ [] → said'.status ≡ said.status → HoldsBack Failed new said' told old
+leaves_written Failed old new said said' told same appends empty status = (
+  status ∙ ap (λ (r : Report). r.status) same,
+  said.text.items,
+  [],
+  sym (ap (λ (xs : List ℕ). said.text.items ++ (xs ++ [])) empty ∙ append-nil said.text.items ∙ ap (λ (r : Report). r.lines) same),
+  appends,
+  inl refl,
+)
+
+-- a beginning of it is, where a write failed
+pub leaves_cut : (Failed : Type 0) (old new : Option (List ℕ)) (said said' : Said) (told : Report) → Failed → report_of said ≡ told → WritesSome old new said.text.items → said'.text.items ≡ [] → said'.status ≡ said.status → HoldsBack Failed new said' told old
+leaves_cut Failed old new said said' told failed same (rest, (front, parts, appends)) empty status = (
   status ∙ ap (λ (r : Report). r.status) same,
   front,
   rest,
   sym (ap (λ (r : Report). r.lines) same) ∙ parts ∙ sym (ap (λ (xs : List ℕ). front ++ (xs ++ rest)) empty),
   appends,
+  inr failed,
 )
 
--- what is still said is written
-pub written_then : (old now new : Option (List ℕ)) (said : Said) (told : Report) → HoldsBack now said told old → WritesSome now new said.text.items → WritesSome old new told.lines
-written_then old now new said told (status, text, rest, is, appends) (more, (front, parts, further)) = (
+-- where a write failed in one case, one did in another
+pub leaves_with : (Failed Failed' : Type 0) (new : Option (List ℕ)) (said : Said) (told : Report) (old : Option (List ℕ)) → (Failed → Failed') → HoldsBack Failed new said told old → HoldsBack Failed' new said told old
+leaves_with Failed Failed' new said told old leads (status, text, rest, is, appends, inl all) = (status, text, rest, is, appends, inl all)
+leaves_with Failed Failed' new said told old leads (status, text, rest, is, appends, inr failed) = (status, text, rest, is, appends, inr (leads failed))
+
+-- what is still said is written, or a beginning of it
+written_then : (Failed : Type 0) (old now new : Option (List ℕ)) (said : Said) (told : Report) → HoldsBack Failed now said told old → WritesSome now new said.text.items → WritesSome old new told.lines
+written_then Failed old now new said told (status, text, rest, is, appends, cut) (more, (front, parts, further)) = (
   more ++ rest,
   (
     text ++ front,
@@ -75,16 +100,22 @@ written_then old now new said told (status, text, rest, is, appends) (more, (fro
   ),
 )
 
+written_all : (Failed : Type 0) (old now new : Option (List ℕ)) (said : Said) (told : Report) → HoldsBack Failed now said told old → ¬ Failed → Appends now new said.text.items → Appends old new told.lines
+written_all Failed old now new said told (status, text, rest, is, appends, inr failed) well further = absurd (well failed)
+written_all Failed old now new said told (status, text, rest, is, appends, inl none) well further =
+    subst (λ (xs : List ℕ). Appends old new xs) (sym (is ∙ ap (λ (xs : List ℕ). text ++ (said.text.items ++ xs)) none ∙ ap (λ (xs : List ℕ). text ++ xs) (append-nil said.text.items)))
+    (Appends-trans old now new text said.text.items appends further)
+
 -- such a scene is reached, and what was told in it is written or said
-pub reaches_so : {T E : Type 0} (result : Result (Unit {0}) E) (Reaches : Scene T → Type 0) (told : Report) (old new : Option (List ℕ)) (said : Said) → (reached : Scene T) × Reaches reached × (told ≡ reached.told)
-    → OnErr result (HoldsBack new said told old) → OnErr result ((reached : Scene T) × Reaches reached × HoldsBack new said reached.told old)
-reaches_so (Ok done) Reaches told old new said reaches leaves = tt
-reaches_so (Err why) Reaches told old new said (reached, is, same) leaves = (reached, is, subst (λ (r : Report). HoldsBack new said r old) same leaves)
+pub reaches_so : (Failed : Type 0) {T E : Type 0} (result : Result (Unit {0}) E) (Reaches : Scene T → Type 0) (told : Report) (old new : Option (List ℕ)) (said : Said) → (reached : Scene T) × Reaches reached × (told ≡ reached.told)
+    → OnErr result (HoldsBack Failed new said told old) → OnErr result ((reached : Scene T) × Reaches reached × HoldsBack Failed new said reached.told old)
+reaches_so Failed (Ok done) Reaches told old new said reaches leaves = tt
+reaches_so Failed (Err why) Reaches told old new said (reached, is, same) leaves = (reached, is, subst (λ (r : Report). HoldsBack Failed new said r old) same leaves)
 
 -- the same, whether it stops or not
-pub reaches_whole : {T : Type 0} (Reaches : Scene T → Type 0) (told : Report) (old new : Option (List ℕ)) (said : Said) → (reached : Scene T) × Reaches reached × (told ≡ reached.told)
-    → HoldsBack new said told old → (reached : Scene T) × Reaches reached × HoldsBack new said reached.told old
-reaches_whole Reaches told old new said (reached, is, same) leaves = (reached, is, subst (λ (r : Report). HoldsBack new said r old) same leaves)
+pub reaches_whole : (Failed : Type 0) {T : Type 0} (Reaches : Scene T → Type 0) (told : Report) (old new : Option (List ℕ)) (said : Said) → (reached : Scene T) × Reaches reached × (told ≡ reached.told)
+    → HoldsBack Failed new said told old → (reached : Scene T) × Reaches reached × HoldsBack Failed new said reached.told old
+reaches_whole Failed Reaches told old new said (reached, is, same) leaves = (reached, is, subst (λ (r : Report). HoldsBack Failed new said r old) same leaves)
 
 -- ---- the status
 
@@ -160,9 +191,9 @@ module _ (hash : List ℕ → List ℕ) (accepted verified : List ℕ → List �
     line_reaches line said told before is (reached, does, same) = (reached, inr (said, is, does), same)
 
     -- nothing of it is asked
-    pub line_not : (line : List ℕ) (before : Scene T) (old : Option (List ℕ)) (said : Said) → report_of said ≡ before.told
-        → (reached : Scene T) × AsksSomeLine hash accepted verified exchanged background line before reached × HoldsBack old said reached.told old
-    line_not line before old said same = (before, inl refl, leaves_same old said before.told same)
+    pub line_not : (Failed : Type 0) (line : List ℕ) (before : Scene T) (old : Option (List ℕ)) (said : Said) → report_of said ≡ before.told
+        → (reached : Scene T) × AsksSomeLine hash accepted verified exchanged background line before reached × HoldsBack Failed old said reached.told old
+    line_not Failed line before old said same = (before, inl refl, leaves_same Failed old said before.told same)
 
     -- ---- among which lines
 
@@ -171,10 +202,10 @@ module _ (hash : List ℕ → List ℕ) (accepted verified : List ℕ → List �
     next-here (line ∷ more) here = inl refl
 
     -- no more is asked of the lines that are left
-    pub part_here : (start here : Scene T) (input old left now new : Option (List ℕ)) (said : Said) → LeadsOn hash accepted verified exchanged background start input old here left now → HoldsBack new said here.told now
-        → IfSome input (λ all. (told : Report) × (next : Option (List ℕ)) × AsksPart hash accepted verified exchanged background (lines_of all) start told old next × HoldsBack new said told next)
-    part_here start here None old left now new said leads leaves = tt
-    part_here start here (Some all) old left now new said leads leaves =
+    pub part_here : (Failed : Type 0) (start here : Scene T) (input old left now new : Option (List ℕ)) (said : Said) → LeadsOn hash accepted verified exchanged background start input old here left now → HoldsBack Failed new said here.told now
+        → IfSome input (λ all. (told : Report) × (next : Option (List ℕ)) × AsksPart hash accepted verified exchanged background (lines_of all) start told old next × HoldsBack Failed new said told next)
+    part_here Failed start here None old left now new said leads leaves = tt
+    part_here Failed start here (Some all) old left now new said leads leaves =
         let (rest, at, done, parts, asks) = leads all refl in (
           here.told,
           now,
@@ -183,17 +214,17 @@ module _ (hash : List ℕ → List ℕ) (accepted verified : List ℕ → List �
         )
 
     -- some of the next line is asked
-    pub part_line : (start here : Scene T) (input old left left' now new : Option (List ℕ)) (line : List ℕ) (said : Said) → LeadsOn hash accepted verified exchanged background start input old here left now → TakesWholeLine left left' true line
-        → (reached : Scene T) × AsksSomeLine hash accepted verified exchanged background line here reached × HoldsBack new said reached.told now
-        → IfSome input (λ all. (told : Report) × (next : Option (List ℕ)) × AsksPart hash accepted verified exchanged background (lines_of all) start told old next × HoldsBack new said told next)
-    part_line start here None old left left' now new line said leads takes part = tt
-    part_line start here (Some all) old left left' now new line said leads takes (reached, some, leaves) =
+    pub part_line : (Failed : Type 0) (start here : Scene T) (input old left left' now new : Option (List ℕ)) (line : List ℕ) (said : Said) → LeadsOn hash accepted verified exchanged background start input old here left now → TakesWholeLine left left' true line
+        → (reached : Scene T) × AsksSomeLine hash accepted verified exchanged background line here reached × HoldsBack Failed new said reached.told now
+        → IfSome input (λ all. (told : Report) × (next : Option (List ℕ)) × AsksPart hash accepted verified exchanged background (lines_of all) start told old next × HoldsBack Failed new said told next)
+    part_line Failed start here None old left left' now new line said leads takes part = tt
+    part_line Failed start here (Some all) old left left' now new line said leads takes (reached, some, leaves) =
         let (rest, at, done, parts, asks) = leads all refl in
         by rest done parts asks left' (subst (λ (l : Option (List ℕ)). TakesWholeLine l left' true line) at takes)
       where
         by : (rest : List ℕ) (done : List (List ℕ)) → lines_of all ≡ done ++ lines_of rest → AsksLines hash accepted verified exchanged background done start old now here
             → (left' : Option (List ℕ)) → TakesWholeLine (Some rest) left' true line
-            → (told : Report) × (next : Option (List ℕ)) × AsksPart hash accepted verified exchanged background (lines_of all) start told old next × HoldsBack new said told next
+            → (told : Report) × (next : Option (List ℕ)) × AsksPart hash accepted verified exchanged background (lines_of all) start told old next × HoldsBack Failed new said told next
         by rest done parts asks None bad = absurd bad
         by rest done parts asks (Some rest') is = (
           reached.told,
@@ -212,10 +243,10 @@ module _ (hash : List ℕ → List ℕ) (accepted verified : List ℕ → List �
         )
 
     -- some of one line, which is all that is asked
-    pub part_once : (line : List ℕ) (ready : Scene T) (now new : Option (List ℕ)) (said : Said)
-        → (reached : Scene T) × AsksSomeLine hash accepted verified exchanged background line ready reached × HoldsBack new said reached.told now
-        → (told : Report) × (next : Option (List ℕ)) × AsksPart hash accepted verified exchanged background (line ∷ []) ready told now next × HoldsBack new said told next
-    part_once line ready now new said (reached, some, leaves) = (
+    pub part_once : (Failed : Type 0) (line : List ℕ) (ready : Scene T) (now new : Option (List ℕ)) (said : Said)
+        → (reached : Scene T) × AsksSomeLine hash accepted verified exchanged background line ready reached × HoldsBack Failed new said reached.told now
+        → (told : Report) × (next : Option (List ℕ)) × AsksPart hash accepted verified exchanged background (line ∷ []) ready told now next × HoldsBack Failed new said told next
+    part_once Failed line ready now new said (reached, some, leaves) = (
       reached.told,
       now,
       record { done = []; left = line ∷ []; parts = refl; here = ready; asks = (Appends-nil now, refl); reached = reached; next = some; tells = refl },
@@ -223,38 +254,45 @@ module _ (hash : List ℕ → List ℕ) (accepted verified : List ℕ → List �
     )
 
   -- what stays is known under another name
-  pub line_known : (background background' : Background) (line : List ℕ) (before : Scene T) (old new : Option (List ℕ)) (said : Said) → background' ≡ background
-      → (reached : Scene T) × AsksSomeLine hash accepted verified exchanged background' line before reached × HoldsBack new said reached.told old
-      → (reached : Scene T) × AsksSomeLine hash accepted verified exchanged background line before reached × HoldsBack new said reached.told old
-  line_known background background' line before old new said same (reached, some, leaves) = (reached, subst (λ (k : Background). AsksSomeLine hash accepted verified exchanged k line before reached) same some, leaves)
+  pub line_known : (Failed : Type 0) (background background' : Background) (line : List ℕ) (before : Scene T) (old new : Option (List ℕ)) (said : Said) → background' ≡ background
+      → (reached : Scene T) × AsksSomeLine hash accepted verified exchanged background' line before reached × HoldsBack Failed new said reached.told old
+      → (reached : Scene T) × AsksSomeLine hash accepted verified exchanged background line before reached × HoldsBack Failed new said reached.told old
+  line_known Failed background background' line before old new said same (reached, some, leaves) = (reached, subst (λ (k : Background). AsksSomeLine hash accepted verified exchanged k line before reached) same some, leaves)
 
   -- ---- a run
 
   module _ (key token : List ℕ) (options : AskOptions) (HasNoState : Type 0) (stream : T) (input old : Option (List ℕ)) where
     -- it does not begin
-    pub early_none : (first : Report) (said : Said) → BeginsNone verified exchanged key stream first (report_of said) → first ≡ emptied 0
-        → EndsEarly hash accepted verified exchanged key token options HasNoState stream input old (HoldsBack old said)
-    early_none first said begins none =
-        (report_of said, old, leaves_same old said (report_of said) refl, inl (subst (λ (r : Report). BeginsNone verified exchanged key stream r (report_of said)) none begins, refl))
+    pub early_none : (Failed : Type 0) (first : Report) (said : Said) → BeginsNone verified exchanged key stream first (report_of said) → first ≡ emptied 0
+        → EndsEarly hash accepted verified exchanged key token options HasNoState stream input old (HoldsBack Failed old said)
+    early_none Failed first said begins none =
+        (report_of said, old, leaves_same Failed old said (report_of said) refl, inl (subst (λ (r : Report). BeginsNone verified exchanged key stream r (report_of said)) none begins, refl))
+
+    -- it ends with another fault than its questions did
+    pub part_left : (Failed Failed' : Type 0) (left : Result (Unit {0}) RunFault) (new : Option (List ℕ)) (said : Said) (first : Report) → OnErr left (Failed → Failed')
+        → (first ≡ emptied 0 → EndsEarly hash accepted verified exchanged key token options HasNoState stream input old (HoldsBack Failed new said))
+        → OnErr left (first ≡ emptied 0 → EndsEarly hash accepted verified exchanged key token options HasNoState stream input old (HoldsBack Failed' new said))
+    part_left Failed Failed' (Ok done) new said first leads part = tt
+    part_left Failed Failed' (Err why) new said first leads part = λ none. let (told, now, leaves, at) = part none in (told, now, leaves_with Failed Failed' new said told now leads leaves, at)
 
     module _ (background : Background) (start : Scene T) (new : Option (List ℕ)) (said : Said) (first : Report) (begun : first ≡ emptied 0 → StartsRun hash accepted verified exchanged key token HasNoState stream background start) where
       -- it ends while what is new is followed
-      pub early_preparing : (reached : Scene T) × PreparesSome hash accepted verified exchanged background HasNoState start reached × HoldsBack new said reached.told old
-          → first ≡ emptied 0 → EndsEarly hash accepted verified exchanged key token options HasNoState stream input old (HoldsBack new said)
-      early_preparing (reached, some, leaves) none = (reached.told, old, leaves, inr (background, start, begun none, inl (reached, some, refl, refl)))
+      pub early_preparing : (Failed : Type 0) → (reached : Scene T) × PreparesSome hash accepted verified exchanged background HasNoState start reached × HoldsBack Failed new said reached.told old
+          → first ≡ emptied 0 → EndsEarly hash accepted verified exchanged key token options HasNoState stream input old (HoldsBack Failed new said)
+      early_preparing Failed (reached, some, leaves) none = (reached.told, old, leaves, inr (background, start, begun none, inl (reached, some, refl, refl)))
 
       -- it ends at a line
-      pub early_asking : (background' : Background) (ready : Scene T) (now : Option (List ℕ)) → Writes (Prepares hash accepted verified exchanged background HasNoState) start old now ready → background' ≡ background
-          → IfSome (lines_asked options.words input) (λ lines. (told : Report) × (next : Option (List ℕ)) × AsksPart hash accepted verified exchanged background' lines ready told now next × HoldsBack new said told next)
-          → first ≡ emptied 0 → EndsEarly hash accepted verified exchanged key token options HasNoState stream input old (HoldsBack new said)
-      early_asking background' ready now prepares same part none =
+      pub early_asking : (Failed : Type 0) (background' : Background) (ready : Scene T) (now : Option (List ℕ)) → Writes (Prepares hash accepted verified exchanged background HasNoState) start old now ready → background' ≡ background
+          → IfSome (lines_asked options.words input) (λ lines. (told : Report) × (next : Option (List ℕ)) × AsksPart hash accepted verified exchanged background' lines ready told now next × HoldsBack Failed new said told next)
+          → first ≡ emptied 0 → EndsEarly hash accepted verified exchanged key token options HasNoState stream input old (HoldsBack Failed new said)
+      early_asking Failed background' ready now prepares same part none =
           let (told, next, leaves, at) = by (lines_asked options.words input) part in
           (told, next, leaves, inr (background, start, begun none, inr (ready, now, prepares, subst (λ (k : Background). IfSome (lines_asked options.words input) (λ lines. AsksPart hash accepted verified exchanged k lines ready told now next)) same at)))
         where
           by : (asked : Option (List (List ℕ)))
-              → IfSome asked (λ lines. (told : Report) × (next : Option (List ℕ)) × AsksPart hash accepted verified exchanged background' lines ready told now next × HoldsBack new said told next)
-              → (told : Report) × (next : Option (List ℕ)) × HoldsBack new said told next × IfSome asked (λ lines. AsksPart hash accepted verified exchanged background' lines ready told now next)
-          by None part = (report_of said, new, leaves_same new said (report_of said) refl, tt)
+              → IfSome asked (λ lines. (told : Report) × (next : Option (List ℕ)) × AsksPart hash accepted verified exchanged background' lines ready told now next × HoldsBack Failed new said told next)
+              → (told : Report) × (next : Option (List ℕ)) × HoldsBack Failed new said told next × IfSome asked (λ lines. AsksPart hash accepted verified exchanged background' lines ready told now next)
+          by None part = (report_of said, new, leaves_same Failed new said (report_of said) refl, tt)
           by (Some lines) (told, next, at, leaves) = (told, next, leaves, at)
 
   -- ---- with the state that an order names
@@ -316,49 +354,57 @@ module _ (hash : List ℕ → List ℕ) (accepted verified : List ℕ → List �
         → RunsAs hash accepted verified exchanged key token options NoState stream stream' input ended old new → RunsAs hash accepted verified exchanged key token options None' stream stream' input ended old new
     runs_with stream stream' input old new (Whole status) run = whole-with stream stream' input old new status run
     runs_with stream stream' input old new (Stopped status) run =
-        early-with (λ told now. (status ≡ stopped_status told.status) × WritesSome now new told.lines) (λ told now. (status ≡ stopped_status told.status) × WritesSome now new told.lines) stream input old (λ told now holds. holds) run
+        early-with (λ told now. (status ≡ stopped_status told.status) × Appends now new told.lines) (λ told now. (status ≡ stopped_status told.status) × Appends now new told.lines) stream input old (λ told now holds. holds) run
+    runs_with stream stream' input old new Unwritten run =
+        early-with (λ told now. (3 ≤ told.status) × WritesSome now new told.lines) (λ told now. (3 ≤ told.status) × WritesSome now new told.lines) stream input old (λ told now holds. holds) run
 
-    pub fails_with : (stream : T) (input old new : Option (List ℕ))
-        → FailsAs hash accepted verified exchanged key token options NoState stream input old new → FailsAs hash accepted verified exchanged key token options None' stream input old new
-    fails_with stream input old new run =
-        early-with (λ told now. (told.status < 3) × WritesSome now new told.lines) (λ told now. (told.status < 3) × WritesSome now new told.lines) stream input old (λ told now holds. holds) run
+    pub fails_with : (stream : T) (input : Option (List ℕ)) (fault : ProgramFault) (old new : Option (List ℕ))
+        → FailsAs hash accepted verified exchanged key token options NoState stream input fault old new → FailsAs hash accepted verified exchanged key token options None' stream input fault old new
+    fails_with stream input fault old new run =
+        early-with (λ told now. (told.status < 3) × WritesUnless (fault ≡ CannotWrite) now new told.lines) (λ told now. (told.status < 3) × WritesUnless (fault ≡ CannotWrite) now new told.lines) stream input old (λ told now holds. holds) run
 
     -- ---- the end
 
-    module _ {E F : Type 0} (outcome : Result (Unit {0}) E) (result : Result RunEnd F) (stream stream' : T) (input old new new' : Option (List ℕ)) (said : Said) (first : Report) (empty : first ≡ emptied 0) where
+    module _ (outcome : Result (Unit {0}) RunFault) (result : Result RunEnd ProgramFault) (stream stream' : T) (input old new new' : Option (List ℕ)) (said : Said) (first : Report) (empty : first ≡ emptied 0) where
       pub ends_so : OnOk outcome (first ≡ emptied 0 → RunsWhole hash accepted verified exchanged key token options NoState stream stream' input said.status old new)
-          → OnErr outcome (first ≡ emptied 0 → EndsEarly hash accepted verified exchanged key token options NoState stream input old (HoldsBack new said))
-          → OnOk outcome ((result ≡ Ok (Whole said.status)) × (new' ≡ new)) → OnErr outcome (IfOk result (λ ended. ended ≡ Stopped (stopped_status said.status))) → OnErr outcome (WritesSome new new' said.text.items)
+          → OnErr outcome (first ≡ emptied 0 → EndsEarly hash accepted verified exchanged key token options NoState stream input old (HoldsBack (WriteFailed outcome) new said))
+          → OnOk outcome ((result ≡ Ok (Whole said.status)) × (new' ≡ new)) → OnErr outcome (IfOk result (λ ended. EndsWith (WriteFailed outcome) said new new' ended))
           → IfOk result (λ ended. RunsAs hash accepted verified exchanged key token options None' stream stream' input ended old new')
       ends_so = by outcome result
         where
-          by : (outcome : Result (Unit {0}) E) (result : Result RunEnd F) → OnOk outcome (first ≡ emptied 0 → RunsWhole hash accepted verified exchanged key token options NoState stream stream' input said.status old new)
-              → OnErr outcome (first ≡ emptied 0 → EndsEarly hash accepted verified exchanged key token options NoState stream input old (HoldsBack new said))
-              → OnOk outcome ((result ≡ Ok (Whole said.status)) × (new' ≡ new)) → OnErr outcome (IfOk result (λ ended. ended ≡ Stopped (stopped_status said.status))) → OnErr outcome (WritesSome new new' said.text.items)
+          by : (outcome : Result (Unit {0}) RunFault) (result : Result RunEnd ProgramFault) → OnOk outcome (first ≡ emptied 0 → RunsWhole hash accepted verified exchanged key token options NoState stream stream' input said.status old new)
+              → OnErr outcome (first ≡ emptied 0 → EndsEarly hash accepted verified exchanged key token options NoState stream input old (HoldsBack (WriteFailed outcome) new said))
+              → OnOk outcome ((result ≡ Ok (Whole said.status)) × (new' ≡ new)) → OnErr outcome (IfOk result (λ ended. EndsWith (WriteFailed outcome) said new new' ended))
               → IfOk result (λ ended. RunsAs hash accepted verified exchanged key token options None' stream stream' input ended old new')
-          by (Err why) (Err given) whole early ends stops wrote = tt
-          by (Err why) (Ok ended) whole early ends stops wrote =
-              subst (λ (e : RunEnd). RunsAs hash accepted verified exchanged key token options None' stream stream' input e old new') (sym stops)
-              (early-with (HoldsBack new said) (λ told now. (stopped_status said.status ≡ stopped_status told.status) × WritesSome now new' told.lines) stream input old
-              (λ told now leaves. (ap (λ (n : ℕ). stopped_status n) leaves.0, written_then now new new' said told leaves wrote)) (early empty))
-          by (Ok done) result whole early (is, same) stops wrote =
-              subst (λ (r : Result RunEnd F). IfOk r (λ ended. RunsAs hash accepted verified exchanged key token options None' stream stream' input ended old new')) (sym is) (
+          by (Err why) (Err given) whole early ends stops = tt
+          by (Err why) (Ok (Whole status)) whole early ends stops = absurd stops
+          by (Err why) (Ok (Stopped status)) whole early ends (is, well, wrote) =
+              early-with (HoldsBack (WriteFailed (Err why)) new said) (λ told now. (status ≡ stopped_status told.status) × Appends now new' told.lines) stream input old
+              (λ told now leaves. (is ∙ ap (λ (n : ℕ). stopped_status n) leaves.0, written_all (WriteFailed (Err why)) now new new' said told leaves well wrote)) (early empty)
+          by (Err why) (Ok Unwritten) whole early ends (high, wrote) =
+              early-with (HoldsBack (WriteFailed (Err why)) new said) (λ told now. (3 ≤ told.status) × WritesSome now new' told.lines) stream input old
+              (λ told now leaves. (subst (λ (n : ℕ). 3 ≤ n) leaves.0 high, written_then (WriteFailed (Err why)) now new new' said told leaves wrote)) (early empty)
+          by (Ok done) result whole early (is, same) stops =
+              subst (λ (r : Result RunEnd ProgramFault). IfOk r (λ ended. RunsAs hash accepted verified exchanged key token options None' stream stream' input ended old new')) (sym is) (
               subst (λ (text : Option (List ℕ)). RunsWhole hash accepted verified exchanged key token options None' stream stream' input said.status old text) (sym same)
               (whole-with stream stream' input old new said.status (whole empty)))
 
-      pub fails_so : OnErr outcome (first ≡ emptied 0 → EndsEarly hash accepted verified exchanged key token options NoState stream input old (HoldsBack new said))
-          → OnOk outcome ((result ≡ Ok (Whole said.status)) × (new' ≡ new)) → OnErr outcome (IfErr result (λ given. said.status < 3)) → OnErr outcome (WritesSome new new' said.text.items)
-          → OnErr result (FailsAs hash accepted verified exchanged key token options None' stream input old new')
+      pub fails_so : OnErr outcome (first ≡ emptied 0 → EndsEarly hash accepted verified exchanged key token options NoState stream input old (HoldsBack (WriteFailed outcome) new said))
+          → OnOk outcome ((result ≡ Ok (Whole said.status)) × (new' ≡ new)) → OnErr outcome (IfErr result (λ given. FailsWith (WriteFailed outcome) said new new' given))
+          → IfErr result (λ given. FailsAs hash accepted verified exchanged key token options None' stream input given old new')
       fails_so = by outcome result
         where
-          by : (outcome : Result (Unit {0}) E) (result : Result RunEnd F) → OnErr outcome (first ≡ emptied 0 → EndsEarly hash accepted verified exchanged key token options NoState stream input old (HoldsBack new said))
-              → OnOk outcome ((result ≡ Ok (Whole said.status)) × (new' ≡ new)) → OnErr outcome (IfErr result (λ given. said.status < 3)) → OnErr outcome (WritesSome new new' said.text.items)
-              → OnErr result (FailsAs hash accepted verified exchanged key token options None' stream input old new')
-          by (Err why) (Ok ended) early ends low wrote = tt
-          by (Err why) (Err given) early ends low wrote =
-              early-with (HoldsBack new said) (λ told now. (told.status < 3) × WritesSome now new' told.lines) stream input old
-              (λ told now leaves. (subst (λ (n : ℕ). n < 3) leaves.0 low, written_then now new new' said told leaves wrote)) (early empty)
-          by (Ok done) result early (is, same) low wrote = subst (λ (r : Result RunEnd F). OnErr r (FailsAs hash accepted verified exchanged key token options None' stream input old new')) (sym is) tt
+          by : (outcome : Result (Unit {0}) RunFault) (result : Result RunEnd ProgramFault) → OnErr outcome (first ≡ emptied 0 → EndsEarly hash accepted verified exchanged key token options NoState stream input old (HoldsBack (WriteFailed outcome) new said))
+              → OnOk outcome ((result ≡ Ok (Whole said.status)) × (new' ≡ new)) → OnErr outcome (IfErr result (λ given. FailsWith (WriteFailed outcome) said new new' given))
+              → IfErr result (λ given. FailsAs hash accepted verified exchanged key token options None' stream input given old new')
+          by (Err why) (Ok ended) early ends fails = tt
+          by (Err why) (Err given) early ends (low, inl (well, wrote)) =
+              early-with (HoldsBack (WriteFailed (Err why)) new said) (λ told now. (told.status < 3) × WritesUnless (given ≡ CannotWrite) now new' told.lines) stream input old
+              (λ told now leaves. (subst (λ (n : ℕ). n < 3) leaves.0 low, inl (written_all (WriteFailed (Err why)) now new new' said told leaves well wrote))) (early empty)
+          by (Err why) (Err given) early ends (low, inr (failed, wrote)) =
+              early-with (HoldsBack (WriteFailed (Err why)) new said) (λ told now. (told.status < 3) × WritesUnless (given ≡ CannotWrite) now new' told.lines) stream input old
+              (λ told now leaves. (subst (λ (n : ℕ). n < 3) leaves.0 low, inr (failed, written_then (WriteFailed (Err why)) now new new' said told leaves wrote))) (early empty)
+          by (Ok done) result early (is, same) fails = subst (λ (r : Result RunEnd ProgramFault). IfErr r (λ given. FailsAs hash accepted verified exchanged key token options None' stream input given old new')) (sym is) tt
 
 -- ---- a socket
 
@@ -378,18 +424,22 @@ over_socket order key token socket socket' input old new ended are run =
           (none_before (λ text. text.now) order.state) (λ none. ap (λ (state : Option (Bor (List ℕ))). option_map (λ text. text.now) state) none) socket socket' input old new ended run,
     ))
 
-pub fails_over_socket : (order : AskOrder) (key token : List ℕ) (socket : TcpStream) (input old new : Option (List ℕ)) → ask_keys_of (ask_values order) ≡ Some (key, token)
-    → FailsAs sha256 KeyedAccepts KeyedVerifies (ExchangesFrames {T = TcpStream} (λ _. None) (λ _. None)) key token (ask_values order) (order.state ≡ None) socket input old new
-    → FailsOverSocket (ask_values order) input old new
-fails_over_socket order key token socket input old new are run =
+pub fails_over_socket : (order : AskOrder) (key token : List ℕ) (socket : TcpStream) (input : Option (List ℕ)) (fault : ProgramFault) (old new : Option (List ℕ)) → ask_keys_of (ask_values order) ≡ Some (key, token)
+    → FailsAs sha256 KeyedAccepts KeyedVerifies (ExchangesFrames {T = TcpStream} (λ _. None) (λ _. None)) key token (ask_values order) (order.state ≡ None) socket input fault old new
+    → FailsOverSocket (ask_values order) input fault old new
+fails_over_socket order key token socket input fault old new are run =
     inr (inr (
       key,
       token,
       are,
       socket,
       fails_with sha256 KeyedAccepts KeyedVerifies (ExchangesFrames {T = TcpStream} (λ _. None) (λ _. None)) key token (ask_values order) (order.state ≡ None) ((ask_values order).state ≡ None)
-          (none_before (λ text. text.now) order.state) (λ none. ap (λ (state : Option (Bor (List ℕ))). option_map (λ text. text.now) state) none) socket input old new run,
+          (none_before (λ text. text.now) order.state) (λ none. ap (λ (state : Option (Bor (List ℕ))). option_map (λ text. text.now) state) none) socket input fault old new run,
     ))
 
-pub unwritten : (options : AskOptions) (input old : Option (List ℕ)) → FailsOverSocket options input old old
-unwritten options input old = inl (Keeps-refl old)
+pub unwritten : (options : AskOptions) (input : Option (List ℕ)) (fault : ProgramFault) (old : Option (List ℕ)) → FailsOverSocket options input fault old old
+unwritten options input fault old = inl (Keeps-refl old)
+
+pub unwritten_fails : {A : Type 0} (options : AskOptions) (input old : Option (List ℕ)) (result : Result A ProgramFault) → IfErr result (λ fault. FailsOverSocket options input fault old old)
+unwritten_fails options input old (Ok done) = tt
+unwritten_fails options input old (Err fault) = unwritten options input fault old

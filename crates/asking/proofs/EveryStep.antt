@@ -12,7 +12,7 @@ use Rattle.monitor.specs.Monitors.{Monitor}
 use Rattle.asking.specs.Asking.{replied, AsksDirectory, AsksOn, AsksSome, CatchesSome, CatchesUp, FindsHead, FindsSome, GoesOnAbove, HearsOne, HearsOnly, HearsSome, Notes, StopsAsking}
 use Rattle.asking.specs.Checking.{HearsFrame}
 use Rattle.asking.specs.Following.{Follows, StopsAfter, StopsList, TakesList, TakesLists, TakesSome}
-use Rattle.asking.specs.Joining.{own_for, BeginsAt, BeginsSome, BeginsSomeAt, BeginsWatch, IsJoined, IsUnwatched, WatchesNew, WatchesSome}
+use Rattle.asking.specs.Joining.{own_for, BeginsAt, BeginsSome, BeginsSomeAt, BeginsWatch, IsJoined, IsUnwatched, WatchesNew, WatchesSome, watched_told}
 use Rattle.asking.specs.Reports.{Report, told_after, unless_fine}
 use Rattle.asking.specs.Ending.{DoesSomeNoting, PreparesSome, TakesSomeNew}
 use Rattle.asking.specs.Runs.{Background, Prepares, TakesNew}
@@ -23,7 +23,7 @@ use Rattle.asking.specs.Watching.{AllStep, AsksEpoch, GoesOn, GoesSome, SomeStep
 module _ {T : Type 0} (hash : List ℕ → List ℕ) (accepted verified : List ℕ → List ℕ → List ℕ → Type 0) (exchanged : T → RequestContent → Frame → T → Type 0) (marks : List Mark) where
   -- Each single step keeps it, where what is noted of the client's own changes is MayNote, and a monitor joins as MayJoin
   -- says.
-  pub record EachKeeps (MayNote : List SignedPromise → Type 0) (MayJoin : List SignedPromise → List ℕ → Option (List ℕ) → Type 0) (Keeps : Scene T → Scene T → Type 0) : Type 0 where
+  pub record EachKeeps (MayNote : List SignedPromise → Type 0) (MayJoin : List ℕ → List SignedPromise → List ℕ → Option (List ℕ) → Type 0) (Keeps : Scene T → Scene T → Type 0) : Type 0 where
     pub none : (before : Scene T) → Keeps before before
     pub both : (before middle after : Scene T) → Keeps before middle → Keeps middle after → Keeps before after
     pub sends : (before : Scene T) (stream : T) → Keeps before (record before { stream = stream })
@@ -32,7 +32,7 @@ module _ {T : Type 0} (hash : List ℕ → List ℕ) (accepted verified : List �
     pub stops : (before after : Scene T) → StopsList hash verified exchanged before after → Keeps before after
     pub tests : (before : Scene T) (name : List ℕ) (kept : Bool) (after : Scene T) → AsksDue hash accepted exchanged before name kept after → Keeps before after
     pub steps : (before : Scene T) (place : ℕ) (went : Bool) (after : Scene T) → AsksEpoch hash accepted exchanged before place went after → Keeps before after
-    pub joins : (before : Scene T) (key : List ℕ) (promised : List SignedPromise) (name : List ℕ) (given : Option (List ℕ)) (first : SignedRoot) (monitor : Monitor) → MayJoin promised name given
+    pub joins : (before : Scene T) (key : List ℕ) (promised : List SignedPromise) (name : List ℕ) (given : Option (List ℕ)) (first : SignedRoot) (monitor : Monitor) → MayJoin key promised name given
         → IsUnwatched before.client.chain name marks (Some first) → IsJoined hash accepted verified marks key promised before.client.chain first name given monitor
         → Keeps before (record before { monitors = before.monitors ++ monitor ∷ [] })
     pub hears : (before after : Scene T) (held : ℕ) (asked : RequestContent) (frame : Frame) (heard told : Report) → HearsFrame hash accepted verified held before.client asked frame heard after.client
@@ -40,7 +40,7 @@ module _ {T : Type 0} (hash : List ℕ → List ℕ) (accepted verified : List �
     pub hands : (before after : Scene T) (held : ℕ) (asked : RequestContent) (frame : Frame) (noted noted' : List SignedPromise) → HearsOne hash accepted verified exchanged held asked frame before after
         → Notes asked before.client.promises after.client.promises noted noted' → MayNote noted' → Keeps before after
 
-  module _ {MayNote : List SignedPromise → Type 0} {MayJoin : List SignedPromise → List ℕ → Option (List ℕ) → Type 0} {Keeps : Scene T → Scene T → Type 0} (each : EachKeeps MayNote MayJoin Keeps) where
+  module _ {MayNote : List SignedPromise → Type 0} {MayJoin : List ℕ → List SignedPromise → List ℕ → Option (List ℕ) → Type 0} {Keeps : Scene T → Scene T → Type 0} (each : EachKeeps MayNote MayJoin Keeps) where
     same-keeps : (before after : Scene T) → after ≡ before → Keeps before after
     same-keeps before after same = subst (Keeps before) (sym same) (each.none before)
 
@@ -123,7 +123,7 @@ module _ {T : Type 0} (hash : List ℕ → List ℕ) (accepted verified : List �
 
     -- ---- a monitor that joins
 
-    module _ (key : List ℕ) (promised : List SignedPromise) (name : List ℕ) (given : Option (List ℕ)) (may : MayJoin promised name given) where
+    module _ (key : List ℕ) (promised : List SignedPromise) (name : List ℕ) (given : Option (List ℕ)) (may : MayJoin key promised name given) where
       pub begins_at-keeps : (first : SignedRoot) (before after : Scene T) → IsUnwatched before.client.chain name marks (Some first) → BeginsAt hash accepted verified exchanged marks key promised name given first before after → Keeps before after
       begins_at-keeps first before after is (inl (monitor, joined, (count, steps))) =
           let added : Scene T = record before { monitors = before.monitors ++ monitor ∷ [] } in
@@ -137,12 +137,13 @@ module _ {T : Type 0} (hash : List ℕ → List ℕ) (accepted verified : List �
           each.both before added after (each.joins before key promised name given first monitor may is joined) (steps_some-keeps added (length before.monitors) after steps)
 
       pub watches_new-keeps : (before after : Scene T) → WatchesNew hash accepted verified exchanged marks key promised name given before after → Keeps before after
-      watches_new-keeps before after (inl (none, same)) = same-keeps before after same
+      watches_new-keeps before after (inl (none, (epoch, marked, same))) = subst (Keeps before) (sym same) (each.tells before (watched_told name epoch))
       watches_new-keeps before after (inr (first, is, (middle, begins, tests))) = each.both before middle after (begins_at-keeps first before middle is begins) (tests_all-keeps middle after tests)
 
       pub watches_some-keeps : (before after : Scene T) → WatchesSome hash accepted verified exchanged marks key promised name given before after → Keeps before after
-      watches_some-keeps before after (first, is, inl begins) = begins_some_at-keeps first before after is begins
-      watches_some-keeps before after (first, is, inr (middle, begins, tests)) = each.both before middle after (begins_at-keeps first before middle is begins) (tests_some-keeps middle after tests)
+      watches_some-keeps before after (inl same) = same-keeps before after same
+      watches_some-keeps before after (inr (first, is, inl begins)) = begins_some_at-keeps first before after is begins
+      watches_some-keeps before after (inr (first, is, inr (middle, begins, tests))) = each.both before middle after (begins_at-keeps first before middle is begins) (tests_some-keeps middle after tests)
 
       module _ (known : Memory) where
         pub begins_watch-keeps : (before after : Scene T) → BeginsWatch hash accepted verified exchanged known marks key promised name given before after → Keeps before after
@@ -152,8 +153,7 @@ module _ {T : Type 0} (hash : List ℕ → List ℕ) (accepted verified : List �
 
         pub begins_some-keeps : (before after : Scene T) → BeginsSome hash accepted verified exchanged known marks key promised name given before after → Keeps before after
         begins_some-keeps before after (inl same) = same-keeps before after same
-        begins_some-keeps before after (inr (again, tells, inl same)) = subst (Keeps before) (sym same) (each.tells before again)
-        begins_some-keeps before after (inr (again, tells, inr watches)) =
+        begins_some-keeps before after (inr (again, tells, watches)) =
             let recalled : Scene T = record before { told = told_after before.told again } in
             each.both before recalled after (each.tells before again) (watches_some-keeps recalled after watches)
 
@@ -222,7 +222,7 @@ module _ {T : Type 0} (hash : List ℕ → List ℕ) (accepted verified : List �
 -- ---- before the lines, and a line
 
 module _ {T : Type 0} (hash : List ℕ → List ℕ) (accepted verified : List ℕ → List ℕ → List ℕ → Type 0) (exchanged : T → RequestContent → Frame → T → Type 0) (background : Background)
-    {MayNote : List SignedPromise → Type 0} {MayJoin : List SignedPromise → List ℕ → Option (List ℕ) → Type 0} {Keeps : Scene T → Scene T → Type 0}
+    {MayNote : List SignedPromise → Type 0} {MayJoin : List ℕ → List SignedPromise → List ℕ → Option (List ℕ) → Type 0} {Keeps : Scene T → Scene T → Type 0}
     (each : EachKeeps hash accepted verified exchanged background.marks MayNote MayJoin Keeps) where
   module _ (HasNoState : Type 0) where
     takes_new-keeps : (before after : Scene T) → TakesNew hash accepted verified exchanged background HasNoState before after → Keeps before after
@@ -246,7 +246,7 @@ module _ {T : Type 0} (hash : List ℕ → List ℕ) (accepted verified : List �
   -- ---- and what a line says
 
   pub does_some-keeps : (said : ScriptLine) (noted noted' : List SignedPromise) (before after : Scene T) → MayNote noted'
-      → ((name : List ℕ) (given : Option (List ℕ)) → said ≡ Watch name given → MayJoin (own_for background.marks name background.earlier noted) name given)
+      → ((name : List ℕ) (given : Option (List ℕ)) → said ≡ Watch name given → MayJoin background.key (own_for background.marks name background.earlier noted) name given)
       → DoesSomeNoting hash accepted verified exchanged background said noted noted' before after → Keeps before after
   does_some-keeps said noted noted' before after may join (inl (same, none)) = subst (Keeps before) (sym same) (each.none before)
   does_some-keeps Pass noted noted' before after may join (inr (inl (same, none))) = subst (Keeps before) (sym same) (each.none before)

@@ -1,6 +1,6 @@
 -- The faults of a run, as they are passed on, and what is written before them.
 use Rattle.std.proofs.Common.{◌≡◌, ◌∙◌, ◌⊎◌, ◌↔◌, ◌++◌, ℕ, ◌+◌, true, List, [], Option, None, Some, Result, Ok, Err, Bor, inl, inr, refl, rules, subst, sym}
-use Rattle.std.specs.Prelude.{◌∷◌, IfErr, IfSome, option_map, ⊤}
+use Rattle.std.specs.Prelude.{◌∷◌, IfErr, IfSome, IsErrAnd, option_map, ⊤}
 use Rattle.std.proofs.KnownBytes.{Appends-nil, Appends-trans}
 use Rattle.textio.specs.declared.program_fault.ProgramFault.{ProgramFault}
 use Rattle.textio.specs.declared.program_fault.ProgramFault.TheVariants.{BadHex, BadItem, IndexRepeated, NotACommand, NotEvidence, BadRecord, OtherKeys, CannotRead, CannotWrite, CannotListen, OutOfMemory}
@@ -35,6 +35,15 @@ system-with HasState ReadsInput IsUnasked CannotRead has system = inl has
 system-with HasState ReadsInput IsUnasked CannotWrite has system = system
 system-with HasState ReadsInput IsUnasked CannotListen has system = system
 system-with HasState ReadsInput IsUnasked OutOfMemory has system = system
+
+saving-state : (fault : ProgramFault) → IsFaultOfSaving fault → IsFaultOfState fault
+saving-state fault (inl is) = inl (subst IsSystemFault (sym is) tt)
+saving-state fault (inr is) = inl (subst IsSystemFault (sym is) tt)
+
+-- such a fault that is passed on
+pub passed_saving : {A : Type 0} (result : Result A ProgramFault) (fault : ProgramFault) → IsErrAnd result (λ given. given ≡ fault) → IsFaultOfSaving fault → IfErr result IsFaultOfState
+passed_saving (Ok done) fault passed saving = tt
+passed_saving (Err given) fault passed saving = saving-state given (subst IsFaultOfSaving (sym passed) saving)
 
 pub saving_with : (HasState ReadsInput : Type 0) (IsUnasked : ℕ → Type 0) (fault : ProgramFault) → IsFaultOfSaving fault → IsFaultWith HasState ReadsInput IsUnasked fault
 saving_with HasState ReadsInput IsUnasked fault (inl is) = subst (λ (f : ProgramFault). IsFaultWith HasState ReadsInput IsUnasked f) (sym is) tt

@@ -146,4 +146,4 @@ module _ {H V S T : Type 0} (hash : List ℕ → List ℕ) (accepted verified : 
         → IfErr result (λ fault. HaltsAfter (WatchesSome hash accepted verified exchanged marks.items key promised name given (scene asker said stream)) fault last said')
     halts_begun (Ok done) marks marks' middle last said' unwatched same begun halts = tt
     halts_begun (Err fault) marks marks' middle last said' unwatched same begun (reached, tests, halts) =
-        (reached, (first, unwatched, inr (middle, begun, subst (λ (all : Vec Mark Global). TestsSome hash accepted exchanged all.items middle reached) same tests)), halts)
+        (reached, inr (first, unwatched, inr (middle, begun, subst (λ (all : Vec Mark Global). TestsSome hash accepted exchanged all.items middle reached) same tests)), halts)

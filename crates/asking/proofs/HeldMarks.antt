@@ -1,6 +1,6 @@
 -- The marks that a memory learns in a run are held: all that they say was watched is told.
 use Rattle.std.proofs.Common.{◌≡◌, ◌∙◌, ◌⊎◌, ℕ, suc, ◌-◌, ◌<◌, ◌≤◌, List, [], ◌∷◌, length, All, Contains, Option, Some, ap, arith, get_or, inl, inr, refl, slice_get, subst, sym}
-use Rattle.std.specs.Prelude.{nat_lt, if◌then◌else◌}
+use Rattle.std.specs.Prelude.{AllPairs, nat_lt, if◌then◌else◌}
 use Rattle.std.specs.List.{AllByRecursion}
 use Rattle.std.proofs.lemmas.Bool.{cases_lt}
 use Rattle.std.proofs.lemmas.List.Elements.{All-cons, All-contains, All-from_recursion, All-weaker, Contains-get_or}
@@ -16,18 +16,22 @@ use Rattle.rootchain.specs.declared.signed_promise.SignedPromise.{SignedPromise}
 use Rattle.rootchain.specs.declared.signed_root.SignedRoot.{SignedRoot}
 use Rattle.proofs.specs.Accepts.{stated}
 use Rattle.proofs.specs.Comparisons.{IsAcceptedReply}
-use Rattle.proofs.specs.Watches.{Watch}
+use Rattle.proofs.specs.Watches.{Watch, expected}
 use Rattle.monitor.specs.Monitors.{Monitor}
 use Rattle.monitor.specs.Stepping.{StepTells}
+use Rattle.monitor.proofs.Expected.{expected-greatest}
 use Rattle.memory.specs.Learning.{BeginsBehind, IsSince}
+use Rattle.memory.specs.Memories.{Memory}
 use Rattle.memory.specs.Taking.{PutsMark}
 use Rattle.memory.specs.Watching.{IsWatchedUpTo}
 use Rattle.memory.specs.declared.mark.Mark.{Mark}
-use Rattle.asking.specs.Owning.{HasJoined, IsHeld, IsLeastAbove, IsOwn, WasWatched}
-use Rattle.asking.specs.Told.{HasBody, HasLines, IsToldAt, TellsEpoch}
+use Rattle.asking.specs.Owning.{HasJoined, IsHeld, IsLeastAbove, IsOwn, IsOwnChange, IsOwners, WasWatched}
+use Rattle.asking.specs.Saves.{Counts}
+use Rattle.asking.specs.Told.{ExpectsAt, HasBody, HasLines, IsToldAt, TellsEpoch}
 use Rattle.asking.specs.Watching.{step_told}
 use Rattle.asking.proofs.OwnRoots.{covers-chain, not-between}
 use Rattle.asking.proofs.PutMarks.{each-keeps, earlier-of, puts-from, EachPuts, IsBegun, IsMoved}
+use Rattle.asking.proofs.Told.{told-key}
 
 -- ---- roots
 
@@ -42,10 +46,10 @@ head-last : (roots : List SignedRoot) (head root : SignedRoot) → Ascend roots 
 head-last roots head root up at has = up-to roots up has.0 (length roots - 1) root head (at-place roots root has) at (omega (arith, has.1))
 
 -- of roots one of which is above an epoch, one is the least of those
-abbrev LeastAbove : List SignedRoot → ℕ → Type 0
+abbrev pub LeastAbove : List SignedRoot → ℕ → Type 0
 LeastAbove roots epoch = (next : SignedRoot) × Contains roots next × (epoch < next.body.epoch) × All (λ other. epoch < other.body.epoch → next.body.epoch ≤ other.body.epoch) roots
 
-least-above : (roots : List SignedRoot) (epoch : ℕ) → All (λ (root : SignedRoot). root.body.epoch ≤ epoch) roots ⊎ LeastAbove roots epoch
+pub least-above : (roots : List SignedRoot) (epoch : ℕ) → All (λ (root : SignedRoot). root.body.epoch ≤ epoch) roots ⊎ LeastAbove roots epoch
 least-above [] epoch = inl (λ k d within. absurd (omega (arith, within)))
 least-above (root ∷ roots) epoch = elim (cases_lt epoch root.body.epoch) [
   | inr low ↦ elim (least-above roots epoch) [
@@ -82,7 +86,48 @@ since-is mark since epoch is above below = elim (earlier-of mark.epoch since) [
   | inr late ↦ omega (arith, is, late.1, above)
 ]
 
-module _ (hash : List ℕ → List ℕ) (accepted verified : List ℕ → List ℕ → List ℕ → Type 0) (Given : List ℕ → Option (List ℕ) → Type 0) (Own : SignedPromise → Type 0) where
+-- ---- what an owner expects
+
+module _ (Given : List ℕ → Option (List ℕ) → Type 0) (Own : SignedPromise → Type 0) (start : Memory) (name : List ℕ) (first : SignedRoot) (watch : Watch) (owners : IsOwners Given Own start name first watch) (epoch : ℕ) where
+  -- a change that was promised before an epoch: what counts there is no later
+  counts-changed : (change : ℕ × List ℕ) → Contains watch.changes change → ((other : ℕ × List ℕ) → Contains watch.changes other → other.0 < epoch → other.0 ≤ change.0)
+      → (other : SignedPromise) → Counts start epoch other → other.promise.name ≡ name → other.promise.epoch ≤ change.0
+  counts-changed change has greatest other (was, awaited, all) named = elim (cases_lt other.promise.epoch first.body.epoch) [
+    | inl early ↦ let later = all-in (λ (c : ℕ × List ℕ). first.body.epoch ≤ c.0) watch.changes change owners.later has in omega (arith, early, later)
+    | inr late ↦
+        let (one, there, high, (own, were, same, at)) = owners.covers other was named late in
+        let low = all own were (same ∙ sym named) in
+        omega (arith, high, greatest one there (omega (arith, low, at)))
+  ]
+
+  -- where no change was, what counts there counts at the first root
+  counts-first : All (λ change. epoch ≤ change.0) watch.changes → (other : SignedPromise) → Counts start epoch other → other.promise.name ≡ name → Counts start first.body.epoch other
+  counts-first none other (was, awaited, all) named = (
+    was,
+    awaited,
+    λ own were same. elim (cases_lt own.promise.epoch first.body.epoch) [
+      | inl early ↦ early
+      | inr late ↦
+          let (one, there, high, (that, been, alike, at)) = owners.covers own were (same ∙ named) late in
+          let low = all that been (alike ∙ sym named) in
+          absurd (omega (arith, low, at, All-contains (λ (c : ℕ × List ℕ). epoch ≤ c.0) watch.changes one none there))
+    ],
+  )
+
+  -- so the watch expects what the owner does, from the first root on
+  owner-expects : AllPairs (λ earlier later. earlier.0 < later.0) watch.changes → first.body.epoch ≤ epoch → ExpectsAt Given Own (Counts start) name epoch (expected watch epoch)
+  owner-expects up low = elim (expected-greatest watch epoch up) [
+    | inl (change, has, below, greatest, key) ↦
+        let (signed, owns, named, made, keyed) = all-in (IsOwnChange Given Own start name) watch.changes change owners.changes has in
+        inl (signed, owns, named, omega (arith, made, below), key ∙ ap Some (sym keyed), λ other counts same. let least = counts-changed change has greatest other counts same in omega (arith, least, made))
+    | inr (none, key) ↦ elim owners.begins [
+      | inl (signed, owns, named, before, keyed, last) ↦
+          inl (signed, owns, named, omega (arith, before, low), key ∙ keyed, λ other counts same. last other (counts-first none other counts same) same)
+      | inr (given, nothing) ↦ inr (subst (Given name) (sym key) given, λ other counts same. nothing other (counts-first none other counts same) same)
+    ]
+  ]
+
+module _ (hash : List ℕ → List ℕ) (accepted verified : List ℕ → List ℕ → List ℕ → Type 0) (Given : List ℕ → Option (List ℕ) → Type 0) (Own : SignedPromise → Type 0) (start : Memory) where
   told-same : (text name : List ℕ) (watch : Watch) (one other : SignedRoot) → one.body ≡ other.body → IsToldAt hash accepted text name watch one → IsToldAt hash accepted text name watch other
   told-same text name watch one other same (bytes, reply, step, is, tells, has) =
       let P = λ (body : Body). IsAcceptedReply hash accepted body name bytes reply × StepTells watch body.epoch (stated reply.end) step × HasLines text (step_told name body.epoch step).lines in
@@ -95,7 +140,7 @@ module _ (hash : List ℕ → List ℕ) (accepted verified : List ℕ → List �
 
     -- ---- one monitor
 
-    module _ (monitor : Monitor) (owns : IsOwn hash accepted verified Given Own text chain marks monitor) where
+    module _ (monitor : Monitor) (owns : IsOwn hash accepted verified Given Own start text chain marks monitor) where
       own-up : Ascend monitor.client.chain.roots
       own-up = ascend-linked hash monitor.client.chain.roots owns.told.chain.linked
 
@@ -157,17 +202,21 @@ module _ (hash : List ℕ → List ℕ) (accepted verified : List ℕ → List �
 
         -- so it is told of each root of the client's from its first one on up to there
         tells-between : (epoch : ℕ) (first c : SignedRoot) → IsWatchedUpTo monitor epoch → IsFirst monitor.client.chain first → Contains chain.roots c → 0 < c.body.epoch → first.body.epoch ≤ c.body.epoch → c.body.epoch ≤ epoch
-            → TellsEpoch Given Own hash accepted text monitor.name c
+            → TellsEpoch Given Own (Counts start) hash accepted text monitor.name c
         tells-between epoch first c watched at has some low high =
             let both = ends monitor.client.chain.roots owns.told.chain.first in
             let up-to-head = watched-low epoch both.head watched both.at-head in
             let (own, there, same) = covers-chain hash verified chain is monitor.client.chain first both.head c owns.told.chain owns.own at both.at-head has low (omega (arith, high, up-to-head)) in
             let e : own.body.epoch ≡ c.body.epoch = ap (λ (b : Body). b.epoch) same in
             let was = all-watched epoch own watched there (omega (arith, e, high)) in
-            (monitor.watch, owns.expects, told-same text monitor.name monitor.watch own c same (owns.told.tells own (there, omega (arith, e, some), was)))
+            let told = told-same text monitor.name monitor.watch own c same (owns.told.tells own (there, omega (arith, e, some), was)) in (
+              expected monitor.watch c.body.epoch,
+              owner-expects Given Own start monitor.name first monitor.watch (owns.expects first at) c.body.epoch owns.told.is.ascends low,
+              told-key hash accepted text monitor.name monitor.watch c told,
+            )
 
         tells-least : (epoch above : ℕ) (c : SignedRoot) → IsWatchedUpTo monitor epoch → ((first : SignedRoot) → IsFirst monitor.client.chain first → IsLeastAbove chain above first)
-            → Contains chain.roots c → above < c.body.epoch → c.body.epoch ≤ epoch → TellsEpoch Given Own hash accepted text monitor.name c
+            → Contains chain.roots c → above < c.body.epoch → c.body.epoch ≤ epoch → TellsEpoch Given Own (Counts start) hash accepted text monitor.name c
         tells-least epoch above c watched least has low high =
             let both = ends monitor.client.chain.roots owns.told.chain.first in
             tells-between epoch both.first c watched both.at-first has (omega (arith, low)) (least both.first both.at-first c has low) high
@@ -176,37 +225,37 @@ module _ (hash : List ℕ → List ℕ) (accepted verified : List ℕ → List �
 
   -- those that new monitors begin
   pub begun-held : (text text' : List ℕ) (chain : KeyedRoots) (marks : List Mark) (monitors : List Monitor) (begun : List Monitor) (before after : List Mark)
-      → IsChain hash verified chain → AllByRecursion (IsOwn hash accepted verified Given Own text' chain marks) monitors → AllByRecursion (Contains monitors) begun → EachPuts IsBegun begun before after
-      → ((mark : Mark) → Contains before mark → IsHeld hash accepted verified Given Own text marks chain monitors mark)
-      → (mark : Mark) → Contains after mark → IsHeld hash accepted verified Given Own text marks chain monitors mark
+      → IsChain hash verified chain → AllByRecursion (IsOwn hash accepted verified Given Own start text' chain marks) monitors → AllByRecursion (Contains monitors) begun → EachPuts IsBegun begun before after
+      → ((mark : Mark) → Contains before mark → IsHeld hash accepted verified Given Own start text marks chain monitors mark)
+      → (mark : Mark) → Contains after mark → IsHeld hash accepted verified Given Own start text marks chain monitors mark
   begun-held text text' chain marks monitors begun before after is owns among puts =
-      each-keeps IsBegun (Contains monitors) (λ known. (mark : Mark) → Contains known mark → IsHeld hash accepted verified Given Own text marks chain monitors mark) keeps begun before after among puts
+      each-keeps IsBegun (Contains monitors) (λ known. (mark : Mark) → Contains known mark → IsHeld hash accepted verified Given Own start text marks chain monitors mark) keeps begun before after among puts
     where
-      new-held : (monitor : Monitor) → Contains monitors monitor → (old : List Mark) (new : Mark) → IsBegun monitor old new → IsHeld hash accepted verified Given Own text marks chain monitors new
+      new-held : (monitor : Monitor) → Contains monitors monitor → (old : List Mark) (new : Mark) → IsBegun monitor old new → IsHeld hash accepted verified Given Own start text marks chain monitors new
       new-held monitor has old new begins = record {
         low = inl (omega (arith, begins.empty));
         told = λ root there above below. absurd (omega (arith, begins.empty, above, below));
-        link = inr (monitor, has, sym begins.named, begins-behind text' chain marks is monitor (all-in (IsOwn hash accepted verified Given Own text' chain marks) monitors monitor owns has) new.epoch begins.behind);
+        link = inr (monitor, has, sym begins.named, begins-behind text' chain marks is monitor (all-in (IsOwn hash accepted verified Given Own start text' chain marks) monitors monitor owns has) new.epoch begins.behind);
       }
 
       keeps : (monitor : Monitor) → Contains monitors monitor → (old now : List Mark) (new : Mark) → IsBegun monitor old new → PutsMark new old now
-          → ((mark : Mark) → Contains old mark → IsHeld hash accepted verified Given Own text marks chain monitors mark) → (mark : Mark) → Contains now mark → IsHeld hash accepted verified Given Own text marks chain monitors mark
+          → ((mark : Mark) → Contains old mark → IsHeld hash accepted verified Given Own start text marks chain monitors mark) → (mark : Mark) → Contains now mark → IsHeld hash accepted verified Given Own start text marks chain monitors mark
       keeps monitor has old now new begins puts held mark there = elim (puts-from new old now puts mark there) [
         | inl older ↦ held mark older
-        | inr same ↦ subst (IsHeld hash accepted verified Given Own text marks chain monitors) (sym same) (new-held monitor has old new begins)
+        | inr same ↦ subst (IsHeld hash accepted verified Given Own start text marks chain monitors) (sym same) (new-held monitor has old new begins)
       ]
 
   -- those that move to where monitors have watched
   module _ (text : List ℕ) (chain : KeyedRoots) (marks : List Mark) (monitors : List Monitor) (is : IsChain hash verified chain) (formed : AllByRecursion IsSignedRoot chain.roots)
-      (owns : AllByRecursion (IsOwn hash accepted verified Given Own text chain marks) monitors) where
+      (owns : AllByRecursion (IsOwn hash accepted verified Given Own start text chain marks) monitors) where
     abbrev Held : Mark → Type 0
-    Held = IsHeld hash accepted verified Given Own text marks chain monitors
+    Held = IsHeld hash accepted verified Given Own start text marks chain monitors
 
-    own-of : (monitor : Monitor) → Contains monitors monitor → IsOwn hash accepted verified Given Own text chain marks monitor
-    own-of monitor has = all-in (IsOwn hash accepted verified Given Own text chain marks) monitors monitor owns has
+    own-of : (monitor : Monitor) → Contains monitors monitor → IsOwn hash accepted verified Given Own start text chain marks monitor
+    own-of monitor has = all-in (IsOwn hash accepted verified Given Own start text chain marks) monitors monitor owns has
 
     abbrev TellsName : List ℕ → SignedRoot → Type 0
-    TellsName name root = TellsEpoch Given Own hash accepted text name root ⊎ WasWatched marks name root
+    TellsName name root = TellsEpoch Given Own (Counts start) hash accepted text name root ⊎ WasWatched marks name root
 
     named : (one other : List ℕ) (root : SignedRoot) → one ≡ other → TellsName one root → TellsName other root
     named one other root same tells = subst (λ (name : List ℕ). TellsName name root) same tells
@@ -250,11 +299,11 @@ module _ (hash : List ℕ → List ℕ) (accepted verified : List ℕ → List �
         → ((mark : Mark) → Contains old mark → Held mark) → (mark : Mark) → Contains now mark → Held mark
     keeps-held monitor among old now new moves puts held mark there = elim (puts-from new old now puts mark there) [
       | inl older ↦ held mark older
-      | inr same ↦ subst (IsHeld hash accepted verified Given Own text marks chain monitors) (sym same) (moved-one monitor among old held new moves)
+      | inr same ↦ subst (IsHeld hash accepted verified Given Own start text marks chain monitors) (sym same) (moved-one monitor among old held new moves)
     ]
 
     pub moved-held : (some : List Monitor) (before after : List Mark) → AllByRecursion (Contains monitors) some → EachPuts (IsMoved monitors) some before after
-        → ((mark : Mark) → Contains before mark → IsHeld hash accepted verified Given Own text marks chain monitors mark)
-        → (mark : Mark) → Contains after mark → IsHeld hash accepted verified Given Own text marks chain monitors mark
+        → ((mark : Mark) → Contains before mark → IsHeld hash accepted verified Given Own start text marks chain monitors mark)
+        → (mark : Mark) → Contains after mark → IsHeld hash accepted verified Given Own start text marks chain monitors mark
     moved-held some before after among puts =
         each-keeps (IsMoved monitors) (Contains monitors) (λ known. (mark : Mark) → Contains known mark → Held mark) keeps-held some before after among puts

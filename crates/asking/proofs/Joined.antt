@@ -19,7 +19,9 @@ use Rattle.wire.specs.Requests.{RequestContent}
 use Rattle.asking.specs.declared.asker.Asker.{Asker}
 use Rattle.memory.specs.declared.mark.Mark.{Mark}
 use Rattle.asking.specs.declared.said.Said.{Said}
-use Rattle.asking.specs.Joining.{noted_for, AllHand, BeginsAt, WatchesNew, IsFirstAfter, IsJoined, IsLatest, IsUnwatched, StartsFrom}
+use Rattle.asking.specs.Joining.{noted_for, AllHand, BeginsAt, WatchesNew, IsFirstAfter, IsJoined, IsLatest, IsLeftToWatch, IsUnwatched, StartsFrom, watched_told}
+use Rattle.asking.specs.declared.joining.ToWatch.{ToWatch}
+use Rattle.asking.specs.declared.joining.ToWatch.TheVariants.{FromRoot, Nothing}
 use Rattle.asking.specs.Refused.{client_refuses}
 use Rattle.asking.specs.Scenes.{Scene, scene}
 use Rattle.asking.specs.Reports.{Report, Tells, report_of, told_after}
@@ -41,6 +43,11 @@ none-some root found none some = search (rules, sym none ∙ some)
 -- a chain that has no root after an epoch
 pub no_next : (chain : KeyedRoots) (epoch : ℕ) (found : Option SignedRoot) → ((root : SignedRoot) → (found ≡ Some root) ↔ IsNextAfter chain epoch root) → found ≡ None → IsFirstAfter chain epoch None
 no_next chain epoch found next none root after = none-some root found none ((next root).1 after)
+
+-- what is left for the marks behind one of another name
+pub left-behind : (chain : KeyedRoots) (name : List ℕ) (mark : Mark) (more : List Mark) (left : ToWatch) → mark.name ≢ name → IsLeftToWatch chain name more left → IsLeftToWatch chain name (mark ∷ more) left
+left-behind chain name mark more (FromRoot first) other unwatched = inr (other, unwatched)
+left-behind chain name mark more (Nothing epoch) other (unwatched, marked) = (inr (other, unwatched), inr (other, marked))
 
 -- which promises of this run count for a name
 module _ (marks : List Mark) (name : List ℕ) (noted : List SignedPromise) where
@@ -110,3 +117,16 @@ module _ {H V S T : Type 0} (hash : List ℕ → List ℕ) (accepted verified : 
     begins (Ok done) marks marks' middle after unwatched same begun tests =
         inr (first, unwatched, (middle, begun, subst (λ (all : Vec Mark Global). TestsAll hash accepted exchanged all.items middle after) same tests))
     begins (Err fault) marks marks' middle after unwatched same begun tests = tt
+
+  module _ (key : List ℕ) (promised : List SignedPromise) (name : List ℕ) (given : Option (List ℕ)) (asker : Asker H V S) (said said' : Said) (stream : T) where
+    -- all was watched, which was told
+    pub begins_not : (marks : List Mark) (epoch : ℕ) → IsLeftToWatch asker.client.chain name marks (Nothing epoch) → Tells said (watched_told name epoch) said'
+        → WatchesNew hash accepted verified exchanged marks key promised name given (scene asker said stream) (scene asker said' stream)
+    begins_not marks epoch (unwatched, marked) tells = inl (
+      unwatched,
+      (
+        epoch,
+        marked,
+        scene_of asker.client asker.client asker.monitors.items asker.monitors.items (report_of said') (told_after (report_of said) (watched_told name epoch)) stream refl refl (told_onto said said' (watched_told name epoch) tells),
+      ),
+    )

@@ -1,14 +1,14 @@
 -- What files keep told stays so when roots are added, when more is remembered, and when more is written.
-use Rattle.std.proofs.Common.{◌≡◌, ◌∙◌, ◌⊎◌, ℕ, ◌<◌, ◌≤◌, List, [], ◌++◌, Contains, Option, ap, append-nil, append_assoc, arith, inl, inr, refl, sym}
+use Rattle.std.proofs.Common.{◌≡◌, ◌∙◌, ◌⊎◌, ℕ, ◌<◌, ◌≤◌, List, [], ◌++◌, Contains, Option, ap, append-nil, append_assoc, arith, inl, inr, refl, subst, sym}
 use Rattle.std.specs.List.{AllByRecursion}
 use Rattle.std.proofs.lemmas.List.Elements.{All-contains, All-from_recursion, Contains-append_cases}
 use Rattle.rootchain.specs.declared.signed_promise.SignedPromise.{SignedPromise}
 use Rattle.rootchain.specs.declared.signed_root.SignedRoot.{SignedRoot}
 use Rattle.memory.specs.Memories.{Memory}
 use Rattle.memory.specs.declared.mark.Mark.{Mark}
-use Rattle.asking.specs.Saves.{HasMark, KeepsTold, Stored, WasOwn, WasStored}
+use Rattle.asking.specs.Saves.{Counts, Found, HasMark, KeepsTold, WasOwn, WasStored}
 use Rattle.asking.specs.Told.{TellsEpoch}
-use Rattle.asking.proofs.Told.{told-at_more}
+use Rattle.asking.proofs.Told.{epoch-more}
 
 -- a mark of which nothing was watched, or nothing above an epoch, has none of these roots
 none-new : (mark : Mark) (bound epoch : ℕ) → (mark.epoch ≤ mark.since) ⊎ (mark.epoch ≤ bound) → bound < epoch → mark.since < epoch → epoch ≤ mark.epoch → ⊥
@@ -16,18 +16,18 @@ none-new mark bound epoch (inl none) new above below = omega (arith, none, above
 none-new mark bound epoch (inr low) new above below = omega (arith, low, new, below)
 
 module _ (hash : List ℕ → List ℕ) (accepted : List ℕ → List ℕ → List ℕ → Type 0) (Given : List ℕ → Option (List ℕ) → Type 0) (Own Asked : SignedPromise → Type 0) where
-  abbrev Keeps : Stored → List ℕ → Stored → Type 0
+  abbrev Keeps : Found → List ℕ → Found → Type 0
   Keeps = KeepsTold hash accepted Given Own Asked
 
   -- what is told of a root or was watched before
-  abbrev pub IsToldOrStored : Stored → List ℕ → List ℕ → SignedRoot → Type 0
-  IsToldOrStored start text name root = TellsEpoch Given Own hash accepted text name root ⊎ WasStored start name root
+  abbrev pub IsToldOrStored : Found → List ℕ → List ℕ → SignedRoot → Type 0
+  IsToldOrStored start text name root = TellsEpoch Given Own (Counts start.known) hash accepted text name root ⊎ WasStored start name root
 
-  pub told-more : (start : Stored) (text more name : List ℕ) (root : SignedRoot) → IsToldOrStored start text name root → IsToldOrStored start (text ++ more) name root
-  told-more start text more name root (inl (watch, owners, told)) = inl (watch, owners, told-at_more hash accepted text more name watch root told)
+  pub told-more : (start : Found) (text more name : List ℕ) (root : SignedRoot) → IsToldOrStored start text name root → IsToldOrStored start (text ++ more) name root
+  told-more start text more name root (inl tells) = inl (epoch-more Given Own (Counts start.known) hash accepted text more name root tells)
   told-more start text more name root (inr stored) = inr stored
 
-  pub keeps-told : (start : Stored) (text : List ℕ) (roots more : List SignedRoot) (known : Memory) → roots ≡ start.roots ++ more
+  pub keeps-told : (start : Found) (text : List ℕ) (roots more : List SignedRoot) (known : Memory) → roots ≡ start.roots ++ more
       → ((old : Mark) → Contains start.known.marks old → HasMark known.marks old)
       → ((mark : Mark) → Contains known.marks mark → (root : SignedRoot) → Contains roots root → mark.since < root.body.epoch → root.body.epoch ≤ mark.epoch → IsToldOrStored start text mark.name root)
       → ((signed : SignedPromise) → WasOwn known signed → WasOwn start.known signed ⊎ Asked signed)
@@ -35,15 +35,15 @@ module _ (hash : List ℕ → List ℕ) (accepted : List ℕ → List ℕ → Li
   keeps-told start text roots more known grown stays told own = record { grows = (more, grown); stays = stays; told = told; own = own }
 
   -- what a run loads is so at once
-  pub loads-kept : (start : Stored) (text : List ℕ) → KeepsTold hash accepted Given Own Asked start text start
-  loads-kept start text = record {
-    grows = ([], sym (append-nil start.roots));
+  pub loads-kept : (start : Found) (text : List ℕ) (roots : List SignedRoot) → roots ≡ start.roots → KeepsTold hash accepted Given Own Asked start text (record { roots = roots; known = start.known })
+  loads-kept start text roots same = record {
+    grows = ([], same ∙ sym (append-nil start.roots));
     stays = λ old has. (old, has, refl, omega arith);
-    told = λ mark has root among above below. inr (among, (mark, has, refl, above, below));
+    told = λ mark has root among above below. inr (subst (λ (rs : List SignedRoot). Contains rs root) same among, (mark, has, refl, above, below));
     own = λ signed was. inl was;
   }
 
-  module _ (start : Stored) (text : List ℕ) (stored : Stored) (keeps : KeepsTold hash accepted Given Own Asked start text stored) where
+  module _ (start : Found) (text : List ℕ) (stored : Found) (keeps : KeepsTold hash accepted Given Own Asked start text stored) where
     -- new roots are of later epochs than the marks
     pub adds-roots-kept : (more : List SignedRoot) (bound : ℕ) → AllByRecursion (λ (root : SignedRoot). bound < root.body.epoch) more
         → ((mark : Mark) → Contains stored.known.marks mark → (mark.epoch ≤ mark.since) ⊎ (mark.epoch ≤ bound))

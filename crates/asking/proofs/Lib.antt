@@ -2,6 +2,8 @@ pub mod Adding
 pub mod Asked
 pub mod AskedOwn
 pub mod Begun
+pub mod Caught
+pub mod ChainRoots
 pub mod Earlier
 pub mod Remembered
 pub mod Keeping
@@ -11,6 +13,7 @@ pub mod Going
 pub mod Halted
 pub mod Handed
 pub mod Heard
+pub mod HonestRoots
 pub mod Joined
 pub mod Left
 pub mod Listed
@@ -31,6 +34,7 @@ pub mod StateRuns
 pub mod RunSteps
 pub mod Saving
 pub mod OwnedRoots
+pub mod JoinedChanges
 pub mod OwnedMonitors
 pub mod OwnedMarks
 pub mod OwnedScenes

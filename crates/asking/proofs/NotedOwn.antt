@@ -1,6 +1,6 @@
 -- The client stays with its provider, and each promise that is noted is one that the provider signed for a change that was
 -- asked for.
-use Rattle.std.proofs.Common.{◌≡◌, ◌∙◌, ◌⊎◌, ◌-◌, ℕ, List, [], ◌∷◌, ◌++◌, length, Some, Result, Ok, Err, ap, ap₂, arith, inl, inr, refl, subst, sym}
+use Rattle.std.proofs.Common.{◌≡◌, ◌∙◌, ◌⊎◌, ◌-◌, ◌<◌, ℕ, List, [], ◌∷◌, ◌++◌, length, Some, Result, Ok, Err, ap, ap₂, arith, inl, inr, refl, subst, sym}
 use Rattle.std.proofs.lemmas.List.{get_or_push, length_push}
 use Rattle.std.proofs.lemmas.Option.{get_or_from_slice_get}
 use Rattle.std.specs.Prelude.{slice_get, ⊤}
@@ -47,33 +47,33 @@ module _ (hash : List ℕ → List ℕ) (accepted verified : List ℕ → List �
   -- a change of a name to a key is asked for
   module _ (held : ℕ) (before after : Client) (told : Report) (verb : Verb) (name key : List ℕ) where
     -- the client has the promises that it had, or one more, which is signed for this
-    abbrev HasPromised : Type 0
-    HasPromised = (after.promises ≡ before.promises)
-        ⊎ ((signed : SignedPromise) × IsSignedBy verified before.chain.key signed × (signed.promise.name ≡ name) × (signed.promise.key ≡ key) × (after.promises ≡ before.promises ++ signed ∷ []))
+    abbrev HasPromised : List ℕ → Type 0
+    HasPromised body = (after.promises ≡ before.promises)
+        ⊎ ((signed : SignedPromise) × IsSignedBy verified before.chain.key signed × (signed.promise.name ≡ name) × (signed.promise.key ≡ key) × SpellsPromise body signed × (after.promises ≡ before.promises ++ signed ∷ []))
 
-    stays : after ≡ before → HasPromised
-    stays same = inl (ap (λ (c : Client). c.promises) same)
+    stays : (body : List ℕ) → after ≡ before → HasPromised body
+    stays body same = inl (ap (λ (c : Client). c.promises) same)
 
-    keeps-promised : (body : List ℕ) (given : SignedPromise) → SpellsPromise body given → (given.promise.name ≡ name) × (given.promise.key ≡ key) → (answer : Result (Unit {0}) Refusal) → KeepsPromise hash verified before body answer after → HasPromised
+    keeps-promised : (body : List ℕ) (given : SignedPromise) → SpellsPromise body given → (given.promise.name ≡ name) × (given.promise.key ≡ key) → (answer : Result (Unit {0}) Refusal) → KeepsPromise hash verified before body answer after → HasPromised body
     keeps-promised body given spelled (named, keyed) (Ok done) (signed, ((spells, verifies), rooted), same) =
         let one : signed ≡ given = one-promise body signed given spells spelled in
-        inr (signed, (spells.1, verifies), ap (λ (s : SignedPromise). s.promise.name) one ∙ named, ap (λ (s : SignedPromise). s.promise.key) one ∙ keyed, ap (λ (c : Client). c.promises) same)
-    keeps-promised body given spelled answers (Err why) keeps = stays (keeps_same hash verified before after body why keeps)
+        inr (signed, (spells.1, verifies), ap (λ (s : SignedPromise). s.promise.name) one ∙ named, ap (λ (s : SignedPromise). s.promise.key) one ∙ keyed, spells, ap (λ (c : Client). c.promises) same)
+    keeps-promised body given spelled answers (Err why) keeps = stays body (keeps_same hash verified before after body why keeps)
 
-    hears-promised : (frame : Frame) (responded : ResponseContent) → Responds frame.kind frame.body responded → HearsResponse hash accepted verified held before frame.body (Put verb name key) responded told after → HasPromised
-    hears-promised frame (Refused code) is (tells, same) = stays same
-    hears-promised frame (Promise signed) is (inl (not, tells, same)) = stays same
+    hears-promised : (frame : Frame) (responded : ResponseContent) → Responds frame.kind frame.body responded → HearsResponse hash accepted verified held before frame.body (Put verb name key) responded told after → HasPromised frame.body
+    hears-promised frame (Refused code) is (tells, same) = stays frame.body same
+    hears-promised frame (Promise signed) is (inl (not, tells, same)) = stays frame.body same
     hears-promised frame (Promise signed) (kind, spells) (inr ((answers, timely), (answer, (keeps, tellable), tells))) = keeps-promised frame.body signed spells answers answer keeps
-    hears-promised frame (Proof reply) is (inl (not, tells, same)) = stays same
+    hears-promised frame (Proof reply) is (inl (not, tells, same)) = stays frame.body same
     hears-promised frame (Proof reply) is (inr (answers, checked)) = absurd answers.0
-    hears-promised frame (Roots roots) is (inl (not, tells, same)) = stays same
+    hears-promised frame (Roots roots) is (inl (not, tells, same)) = stays frame.body same
     hears-promised frame (Roots roots) is (inr (answers, checked)) = absurd answers.0
-    hears-promised frame (Root latest) is (inl (not, tells, same)) = stays same
+    hears-promised frame (Root latest) is (inl (not, tells, same)) = stays frame.body same
     hears-promised frame (Root latest) is (inr (answers, checked)) = absurd answers.0
 
-    frame-promised : (frame : Frame) → HearsFrame hash accepted verified held before (Put verb name key) frame told after → HasPromised
+    frame-promised : (frame : Frame) → HearsFrame hash accepted verified held before (Put verb name key) frame told after → HasPromised frame.body
     frame-promised frame (inl (responded, responds, hears)) = hears-promised frame responded responds hears
-    frame-promised frame (inr (why, reads, tells, same)) = stays same
+    frame-promised frame (inr (why, reads, tells, same)) = stays frame.body same
 
   -- what is noted behind a frame
   noted-own : (held : ℕ) (asked : RequestContent) (frame : Frame) (told : Report) (before after : Client) (noted noted' : List SignedPromise) → HearsFrame hash accepted verified held before asked frame told after
@@ -83,9 +83,18 @@ module _ (hash : List ℕ → List ℕ) (accepted verified : List ℕ → List �
   noted-own held (Put verb name key) frame told before after noted noted' hears (inl (few, same)) = inl same
   noted-own held (Put verb name key) frame told before after noted noted' hears (inr (more, (last, at, is))) = elim (frame-promised held before after told verb name key frame hears) [
     | inl same ↦ absurd (omega (arith, ap (λ (ps : List SignedPromise). length ps) same, more))
-    | inr (signed, own, named, keyed, grown) ↦
+    | inr (signed, own, named, keyed, spelled, grown) ↦
         let one : signed ≡ last = last-is before.promises signed last (subst (λ (ps : List SignedPromise). slice_get ps (length ps - 1) ≡ Some last) grown at) in
         inr (signed, own, (verb, ap₂ (λ (n k : List ℕ). Ask (Put verb n k)) (sym named) (sym keyed)), is ∙ ap (λ (s : SignedPromise). noted ++ s ∷ []) (sym one))
+  ]
+
+  -- a promise that the client has now as its last is spelled by the frame
+  pub last-spelled : (held : ℕ) (verb : Verb) (name key : List ℕ) (frame : Frame) (told : Report) (before after : Client) (last : SignedPromise) → HearsFrame hash accepted verified held before (Put verb name key) frame told after
+      → length before.promises < length after.promises → slice_get after.promises (length after.promises - 1) ≡ Some last → SpellsPromise frame.body last
+  last-spelled held verb name key frame told before after last hears more at = elim (frame-promised held before after told verb name key frame hears) [
+    | inl same ↦ absurd (omega (arith, ap (λ (ps : List SignedPromise). length ps) same, more))
+    | inr (signed, own, named, keyed, spelled, grown) ↦
+        subst (SpellsPromise frame.body) (last-is before.promises signed last (subst (λ (ps : List SignedPromise). slice_get ps (length ps - 1) ≡ Some last) grown at)) spelled
   ]
 
   stopped-key : (asked : RequestContent) (client : Client) (before : List Monitor) (frame : Frame) (told : Report) (client' : Client) (after : List Monitor)
@@ -104,7 +113,7 @@ module _ (hash : List ℕ → List ℕ) (accepted verified : List ℕ → List �
     heard-key : (before after : Scene T) (held : ℕ) (asked : RequestContent) (frame : Frame) (told : Report) → HearsFrame hash accepted verified held before.client asked frame told after.client → SameKey before after
     heard-key before after held asked frame told hears = ap (λ (c : _). c.key) (frame-chain hash accepted verified held before.client after.client asked frame told hears)
 
-    each-key : (marks : List Mark) → EachKeeps hash accepted verified exchanged marks (λ noted. ⊤) (λ promised name given. ⊤) SameKey
+    each-key : (marks : List Mark) → EachKeeps hash accepted verified exchanged marks (λ noted. ⊤) (λ key promised name given. ⊤) SameKey
     each-key marks = record {
       none = λ before. refl;
       both = λ before middle after one other. other ∙ one;

@@ -8,13 +8,15 @@ use Rattle.rootchain.specs.declared.signed_promise.SignedPromise.{SignedPromise}
 use Rattle.rootchain.specs.declared.signed_root.SignedRoot.{SignedRoot}
 use Rattle.client.specs.Clients.{Client}
 use Rattle.client.proofs.Unlikes.{is-among}
+use Rattle.memory.specs.Memories.{Memory}
 use Rattle.memory.specs.declared.mark.Mark.{Mark}
 use Rattle.monitor.specs.Monitors.{Monitor}
 use Rattle.asking.specs.Following.{MonitorUpdates}
 use Rattle.asking.specs.Owning.{HasJoined, IsHeld}
+use Rattle.asking.specs.Saves.{Counts}
 use Rattle.asking.proofs.OwnedMonitors.{own-first, Owned}
 use Rattle.asking.proofs.OwnedRoots.{all-has, has-cases, least-grown, taken-first, HasGrown}
-use Rattle.asking.proofs.Told.{told-at_more}
+use Rattle.asking.proofs.Told.{epoch-more}
 
 -- ---- monitors that go on
 
@@ -65,23 +67,23 @@ going (first ∷ before) (first' ∷ after) monitor all has = elim (has-cases fi
 
 -- ---- marks
 
-module _ (hash : List ℕ → List ℕ) (accepted verified : List ℕ → List ℕ → List ℕ → Type 0) (Given : List ℕ → Option (List ℕ) → Type 0) (Own : SignedPromise → Type 0) (marks : List Mark) where
+module _ (hash : List ℕ → List ℕ) (accepted verified : List ℕ → List ℕ → List ℕ → Type 0) (Given : List ℕ → Option (List ℕ) → Type 0) (Own : SignedPromise → Type 0) (start : Memory) (marks : List Mark) where
   abbrev Held : List ℕ → KeyedRoots → List Monitor → Mark → Type 0
-  Held text chain monitors mark = IsHeld hash accepted verified Given Own text marks chain monitors mark
+  Held text chain monitors mark = IsHeld hash accepted verified Given Own start text marks chain monitors mark
 
-  joined-grown : (text : List ℕ) (chain chain' : KeyedRoots) (before after : List Monitor) (mark : Mark) → HasGrown chain chain' → AllByRecursion (Owned hash accepted verified Given Own text chain marks) before → AllGo before after
+  joined-grown : (text : List ℕ) (chain chain' : KeyedRoots) (before after : List Monitor) (mark : Mark) → HasGrown chain chain' → AllByRecursion (Owned hash accepted verified Given Own start text chain marks) before → AllGo before after
       → HasJoined chain before mark → HasJoined chain' after mark
   joined-grown text chain chain' before after mark grows all go (monitor, has, named, least) =
-      let own = all-has (Owned hash accepted verified Given Own text chain marks) before monitor all has in
+      let own = all-has (Owned hash accepted verified Given Own start text chain marks) before monitor all has in
       let (other, there, same) = going before after monitor go has in (
         other,
         there,
         same.0 ∙ named,
         λ first at. let at' = same.1 first at in
-            least-grown chain chain' mark.epoch first grows (own-first hash accepted verified Given Own text chain marks monitor first own at') (least first at'),
+            least-grown chain chain' mark.epoch first grows (own-first hash accepted verified Given Own start text chain marks monitor first own at') (least first at'),
       )
 
-  pub held-grown : (now text : List ℕ) (chain chain' : KeyedRoots) (before after : List Monitor) (mark : Mark) → HasGrown chain chain' → AllByRecursion (Owned hash accepted verified Given Own now chain marks) before → AllGo before after
+  pub held-grown : (now text : List ℕ) (chain chain' : KeyedRoots) (before after : List Monitor) (mark : Mark) → HasGrown chain chain' → AllByRecursion (Owned hash accepted verified Given Own start now chain marks) before → AllGo before after
       → Held text chain before mark → Held text chain' after mark
   held-grown now text chain chain' before after mark grows all go is = record {
     low = elim is.low [
@@ -108,7 +110,7 @@ module _ (hash : List ℕ → List ℕ) (accepted verified : List ℕ → List �
   held-more text more chain monitors mark is = record {
     low = is.low;
     told = λ root has above low. elim (is.told root has above low) [
-      | inl (watch, owners, told) ↦ inl (watch, owners, told-at_more hash accepted text more mark.name watch root told)
+      | inl tells ↦ inl (epoch-more Given Own (Counts start) hash accepted text more mark.name root tells)
       | inr watched ↦ inr watched
     ];
     link = is.link;

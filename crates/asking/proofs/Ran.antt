@@ -113,7 +113,7 @@ passed-key : (hash : List ℕ → List ℕ) (verified : List ℕ → List ℕ �
 passed-key hash verified chain root after (verifies, inl (background, same)) = ap (λ (c : KeyedRoots). c.key) same
 passed-key hash verified chain root after (verifies, inr (next, same)) = ap (λ (c : KeyedRoots). c.key) same
 
-taken-key : (hash : List ℕ → List ℕ) (verified : List ℕ → List ℕ → List ℕ → Type 0) (chain : KeyedRoots) (roots : List SignedRoot) (after : KeyedRoots) → Takes hash verified chain roots after → after.key ≡ chain.key
+pub taken-key : (hash : List ℕ → List ℕ) (verified : List ℕ → List ℕ → List ℕ → Type 0) (chain : KeyedRoots) (roots : List SignedRoot) (after : KeyedRoots) → Takes hash verified chain roots after → after.key ≡ chain.key
 taken-key hash verified chain [] after same = ap (λ (c : KeyedRoots). c.key) same
 taken-key hash verified chain (root ∷ roots) after (middle, passes, more) = taken-key hash verified middle roots after more ∙ passed-key hash verified chain root middle passes
 

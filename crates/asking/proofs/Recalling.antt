@@ -65,7 +65,7 @@ module _ {H V S T : Type 0} (hash : List ℕ → List ℕ) (accepted verified : 
     halts_recalled (Ok done) asker last said middle said' stream told halts = tt
     halts_recalled (Err fault) asker last said middle said' stream (again, alarms, tells) (reached, watches, halts) =
         let here = subst (λ (s : Scene T). WatchesSome hash accepted verified exchanged marks key promised name given s reached) (recalled-is asker said middle stream again tells) watches in
-        (reached, inr (again, alarms, inr here), halts)
+        (reached, inr (again, alarms, here), halts)
 
     pub halts_unrecalled : (asker : Asker H V S) (said said' : Said) (stream : T) → report_of said' ≡ report_of said
         → HaltsAfter (BeginsSome hash accepted verified exchanged known marks key promised name given (scene asker said stream)) OutOfMemory asker said'

@@ -1,5 +1,5 @@
 -- What lines of earlier runs have of the owner's own changes.
-use Rattle.std.proofs.Common.{◌≡◌, ◌∙◌, ℕ, ◌+◌, ◌||◌, Bool, true, false, List, [], ◌∷◌, ◌++◌, Contains, Result, Ok, Err, refl, sym, ap, arith, inl, inr, subst, append_assoc, append-nil}
+use Rattle.std.proofs.Common.{◌≡◌, ◌∙◌, ◌⊎◌, ℕ, ◌+◌, ◌||◌, Bool, true, false, List, [], ◌∷◌, ◌++◌, Contains, Result, Ok, Err, refl, sym, ap, arith, inl, inr, subst, append_assoc, append-nil}
 use Rattle.std.proofs.lemmas.List.Elements.{Contains-append_cases, Contains-append_left, Contains-append_right, Contains-push, Contains-push_cases}
 use Rattle.textio.specs.Lines.{lines_of}
 use Rattle.std.specs.Prelude.{if◌then◌else◌}
@@ -18,8 +18,9 @@ use Rattle.memory.proofs.OneItem.{one_item}
 use Rattle.memory.proofs.OneMemory.{one_memory}
 use Rattle.asking.specs.Remembering.{own_of, AreOwnOf, IsOwnOf}
 use Rattle.asking.specs.Runs.{IsSameAsker}
-use Rattle.asking.specs.Saves.{WasOwn}
+use Rattle.asking.specs.Saves.{AreEarlier, WasOwn}
 use Rattle.asking.specs.declared.asker.Asker.{Asker}
+use Rattle.asking.proofs.AskedOwn.{takes-one}
 
 -- one line more
 pub own-more : (done : List (List ℕ)) (line : List ℕ) (own one : List SignedPromise) → AreOwnOf done own → IsOwnOf line one → AreOwnOf (done ++ line ∷ []) (own ++ one)
@@ -163,6 +164,54 @@ recalls-own number ((byte ∷ line) ∷ lines) before memory own (inl (item, aft
     subst (AllByRecursion (WasOwn memory)) (sym whole) (own-append memory first rest first-own (recalls-own (number + 1) lines after memory rest recalls more))
 recalls-own number ((byte ∷ line) ∷ lines) before memory own (inr (none, is)) are = absurd (none-read memory _ is)
 
+-- ---- and no other is
+
+one-more : (is_own : Bool) (signed other : SignedPromise) → is_own ≡ true → signed ≡ other → Contains (if is_own then signed ∷ [] else []) other
+one-more true signed other is same = (0, omega arith, same)
+one-more false signed other is same = cc
+
+same-promises : (before after : Memory) (signed : SignedPromise) → after.promises ≡ before.promises → WasOwn after signed → WasOwn before signed
+same-promises before after signed same (promised, has, this, own) = (promised, subst (λ (all : List PromisedMade). Contains all promised) same has, this, own)
+
+item-from : (item : Item) (before after : Memory) (signed : SignedPromise) → Takes item before after → WasOwn after signed → WasOwn before signed ⊎ Contains (own_of item) signed
+item-from (Promised new) before after signed takes was = elim (takes-one new.is_own new.signed before after takes signed was) [
+  | inl old ↦ inl old
+  | inr (own, same) ↦ inr (one-more new.is_own new.signed signed own same)
+]
+item-from (Watched mark) before after signed (puts, is) was = inl (same-promises before after signed (ap (λ (m : Memory). m.promises) is) was)
+item-from (Alarm alarm) before after signed (puts, is) was = inl (same-promises before after signed (ap (λ (m : Memory). m.promises) is) was)
+item-from (Evidence line) before after signed (puts, is) was = inl (same-promises before after signed (ap (λ (m : Memory). m.promises) is) was)
+
+recalls-from : (number : ℕ) (lines : List (List ℕ)) (before memory : Memory) (own : List SignedPromise) (signed : SignedPromise) → Recalls number lines before (Ok memory) → AreOwnOf lines own → WasOwn memory signed → WasOwn before signed ⊎ Contains own signed
+recalls-from number [] before memory own signed is none was = inl (subst (λ (m : Memory). WasOwn m signed) (one-read memory before is) was)
+recalls-from number ([] ∷ lines) before memory own signed recalls (first, rest, none, more, whole) was = elim (recalls-from (number + 1) lines before memory rest signed recalls more was) [
+  | inl old ↦ inl old
+  | inr has ↦ inr (subst (λ (all : List SignedPromise). Contains all signed) (sym whole) (Contains-append_right first rest signed has))
+]
+recalls-from number ((byte ∷ line) ∷ lines) before memory own signed (inl (item, after, is, takes, recalls)) (first, rest, (read, also, here), more, whole) was =
+    let one : first ≡ own_of item = here ∙ ap own_of (one_item (byte ∷ line) read item also is) in
+    elim (recalls-from (number + 1) lines after memory rest signed recalls more was) [
+      | inr has ↦ inr (subst (λ (all : List SignedPromise). Contains all signed) (sym whole) (Contains-append_right first rest signed has))
+      | inl there ↦ elim (item-from item before after signed takes there) [
+        | inl old ↦ inl old
+        | inr new ↦ inr (subst (λ (all : List SignedPromise). Contains all signed) (sym whole) (Contains-append_left first rest signed (subst (λ (all : List SignedPromise). Contains all signed) (sym one) new)))
+      ]
+    ]
+recalls-from number ((byte ∷ line) ∷ lines) before memory own signed (inr (none, is)) are was = absurd (none-read memory _ is)
+
+-- nothing has no promise
+none-own : (signed : SignedPromise) → WasOwn nothing signed → ⊥
+none-own signed (promised, has, this, own) = omega (arith, has.1)
+
+-- what was remembered as the owner's own is what was read
 pub remembered_own : (text : List ℕ) (memory : Memory) (before after : List SignedPromise) → Spells text (Ok memory) → (own : List SignedPromise) × AreOwnOf (lines_of text) own × (after ≡ before ++ own)
-    → AllByRecursion (WasOwn memory) before → AllByRecursion (WasOwn memory) after
-remembered_own text memory before after spells (own, are, grown) all = subst (AllByRecursion (WasOwn memory)) (sym grown) (own-append memory before own all (recalls-own 1 (lines_of text) nothing memory own spells are))
+    → before ≡ [] → AreEarlier memory after
+remembered_own text memory before after spells (own, are, grown) empty =
+    let all : after ≡ own = grown ∙ ap (λ (xs : List SignedPromise). xs ++ own) empty in
+    subst (AreEarlier memory) (sym all) (record {
+      were = recalls-own 1 (lines_of text) nothing memory own spells are;
+      all = λ signed was. elim (recalls-from 1 (lines_of text) nothing memory own signed spells are was) [
+        | inl none ↦ absurd (none-own signed none)
+        | inr has ↦ has
+      ];
+    })

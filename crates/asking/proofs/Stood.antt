@@ -1,5 +1,5 @@
 -- How what a run keeps stays told, act by act.
-use Rattle.std.proofs.Common.{◌≡◌, ◌∙◌, ◌⊎◌, ℕ, suc, ◌<◌, ◌≤◌, Bool, true, false, List, [], ◌∷◌, ◌++◌, Contains, Option, Some, ap, append-nil, append_assoc, arith, inl, inr, refl, subst, sym}
+use Rattle.std.proofs.Common.{◌≡◌, ◌∙◌, ◌⊎◌, ℕ, suc, ◌<◌, ◌≤◌, Bool, true, false, List, [], ◌∷◌, ◌++◌, Contains, Option, Some, Ok, ap, append-nil, append_assoc, arith, inl, inr, refl, subst, sym}
 use Rattle.std.specs.Prelude.{if◌then◌else◌, nat_lt}
 use Rattle.std.specs.List.{AllByRecursion}
 use Rattle.std.proofs.lemmas.Bool.{ltb-true}
@@ -8,11 +8,15 @@ use Rattle.rootchain.specs.declared.signed_promise.SignedPromise.{SignedPromise}
 use Rattle.rootchain.specs.declared.signed_root.SignedRoot.{SignedRoot}
 use Rattle.client.specs.Clients.{Client}
 use Rattle.memory.specs.Memories.{Memory}
+use Rattle.memory.specs.Texts.{items_text, Spells, TakesAll}
+use Rattle.memory.specs.declared.item.Item.{Item}
 use Rattle.memory.specs.declared.mark.Mark.{Mark}
 use Rattle.memory.specs.declared.promised.Promised.{Promised}
+use Rattle.memory.proofs.Taken.{taken-append, unchanged-taken}
+use Rattle.memory.proofs.WholeLines.{spells-more, whole-more}
 use Rattle.monitor.specs.Monitors.{Monitor}
 use Rattle.asking.specs.Owning.{IsHeld, IsOwn, Owns, WasWatched}
-use Rattle.asking.specs.Saves.{roots_above, stored_after, Act, AddsRoots, IsAsked, IsAskedChange, IsOwnPromise, KeepsTold, Remembers, Stored, WasOwn, WasStored}
+use Rattle.asking.specs.Saves.{found_in, roots_above, stored_after, Act, AddsLines, AddsRoots, Counts, Found, IsAsked, IsAskedChange, IsOwnPromise, KeepsTold, WasOwn, WasStored}
 use Rattle.asking.specs.Scenes.{Scene}
 use Rattle.asking.specs.Standing.{standing, Fits, IsKept, IsUpTo, KeepsMarks, Stands}
 use Rattle.asking.specs.Told.{TellsEpoch}
@@ -71,24 +75,25 @@ asked-then lines start before after own old signed was = elim (own signed was) [
 pub unchanged-own : (lines : Option (List (List ℕ))) (start before after : Memory) → after.promises ≡ before.promises → OwnAsked lines start before after
 unchanged-own lines start before after same signed (promised, has, this, own) = inl (promised, subst (λ (all : List Promised). Contains all promised) same has, this, own)
 
-module _ (hash : List ℕ → List ℕ) (accepted verified : List ℕ → List ℕ → List ℕ → Type 0) (lines : Option (List (List ℕ))) (key : List ℕ) (start : Stored) (old : List ℕ) where
-  abbrev Kept : (List Act → Type 0) → ℕ → Memory → Option (List ℕ) → Type 0
-  Kept = IsKept hash accepted verified lines key start old
-
-  abbrev Told : List ℕ → Stored → Type 0
+module _ (hash : List ℕ → List ℕ) (accepted verified : List ℕ → List ℕ → List ℕ → Type 0) (lines : Option (List (List ℕ))) (key : List ℕ) (start : Found) (old : List ℕ) where
+  abbrev Told : List ℕ → Found → Type 0
   Told = KeepsTold hash accepted (IsAsked lines) (IsOwnPromise verified key lines start.known) (IsAskedChange lines) start
 
-  module _ (Happened : List Act → Type 0) (epoch : ℕ) (known : Memory) (out : Option (List ℕ)) (kept : IsKept hash accepted verified lines key start old Happened epoch known out) where
+  module _ (Happened : List Act → Type 0) (epoch : ℕ) (known : Memory) (unsaved : List Item) (out : Option (List ℕ)) (kept : IsKept hash accepted verified lines key start old Happened epoch known unsaved out) where
     -- more is learned, and no mark moves
-    abbrev pub kept-known : (known' : Memory) → KeepsMarks known known' → OwnAsked lines start.known known known' → IsKept hash accepted verified lines key start old Happened epoch known' out
-    kept-known known' marks own = record {
+    abbrev pub kept-known : (known' : Memory) (news : List Item) → TakesAll news known known' → KeepsMarks known known' → OwnAsked lines start.known known known' → IsKept hash accepted verified lines key start old Happened epoch known' (unsaved ++ news) out
+    kept-known known' news takes marks own = record {
       acts = kept.acts;
       happened = kept.happened;
       text = kept.text;
       is-out = kept.is-out;
       all = kept.all;
+      saved = kept.saved;
+      whole = kept.whole;
+      spells = kept.spells;
+      ahead = taken-append unsaved news kept.saved known known' kept.ahead takes;
       now = kept.now;
-      next = remembers-kept hash accepted (IsAsked lines) (IsOwnPromise verified key lines start.known) (IsAskedChange lines) start kept.text (record { roots = (stored_after kept.acts).roots; known = known }) kept.next known' marks.known
+      next = remembers-kept hash accepted (IsAsked lines) (IsOwnPromise verified key lines start.known) (IsAskedChange lines) start kept.text (found_in (stored_after kept.acts) known) kept.next known' marks.known
           (λ mark has. let (one, there, named, low) = kept.next.stays mark has in (one, marks.still one there, named, low))
           (asked-then lines start.known known known' own kept.next.own);
       early = kept.early;
@@ -103,15 +108,19 @@ module _ (hash : List ℕ → List ℕ) (accepted verified : List ℕ → List �
     }
 
     -- more is written
-    abbrev pub kept-out : (out' : Option (List ℕ)) (more : List ℕ) → out' ≡ Some ((old ++ kept.text) ++ more) → IsKept hash accepted verified lines key start old Happened epoch known out'
+    abbrev pub kept-out : (out' : Option (List ℕ)) (more : List ℕ) → out' ≡ Some ((old ++ kept.text) ++ more) → IsKept hash accepted verified lines key start old Happened epoch known unsaved out'
     kept-out out' more is = record {
       acts = kept.acts;
       happened = kept.happened;
       text = kept.text ++ more;
       is-out = is ∙ ap Some (append_assoc old kept.text more);
       all = kept.all;
-      now = text-kept hash accepted (IsAsked lines) (IsOwnPromise verified key lines start.known) (IsAskedChange lines) start kept.text (stored_after kept.acts) kept.now more;
-      next = text-kept hash accepted (IsAsked lines) (IsOwnPromise verified key lines start.known) (IsAskedChange lines) start kept.text (record { roots = (stored_after kept.acts).roots; known = known }) kept.next more;
+      saved = kept.saved;
+      whole = kept.whole;
+      spells = kept.spells;
+      ahead = kept.ahead;
+      now = text-kept hash accepted (IsAsked lines) (IsOwnPromise verified key lines start.known) (IsAskedChange lines) start kept.text (found_in (stored_after kept.acts) kept.saved) kept.now more;
+      next = text-kept hash accepted (IsAsked lines) (IsOwnPromise verified key lines start.known) (IsAskedChange lines) start kept.text (found_in (stored_after kept.acts) known) kept.next more;
       early = kept.early;
       low-start = kept.low-start;
       low = kept.low;
@@ -122,8 +131,8 @@ module _ (hash : List ℕ → List ℕ) (accepted verified : List ℕ → List �
 
     -- roots are added
     module _ (Happened' : List Act → Type 0) (epoch' : ℕ) (roots : List SignedRoot) (up : epoch ≤ epoch') (goes : (acts : List Act) → Happened acts → Happened' (AddsRoots (roots_above epoch roots) out ∷ acts)) where
-      pub adds : Told kept.text (record { roots = (stored_after kept.acts).roots ++ roots_above epoch roots; known = (stored_after kept.acts).known })
-      adds = adds-roots-kept hash accepted (IsAsked lines) (IsOwnPromise verified key lines start.known) (IsAskedChange lines) start kept.text (stored_after kept.acts) kept.now (roots_above epoch roots) epoch (above-all epoch roots) kept.low
+      pub adds : Told kept.text (record { roots = (stored_after kept.acts).roots ++ roots_above epoch roots; known = kept.saved })
+      adds = adds-roots-kept hash accepted (IsAsked lines) (IsOwnPromise verified key lines start.known) (IsAskedChange lines) start kept.text (found_in (stored_after kept.acts) kept.saved) kept.now (roots_above epoch roots) epoch (above-all epoch roots) kept.low
 
       pub early-still : (mark : Mark) → Contains start.known.marks mark → (root : SignedRoot) → Contains ((stored_after kept.acts).roots ++ roots_above epoch roots) root → mark.since < root.body.epoch → root.body.epoch ≤ mark.epoch → Contains start.roots root
       early-still mark has root among above below = elim (Contains-append_cases (stored_after kept.acts).roots (roots_above epoch roots) root among) [
@@ -131,157 +140,156 @@ module _ (hash : List ℕ → List ℕ) (accepted verified : List ℕ → List �
         | inr new ↦ absurd (none-above mark epoch root (kept.low-start mark has) (all-in (λ (r : SignedRoot). epoch < r.body.epoch) (roots_above epoch roots) root (above-all epoch roots) new) above below)
       ]
 
-      abbrev pub kept-roots : IsKept hash accepted verified lines key start old Happened' epoch' known out
+      abbrev pub kept-roots : IsKept hash accepted verified lines key start old Happened' epoch' known unsaved out
       kept-roots = record {
         acts = AddsRoots (roots_above epoch roots) out ∷ kept.acts;
         happened = goes kept.acts kept.happened;
         text = kept.text;
         is-out = kept.is-out;
-        all = (kept.all, (kept.text, kept.is-out, adds));
+        all = (kept.all, (kept.text, kept.is-out, (kept.saved, kept.spells, adds)));
+        saved = kept.saved;
+        whole = kept.whole;
+        spells = kept.spells;
+        ahead = kept.ahead;
         now = adds;
-        next = adds-roots-kept hash accepted (IsAsked lines) (IsOwnPromise verified key lines start.known) (IsAskedChange lines) start kept.text (record { roots = (stored_after kept.acts).roots; known = known }) kept.next
+        next = adds-roots-kept hash accepted (IsAsked lines) (IsOwnPromise verified key lines start.known) (IsAskedChange lines) start kept.text (found_in (stored_after kept.acts) known) kept.next
             (roots_above epoch roots) epoch (above-all epoch roots) kept.low-next;
         early = early-still;
         low-start = fits-up epoch epoch' start.known up kept.low-start;
-        low = fits-up epoch epoch' (stored_after kept.acts).known up kept.low;
+        low = fits-up epoch epoch' kept.saved up kept.low;
         low-next = fits-up epoch epoch' known up kept.low-next;
         begun = kept.begun;
         once = kept.once;
       }
 
-    -- it is, or nothing happens
-    abbrev pub kept-handed : (Happened' : List Act → Type 0) → ((acts : List Act) → Happened acts → Happened' acts ⊎ Happened' (Remembers known out ∷ acts)) → IsKept hash accepted verified lines key start old Happened' epoch known out
+    -- with the lines of what is not saved yet the text spells all
+    pub grown : Spells ((stored_after kept.acts).text ++ items_text unsaved) (Ok known)
+    grown = spells-more (stored_after kept.acts).text kept.saved known unsaved kept.whole kept.spells kept.ahead
+
+    -- there are none
+    abbrev pub kept-unsaved : (Happened' : List Act → Type 0) → items_text unsaved ≡ [] → Happened' kept.acts → IsKept hash accepted verified lines key start old Happened' epoch known [] out
+    kept-unsaved Happened' none happened = record {
+      acts = kept.acts;
+      happened = happened;
+      text = kept.text;
+      is-out = kept.is-out;
+      all = kept.all;
+      saved = kept.saved;
+      whole = kept.whole;
+      spells = kept.spells;
+      ahead = unchanged-taken unsaved kept.saved known kept.ahead none;
+      now = kept.now;
+      next = kept.next;
+      early = kept.early;
+      low-start = kept.low-start;
+      low = kept.low;
+      low-next = kept.low-next;
+      begun = kept.begun;
+      once = kept.once;
+    }
+
+    -- or they are added
+    abbrev pub kept-added : (Happened' : List Act → Type 0) → Happened' (AddsLines (items_text unsaved) out ∷ kept.acts) → IsKept hash accepted verified lines key start old Happened' epoch known [] out
+    kept-added Happened' happened = record {
+      acts = AddsLines (items_text unsaved) out ∷ kept.acts;
+      happened = happened;
+      text = kept.text;
+      is-out = kept.is-out;
+      all = (kept.all, (kept.text, kept.is-out, (known, grown, kept.next)));
+      saved = known;
+      whole = whole-more (stored_after kept.acts).text unsaved kept.whole;
+      spells = grown;
+      ahead = refl;
+      now = kept.next;
+      next = kept.next;
+      early = kept.early;
+      low-start = kept.low-start;
+      low = kept.low-next;
+      low-next = kept.low-next;
+      begun = kept.begun;
+      once = kept.once;
+    }
+
+    pub kept-handed : (Happened' : List Act → Type 0) → ((acts : List Act) → Happened acts → ((items_text unsaved ≡ []) × Happened' acts) ⊎ Happened' (AddsLines (items_text unsaved) out ∷ acts))
+        → IsKept hash accepted verified lines key start old Happened' epoch known [] out
     kept-handed Happened' goes = elim (goes kept.acts kept.happened) [
-      | inl same ↦ record {
-        acts = kept.acts;
-        happened = same;
-        text = kept.text;
-        is-out = kept.is-out;
-        all = kept.all;
-        now = kept.now;
-        next = kept.next;
-        early = kept.early;
-        low-start = kept.low-start;
-        low = kept.low;
-        low-next = kept.low-next;
-        begun = kept.begun;
-        once = kept.once;
-      }
-      | inr more ↦ record {
-        acts = Remembers known out ∷ kept.acts;
-        happened = more;
-        text = kept.text;
-        is-out = kept.is-out;
-        all = (kept.all, (kept.text, kept.is-out, kept.next));
-        now = kept.next;
-        next = kept.next;
-        early = kept.early;
-        low-start = kept.low-start;
-        low = kept.low-next;
-        low-next = kept.low-next;
-        begun = kept.begun;
-        once = kept.once;
-      }
+      | inl (none, same) ↦ kept-unsaved Happened' none same
+      | inr more ↦ kept-added Happened' more
     ]
 
   -- ---- with the scene
 
-  owns-known : (text : List ℕ) (stored : List SignedRoot) (known known' : List Mark) (now : Scene (Unit {0})) → Owns hash accepted verified (IsAsked lines) (IsOwnPromise verified key lines start.known) text stored start.known.marks known now
-      → ((mark : Mark) → Contains known' mark → IsHeld hash accepted verified (IsAsked lines) (IsOwnPromise verified key lines start.known) text start.known.marks now.client.chain now.monitors mark)
-      → Owns hash accepted verified (IsAsked lines) (IsOwnPromise verified key lines start.known) text stored start.known.marks known' now
-  owns-known text stored known known' now owns held = record { chain = owns.chain; formed = owns.formed; stores = owns.stores; watched = owns.watched; held = held }
+  owns-known : (text : List ℕ) (stored : List SignedRoot) (known known' : List Mark) (now : Scene (Unit {0})) → Owns hash accepted verified (IsAsked lines) (IsOwnPromise verified key lines start.known) start.known text stored start.known.marks known now
+      → ((mark : Mark) → Contains known' mark → IsHeld hash accepted verified (IsAsked lines) (IsOwnPromise verified key lines start.known) start.known text start.known.marks now.client.chain now.monitors mark)
+      → Owns hash accepted verified (IsAsked lines) (IsOwnPromise verified key lines start.known) start.known text stored start.known.marks known' now
+  owns-known text stored known known' now owns held = record { chain = owns.chain; formed = owns.formed; stores = owns.stores; rooted = owns.rooted; watched = owns.watched; held = held }
 
-  owns-stored : (text : List ℕ) (stored stored' : List SignedRoot) (known : List Mark) (now : Scene (Unit {0})) → Owns hash accepted verified (IsAsked lines) (IsOwnPromise verified key lines start.known) text stored start.known.marks known now
-      → AllByRecursion (Contains now.client.chain.roots) stored' → Owns hash accepted verified (IsAsked lines) (IsOwnPromise verified key lines start.known) text stored' start.known.marks known now
-  owns-stored text stored stored' known now owns stores = record { chain = owns.chain; formed = owns.formed; stores = stores; watched = owns.watched; held = owns.held }
+  owns-stored : (text : List ℕ) (stored stored' : List SignedRoot) (known : List Mark) (now : Scene (Unit {0})) → Owns hash accepted verified (IsAsked lines) (IsOwnPromise verified key lines start.known) start.known text stored start.known.marks known now
+      → AllByRecursion (Contains now.client.chain.roots) stored' → Owns hash accepted verified (IsAsked lines) (IsOwnPromise verified key lines start.known) start.known text stored' start.known.marks known now
+  owns-stored text stored stored' known now owns stores = record { chain = owns.chain; formed = owns.formed; stores = stores; rooted = owns.rooted; watched = owns.watched; held = owns.held }
 
-  module _ (Happened : List Act → Type 0) (epoch : ℕ) (known : Memory) (out : Option (List ℕ)) (now : Scene (Unit {0})) (stands : Stands hash accepted verified lines key start old Happened epoch known out now) where
+  module _ (Happened : List Act → Type 0) (epoch : ℕ) (known : Memory) (unsaved : List Item) (out : Option (List ℕ)) (now : Scene (Unit {0})) (stands : Stands hash accepted verified lines key start old Happened epoch known unsaved out now) where
     -- lines and promises are learned
-    pub stands-same : (known' : Memory) → known'.marks ≡ known.marks → KeepsMarks known known' → OwnAsked lines start.known known known' → Stands hash accepted verified lines key start old Happened epoch known' out now
-    stands-same known' same marks own = record {
-      kept = kept-known Happened epoch known out stands.kept known' marks own;
-      owns = subst (λ (ms : List Mark). Owns hash accepted verified (IsAsked lines) (IsOwnPromise verified key lines start.known) stands.kept.text (stored_after stands.kept.acts).roots start.known.marks ms now) (sym same) stands.owns;
+    pub stands-same : (known' : Memory) (news : List Item) → TakesAll news known known' → known'.marks ≡ known.marks → KeepsMarks known known' → OwnAsked lines start.known known known'
+        → Stands hash accepted verified lines key start old Happened epoch known' (unsaved ++ news) out now
+    stands-same known' news takes same marks own = record {
+      kept = kept-known Happened epoch known unsaved out stands.kept known' news takes marks own;
+      owns = subst (λ (ms : List Mark). Owns hash accepted verified (IsAsked lines) (IsOwnPromise verified key lines start.known) start.known stands.kept.text (stored_after stands.kept.acts).roots start.known.marks ms now) (sym same) stands.owns;
     }
 
     -- new monitors get marks
-    pub stands-begun : (begun : List Monitor) (known' : Memory) → AllByRecursion (Contains now.monitors) begun → EachPuts IsBegun begun known.marks known'.marks → known'.promises ≡ known.promises
-        → Stands hash accepted verified lines key start old Happened epoch known' out now
-    stands-begun begun known' among puts same = record {
-      kept = kept-known Happened epoch known out stands.kept known' (begun-marks begun known known' puts) (unchanged-own lines start.known known known' same);
-      owns = owns-known stands.kept.text (stored_after stands.kept.acts).roots known.marks known'.marks now stands.owns (begun-held hash accepted verified (IsAsked lines) (IsOwnPromise verified key lines start.known) stands.kept.text (stands.kept.text ++ now.told.lines) now.client.chain start.known.marks now.monitors begun known.marks known'.marks
+    pub stands-begun : (begun : List Monitor) (known' : Memory) (news : List Item) → TakesAll news known known' → AllByRecursion (Contains now.monitors) begun → EachPuts IsBegun begun known.marks known'.marks → known'.promises ≡ known.promises
+        → Stands hash accepted verified lines key start old Happened epoch known' (unsaved ++ news) out now
+    stands-begun begun known' news takes among puts same = record {
+      kept = kept-known Happened epoch known unsaved out stands.kept known' news takes (begun-marks begun known known' puts) (unchanged-own lines start.known known known' same);
+      owns = owns-known stands.kept.text (stored_after stands.kept.acts).roots known.marks known'.marks now stands.owns (begun-held hash accepted verified (IsAsked lines) (IsOwnPromise verified key lines start.known) start.known stands.kept.text (stands.kept.text ++ now.told.lines) now.client.chain start.known.marks now.monitors begun known.marks known'.marks
           stands.owns.chain stands.owns.watched among puts stands.owns.held);
     }
 
     pub stands-roots : (Happened' : List Act → Type 0) (epoch' : ℕ) → epoch ≤ epoch' → ((acts : List Act) → Happened acts → Happened' (AddsRoots (roots_above epoch now.client.chain.roots) out ∷ acts))
-        → Stands hash accepted verified lines key start old Happened' epoch' known out now
+        → Stands hash accepted verified lines key start old Happened' epoch' known unsaved out now
     stands-roots Happened' epoch' up goes = record {
-      kept = kept-roots Happened epoch known out stands.kept Happened' epoch' now.client.chain.roots up goes;
+      kept = kept-roots Happened epoch known unsaved out stands.kept Happened' epoch' now.client.chain.roots up goes;
       owns = owns-stored stands.kept.text (stored_after stands.kept.acts).roots ((stored_after stands.kept.acts).roots ++ roots_above epoch now.client.chain.roots) known.marks now stands.owns (all-join (Contains now.client.chain.roots) (stored_after stands.kept.acts).roots (roots_above epoch now.client.chain.roots) stands.owns.stores
           (above-from epoch (Contains now.client.chain.roots) now.client.chain.roots (each-of (Contains now.client.chain.roots) now.client.chain.roots (λ root has. has))));
     }
 
-    pub stands-handed : (Happened' : List Act → Type 0) → ((acts : List Act) → Happened acts → Happened' acts ⊎ Happened' (Remembers known out ∷ acts)) → Stands hash accepted verified lines key start old Happened' epoch known out now
+    -- what is not saved yet is handed on
+    pub stands-handed : (Happened' : List Act → Type 0) → ((acts : List Act) → Happened acts → ((items_text unsaved ≡ []) × Happened' acts) ⊎ Happened' (AddsLines (items_text unsaved) out ∷ acts))
+        → Stands hash accepted verified lines key start old Happened' epoch known [] out now
     stands-handed Happened' goes = elim (goes stands.kept.acts stands.kept.happened) [
-      | inl same ↦ record {
-        kept = record {
-          acts = stands.kept.acts;
-          happened = same;
-          text = stands.kept.text;
-          is-out = stands.kept.is-out;
-          all = stands.kept.all;
-          now = stands.kept.now;
-          next = stands.kept.next;
-          early = stands.kept.early;
-          low-start = stands.kept.low-start;
-          low = stands.kept.low;
-          low-next = stands.kept.low-next;
-          begun = stands.kept.begun;
-          once = stands.kept.once;
-        };
+      | inl (none, same) ↦ record {
+        kept = kept-unsaved Happened epoch known unsaved out stands.kept Happened' none same;
         owns = stands.owns;
       }
       | inr more ↦ record {
-        kept = record {
-          acts = Remembers known out ∷ stands.kept.acts;
-          happened = more;
-          text = stands.kept.text;
-          is-out = stands.kept.is-out;
-          all = (stands.kept.all, (stands.kept.text, stands.kept.is-out, stands.kept.next));
-          now = stands.kept.next;
-          next = stands.kept.next;
-          early = stands.kept.early;
-          low-start = stands.kept.low-start;
-          low = stands.kept.low-next;
-          low-next = stands.kept.low-next;
-          begun = stands.kept.begun;
-          once = stands.kept.once;
-        };
+        kept = kept-added Happened epoch known unsaved out stands.kept Happened' more;
         owns = stands.owns;
       }
     ]
 
   -- ---- marks move
 
-  module _ (Happened : List Act → Type 0) (epoch : ℕ) (known : Memory) (out : Option (List ℕ)) (client : Client) (monitors : List Monitor) (stands : Stands hash accepted verified lines key start old Happened epoch known out (standing client monitors []))
+  module _ (Happened : List Act → Type 0) (epoch : ℕ) (known : Memory) (unsaved : List Item) (out : Option (List ℕ)) (client : Client) (monitors : List Monitor) (stands : Stands hash accepted verified lines key start old Happened epoch known unsaved out (standing client monitors []))
       (up-to : IsUpTo client epoch) (some : List Monitor) (among : AllByRecursion (Contains monitors) some) (known' : Memory) (puts : EachPuts (IsMoved monitors) some known.marks known'.marks) (same : known'.promises ≡ known.promises) where
     abbrev text : List ℕ
     text = stands.kept.text
 
     abbrev Held : Mark → Type 0
-    Held = IsHeld hash accepted verified (IsAsked lines) (IsOwnPromise verified key lines start.known) text start.known.marks client.chain monitors
+    Held = IsHeld hash accepted verified (IsAsked lines) (IsOwnPromise verified key lines start.known) start.known text start.known.marks client.chain monitors
 
-    watched-so : AllByRecursion (IsOwn hash accepted verified (IsAsked lines) (IsOwnPromise verified key lines start.known) text client.chain start.known.marks) monitors
-    watched-so = subst (λ (t : List ℕ). AllByRecursion (IsOwn hash accepted verified (IsAsked lines) (IsOwnPromise verified key lines start.known) t client.chain start.known.marks) monitors) (append-nil text) stands.owns.watched
+    watched-so : AllByRecursion (IsOwn hash accepted verified (IsAsked lines) (IsOwnPromise verified key lines start.known) start.known text client.chain start.known.marks) monitors
+    watched-so = subst (λ (t : List ℕ). AllByRecursion (IsOwn hash accepted verified (IsAsked lines) (IsOwnPromise verified key lines start.known) start.known t client.chain start.known.marks) monitors) (append-nil text) stands.owns.watched
 
     held : (mark : Mark) → Contains known'.marks mark → Held mark
-    held = moved-held hash accepted verified (IsAsked lines) (IsOwnPromise verified key lines start.known) text client.chain start.known.marks monitors stands.owns.chain stands.owns.formed watched-so some known.marks known'.marks among puts stands.owns.held
+    held = moved-held hash accepted verified (IsAsked lines) (IsOwnPromise verified key lines start.known) start.known text client.chain start.known.marks monitors stands.owns.chain stands.owns.formed watched-so some known.marks known'.marks among puts stands.owns.held
 
     -- what an earlier run had watched is a root that it had
     was-stored : (name : List ℕ) (root : SignedRoot) → Contains (stored_after stands.kept.acts).roots root → WasWatched start.known.marks name root → WasStored start name root
     was-stored name root among (mark, has, same, above, below) = (stands.kept.early mark has root among above below, (mark, has, same, above, below))
 
     told-so : (mark : Mark) → Contains known'.marks mark → (root : SignedRoot) → Contains (stored_after stands.kept.acts).roots root → mark.since < root.body.epoch → root.body.epoch ≤ mark.epoch
-        → TellsEpoch (IsAsked lines) (IsOwnPromise verified key lines start.known) hash accepted text mark.name root ⊎ WasStored start mark.name root
+        → TellsEpoch (IsAsked lines) (IsOwnPromise verified key lines start.known) (Counts start.known) hash accepted text mark.name root ⊎ WasStored start mark.name root
     told-so mark has root among above below =
         elim ((held mark has).told root (all-in (Contains client.chain.roots) (stored_after stands.kept.acts).roots root stands.owns.stores among) above below) [
           | inl tells ↦ inl tells
@@ -294,14 +302,18 @@ module _ (hash : List ℕ → List ℕ) (accepted verified : List ℕ → List �
       | inr (head, at, low) ↦ inr (let up = up-to head at in omega (arith, up, low))
     ]
 
-    pub stands-moved : Stands hash accepted verified lines key start old Happened epoch known' out (standing client monitors [])
-    stands-moved = let kept = stands.kept in record {
+    pub stands-moved : (news : List Item) → TakesAll news known known' → Stands hash accepted verified lines key start old Happened epoch known' (unsaved ++ news) out (standing client monitors [])
+    stands-moved news takes = let kept = stands.kept in record {
       kept = record {
         acts = kept.acts;
         happened = kept.happened;
         text = kept.text;
         is-out = kept.is-out;
         all = kept.all;
+        saved = kept.saved;
+        whole = kept.whole;
+        spells = kept.spells;
+        ahead = taken-append unsaved news kept.saved known known' kept.ahead takes;
         now = kept.now;
         next = keeps-told hash accepted (IsAsked lines) (IsOwnPromise verified key lines start.known) (IsAskedChange lines) start text (stored_after kept.acts).roots kept.next.grows.0 known' kept.next.grows.1
             (moved-stays monitors some start.known.marks known.marks known'.marks puts kept.once kept.next.stays) told-so

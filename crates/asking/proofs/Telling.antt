@@ -1,22 +1,24 @@
 -- What is told after a call that may run out of memory.
-use Rattle.std.proofs.Common.{◌≡◌, ◌∙◌, ◌++◌, ◌∷◌, [], ℕ, zero, suc, List, Result, Ok, Err, ap, refl, rules, subst, append_assoc}
+use Rattle.std.proofs.Common.{◌≡◌, ◌∙◌, ◌++◌, ◌∷◌, [], ℕ, zero, suc, List, Result, Ok, Err, ap, arith, refl, rules, subst, append_assoc, arith}
 use Rattle.std.specs.Prelude.{OnOk}
 use Rattle.client.specs.Refusals.{client_refusal_number}
 use Rattle.client.specs.declared.client_refusal.Refusal.{Refusal}
 use Rattle.asking.specs.declared.said.Said.{Said}
-use Rattle.asking.specs.Refused.{client_refuses, evidence_before, refuses_text}
+use Rattle.asking.specs.Refused.{client_refuses, evidence_told, refuses_text}
 use Rattle.asking.specs.Reports.{Report, Tells, refused, report_of, worse}
+
+worse-worse : (one two three : ℕ) → worse (worse one two) three ≡ worse one (worse two three)
+worse-worse one two three = grind arith
 
 -- the number of a refusal behind its evidence
 pub behind_evidence : {A E : Type 0} (what : List ℕ) (why : Refusal) (number : ℕ) (before middle after : Said) (result : Result A E) → number ≡ client_refusal_number why
-    → middle.text.items ≡ before.text.items ++ evidence_before why → middle.status ≡ before.status
-    → OnOk result (Tells middle (refused (refuses_text what number)) after) → OnOk result (Tells before (client_refuses what why) after)
-behind_evidence what why number before middle after (Ok done) numbered text status told = (
-  told.0 ∙ ap (λ (xs : List ℕ). xs ++ (refuses_text what number ++ 10 ∷ [])) text ∙ append_assoc before.text.items (evidence_before why) (refuses_text what number ++ 10 ∷ [])
-      ∙ ap (λ (n : ℕ). before.text.items ++ (evidence_before why ++ (refuses_text what n ++ 10 ∷ []))) numbered,
-  told.1 ∙ ap (λ (s : ℕ). worse s 1) status,
+    → Tells before (evidence_told why) middle → OnOk result (Tells middle (refused (refuses_text what number)) after) → OnOk result (Tells before (client_refuses what why) after)
+behind_evidence what why number before middle after (Ok done) numbered (text, status) told = (
+  told.0 ∙ ap (λ (xs : List ℕ). xs ++ (refuses_text what number ++ 10 ∷ [])) text ∙ append_assoc before.text.items (evidence_told why).lines (refuses_text what number ++ 10 ∷ [])
+      ∙ ap (λ (n : ℕ). before.text.items ++ ((evidence_told why).lines ++ (refuses_text what n ++ 10 ∷ []))) numbered,
+  told.1 ∙ ap (λ (s : ℕ). worse s 1) status ∙ worse-worse before.status (evidence_told why).status 1,
 )
-behind_evidence what why number before middle after (Err fault) numbered text status told = tt
+behind_evidence what why number before middle after (Err fault) numbered tells told = tt
 
 -- this is told, and it is so
 pub tells_so : {A E : Type 0} (result : Result A E) (P : Report → Type 0) (told : Report) (before same after : Said) → same ≡ before → P told

@@ -4,6 +4,7 @@ use Rattle.std.proofs.lemmas.Bool.{cases_lt}
 use Rattle.std.proofs.lemmas.List.{get_or_append_left, get_or-append_right, get_or_default}
 use Rattle.std.proofs.lemmas.List.Elements.{Contains-append_cases}
 use Rattle.rootchain.specs.Chains.{Ascend, IsChain, KeyedRoots}
+use Rattle.rootchain.specs.declared.signed_promise.SignedPromise.{SignedPromise}
 use Rattle.rootchain.specs.declared.signed_root.SignedRoot.{SignedRoot}
 use Rattle.rootchain.proofs.Agreement.{unique}
 use Rattle.rootchain.proofs.Chains.{ascend-linked}
@@ -20,7 +21,7 @@ use Rattle.monitor.specs.declared.step.Step.TheVariants.{Kept, Alarm}
 use Rattle.monitor.proofs.Expected.{expects-above}
 use Rattle.monitor.proofs.Watching.{begun-watching, change-watching, updated-watching, watched-watching}
 use Rattle.asking.specs.Following.{MonitorUpdates}
-use Rattle.asking.specs.Told.{HasLines, IsTold, IsToldAt}
+use Rattle.asking.specs.Told.{always, HasLines, IsTold, IsToldAt, TellsEpoch}
 use Rattle.asking.specs.Watching.{step_told}
 
 -- ---- lines
@@ -48,8 +49,21 @@ tells-same : (one other : Watch) (epoch : ℕ) (statement : Option (List ℕ)) (
 tells-same one other epoch statement Kept same tells = tells ∙ sym same
 tells-same one other epoch statement (Alarm at found) same (differs, is, states) = (λ e. differs (e ∙ same), is, states)
 
+-- a key alone, where the watch expects it
+pub told-key : (hash : List ℕ → List ℕ) (accepted : List ℕ → List ℕ → List ℕ → Type 0) (text name : List ℕ) (watch : Watch) (root : SignedRoot) → IsToldAt hash accepted text name watch root
+    → IsToldAt hash accepted text name (always (expected watch root.body.epoch)) root
+told-key hash accepted text name watch root (bytes, reply, step, is, tells, has) =
+    (bytes, reply, step, is, tells-same watch (always (expected watch root.body.epoch)) root.body.epoch (stated reply.end) step refl tells, has)
+
 pub told-at_more : (hash : List ℕ → List ℕ) (accepted : List ℕ → List ℕ → List ℕ → Type 0) (text more name : List ℕ) (watch : Watch) (root : SignedRoot) → IsToldAt hash accepted text name watch root → IsToldAt hash accepted (text ++ more) name watch root
 told-at_more hash accepted text more name watch root (bytes, reply, step, is, tells, has) = (bytes, reply, step, is, tells, lines-more text more (step_told name root.body.epoch step).lines has)
+
+-- ---- what an owner expects
+
+module _ (Given : List ℕ → Option (List ℕ) → Type 0) (Own : SignedPromise → Type 0) (Counts : ℕ → SignedPromise → Type 0) where
+  -- more is told
+  pub epoch-more : (hash : List ℕ → List ℕ) (accepted : List ℕ → List ℕ → List ℕ → Type 0) (text more name : List ℕ) (root : SignedRoot) → TellsEpoch Given Own Counts hash accepted text name root → TellsEpoch Given Own Counts hash accepted (text ++ more) name root
+  epoch-more hash accepted text more name root (key, expects, told) = (key, expects, told-at_more hash accepted text more name (always key) root told)
 
 module _ (hash : List ℕ → List ℕ) (accepted verified : List ℕ → List ℕ → List ℕ → Type 0) where
   abbrev Told : List ℕ → Monitor → Type 0

@@ -203,7 +203,7 @@ module _ (hash : List ℕ → List ℕ) (accepted verified : List ℕ → List �
         subst (λ (r : Report). AllByRecursion (Told (text ++ r.lines)) after.monitors) (sym hears.tells) given
 
     -- so every relation between scenes keeps it
-    pub each-told : (marks : List Mark) → EachKeeps hash accepted verified exchanged marks (λ noted. ⊤) (λ promised name given. ⊤) Keeps
+    pub each-told : (marks : List Mark) → EachKeeps hash accepted verified exchanged marks (λ noted. ⊤) (λ key promised name given. ⊤) Keeps
     each-told marks = record {
       none = λ before text all. all;
       both = λ before middle after one other text all. other text (one text all);

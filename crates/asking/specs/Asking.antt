@@ -22,14 +22,15 @@ use Rattle.asking.specs.Following.{Follows, StopsAfter, TakesSome}
 use Rattle.asking.specs.Scenes.{Scene}
 use Rattle.asking.specs.Refused.{refuses_text}
 use Rattle.asking.specs.Reports.{Report, refused, silent, told_after, unless_fine}
+use Rattle.asking.specs.Wanted.{last_epoch}
 use Rattle.asking.specs.Watching.{GoesOn, GoesSome}
 
--- the epoch of a response
+-- the epoch of a response, and of roots that of the last
 abbrev pub response_epoch : ResponseContent → ℕ
 response_epoch (Promise signed) = signed.promise.epoch
 response_epoch (Proof reply) = reply.body.epoch
 response_epoch (Root root) = root.body.epoch
-response_epoch (Roots roots) = 0
+response_epoch (Roots roots) = last_epoch 0 roots
 response_epoch (Refused code) = 0
 
 -- the epoch of a frame that answers what was asked when the chain had a head of some epoch, or 0

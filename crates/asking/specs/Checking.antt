@@ -27,6 +27,8 @@ use Rattle.play.specs.Lines.{statement_text}
 use Rattle.asking.specs.Answering.{IsAnswerAt}
 use Rattle.asking.specs.Refused.{client_refuses, other_reply, refuses_text}
 use Rattle.asking.specs.Reports.{Report, fine, refused}
+use Rattle.asking.specs.Wanted.{AreWanted}
+use Rattle.asking.specs.declared.wanted.Wanted.{Wanted}
 
 -- an answer that is told: that memory ran out is none
 abbrev pub IsTellable : {A : Type 0} → Result A Refusal → Type 0
@@ -76,10 +78,15 @@ module _ (hash : List ℕ → List ℕ) (verified : List ℕ → List ℕ → Li
   Places chain told (Ok place) = Verifies verified chain.key told × IsPlace hash chain told place
   Places chain told (Err why) = (¬ Verifies verified chain.key told) × (why ≡ root.BadSignature)
 
-  -- what is told of roots that were asked for, of which these are left: the first that is refused, or all of them
-  abbrev pub AreTold : KeyedRoots → List SignedRoot → List SignedRoot → Report → Type 0
-  AreTold chain all [] told = told ≡ fine (response_text (Roots all))
-  AreTold chain all (first ∷ more) told = (place : Result Place RootRefusal) × Places chain first place × FollowsUnlessRefused (AreTold chain all more told) (refusal_at place) told
+  module _ (chain : KeyedRoots) (wanted : Wanted) (all : List SignedRoot) where
+    -- what is told of roots of which none is refused: they are what was asked for, or a reply to something else
+    abbrev pub IsComparedAs : Report → Type 0
+    IsComparedAs told = (AreWanted hash chain wanted all × (told ≡ fine (response_text (Roots all)))) ⊎ ((¬ AreWanted hash chain wanted all) × (told ≡ other_reply))
+
+    -- what is told of roots of which these are left: the first that is refused, or all of them
+    abbrev pub AreTold : List SignedRoot → Report → Type 0
+    AreTold [] told = IsComparedAs told
+    AreTold (first ∷ more) told = (place : Result Place RootRefusal) × Places chain first place × FollowsUnlessRefused (AreTold more told) (refusal_at place) told
 
 module _ (hash : List ℕ → List ℕ) (accepted verified : List ℕ → List ℕ → List ℕ → Type 0) where
   module _ (held : ℕ) (before : Client) (body : List ℕ) where
@@ -92,7 +99,8 @@ module _ (hash : List ℕ → List ℕ) (accepted verified : List ℕ → List �
         (answer : Result (Unit {0}) Refusal) × (KeepsPromise hash verified before body answer after × IsTellable answer) × (told ≡ promise_told (response.Promise signed) answer)
     IsCheckedAs asked (Root latest) told after = (after ≡ before)
         × ((place : Result Place RootRefusal) × Places hash verified before.chain latest place × (told ≡ place_told held latest place))
-    IsCheckedAs (Query (History from count)) (Roots roots) told after = (after ≡ before) × AreTold hash verified before.chain roots roots told
+    IsCheckedAs (Query (History from count)) (Roots roots) told after = (after ≡ before)
+        × AreTold hash verified before.chain (record { held = held; from = from; count = count }) roots roots told
     IsCheckedAs _ _ told after = ⊥
 
     -- a response to what was asked: a refusal of the directory is told, any other is checked if it answers

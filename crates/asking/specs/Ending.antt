@@ -1,5 +1,5 @@
 -- How a run ends: whole, stopped, or with a fault.
-use Rattle.std.specs.Prelude.{◌≡◌, ◌⊎◌, ◌<◌, ℕ, List, [], ◌∷◌, ◌++◌, nat_lt, if◌then◌else◌, Option, Some, None, IfSome}
+use Rattle.std.specs.Prelude.{◌≡◌, ◌⊎◌, ◌<◌, ◌≤◌, ℕ, List, [], ◌∷◌, ◌++◌, nat_lt, if◌then◌else◌, Option, Some, None, IfSome}
 use Rattle.std.specs.Io.KnownBytes.{Appends, Keeps}
 use Rattle.std.specs.declared.net.tcp.TcpStream.{TcpStream}
 use Rattle.nodehash.specs.Sha256.{sha256}
@@ -7,6 +7,8 @@ use Rattle.vrfiface.specs.StandIns.{KeyedAccepts}
 use Rattle.sigiface.specs.StandIn.{KeyedVerifies}
 use Rattle.rootchain.specs.declared.signed_promise.SignedPromise.{SignedPromise}
 use Rattle.textio.specs.Output.{WritesSome}
+use Rattle.textio.specs.declared.program_fault.ProgramFault.{ProgramFault}
+use Rattle.textio.specs.declared.program_fault.ProgramFault.TheVariants.{CannotWrite}
 use Rattle.wire.specs.Frames.{Frame}
 use Rattle.commands.specs.Operations.{Head}
 use Rattle.wire.specs.Requests.{RequestContent, Query}
@@ -22,26 +24,41 @@ use Rattle.asking.specs.Scenes.{Scene, StopsAtHead}
 use Rattle.asking.specs.Settling.{IsSettling, Settles, SettlesPart}
 use Rattle.asking.specs.Visiting.{TestsSome}
 use Rattle.asking.specs.declared.run.RunEnd.{RunEnd}
-use Rattle.asking.specs.declared.run.RunEnd.TheVariants.{Whole, Stopped}
+use Rattle.asking.specs.declared.run.RunEnd.TheVariants.{Whole, Stopped, Unwritten}
 use Rattle.asking.specs.declared.said.Said.{Said}
-use Rattle.asking.specs.declared.said.TheConstants.{ALARM, REFUSED}
+use Rattle.asking.specs.declared.said.TheConstants.{CAUGHT, REFUSED}
 
 -- the status of the program
 abbrev pub end_status : RunEnd → ℕ
 end_status (Whole status) = status
 end_status (Stopped status) = status
+end_status Unwritten = CAUGHT
 
--- the status of a run that was stopped: that of an alarm, if one was told, or else that of a refusal
+-- the status of a run that was stopped: that of evidence or an alarm, if some was told, or else that of a refusal
 abbrev pub stopped_status : ℕ → ℕ
-stopped_status told = if nat_lt told ALARM then REFUSED else ALARM
+stopped_status told = if nat_lt told CAUGHT then REFUSED else CAUGHT
 
--- of what was told a beginning is written, and a part behind it is still said
-abbrev pub HoldsBack : Option (List ℕ) → Said → Report → Option (List ℕ) → Type 0
-HoldsBack new said told old = (said.status ≡ told.status) × (text : List ℕ) × (rest : List ℕ) × (told.lines ≡ text ++ (said.text.items ++ rest)) × Appends old new text
+-- of what was told a beginning is written, and what is behind it is still said, or a part of that where a write failed
+abbrev pub HoldsBack : Type 0 → Option (List ℕ) → Said → Report → Option (List ℕ) → Type 0
+HoldsBack Failed new said told old = (said.status ≡ told.status) × (text : List ℕ) × (rest : List ℕ) × (told.lines ≡ text ++ (said.text.items ++ rest)) × Appends old new text × ((rest ≡ []) ⊎ Failed)
+
+-- a text is written, or a beginning of it where a write failed
+abbrev pub WritesUnless : Type 0 → Option (List ℕ) → Option (List ℕ) → List ℕ → Type 0
+WritesUnless Failed old new text = Appends old new text ⊎ (Failed × WritesSome old new text)
 
 -- this is told where no client starts: what was told before, or also a frame with which none starts
 abbrev pub BeginsNone : {T : Type 0} → (List ℕ → List ℕ → List ℕ → Type 0) → (T → RequestContent → Frame → T → Type 0) → List ℕ → T → Report → Report → Type 0
 BeginsNone {T} verified exchanged key stream before told = (told ≡ before) ⊎ ((stream' : T) × StopsAtHead verified exchanged key stream before stream' told)
+
+-- the end of a run stands so to what was still said before it, where a write may have failed before that
+abbrev pub EndsWith : Type 0 → Said → Option (List ℕ) → Option (List ℕ) → RunEnd → Type 0
+EndsWith Failed said old new (Whole status) = ⊥
+EndsWith Failed said old new (Stopped status) = (status ≡ stopped_status said.status) × (¬ Failed) × Appends old new said.text.items
+EndsWith Failed said old new Unwritten = (CAUGHT ≤ said.status) × WritesSome old new said.text.items
+
+-- and so does a fault at its end
+abbrev pub FailsWith : Type 0 → Said → Option (List ℕ) → Option (List ℕ) → ProgramFault → Type 0
+FailsWith Failed said old new fault = (said.status < CAUGHT) × (((¬ Failed) × Appends old new said.text.items) ⊎ ((fault ≡ CannotWrite) × WritesSome old new said.text.items))
 
 module _ (hash : List ℕ → List ℕ) (accepted verified : List ℕ → List ℕ → List ℕ → Type 0) {T : Type 0} (exchanged : T → RequestContent → Frame → T → Type 0) where
   module _ (background : Background) where
@@ -118,16 +135,19 @@ module _ (hash : List ℕ → List ℕ) (accepted verified : List ℕ → List �
       × ((BeginsNone verified exchanged key stream (emptied 0) told × (now ≡ old))
       ⊎ ((background : Background) × (start : Scene T) × StartsRun hash accepted verified exchanged key token HasNoState stream background start × RunEndsAt background options HasNoState input start old told now))
 
-  -- a run that is whole, or was stopped: what was told is then written, or a beginning of it, and the status is
-  -- that of an alarm exactly where one was told
+  -- A run that is whole, or was stopped: all that was told is then written, and the status is that of evidence or an alarm
+  -- exactly where some was told. Or a write failed, and some was told: a beginning is written.
   abbrev pub RunsAs : List ℕ → List ℕ → AskOptions → Type 0 → T → T → Option (List ℕ) → RunEnd → Option (List ℕ) → Option (List ℕ) → Type 0
   RunsAs key token options HasNoState stream stream' input (Whole status) old new = RunsWhole hash accepted verified exchanged key token options HasNoState stream stream' input status old new
   RunsAs key token options HasNoState stream stream' input (Stopped status) old new =
-      EndsEarly key token options HasNoState stream input old (λ told now. (status ≡ stopped_status told.status) × WritesSome now new told.lines)
+      EndsEarly key token options HasNoState stream input old (λ told now. (status ≡ stopped_status told.status) × Appends now new told.lines)
+  RunsAs key token options HasNoState stream stream' input Unwritten old new =
+      EndsEarly key token options HasNoState stream input old (λ told now. (CAUGHT ≤ told.status) × WritesSome now new told.lines)
 
-  -- a run that ends with a fault: no alarm was told
-  abbrev pub FailsAs : List ℕ → List ℕ → AskOptions → Type 0 → T → Option (List ℕ) → Option (List ℕ) → Option (List ℕ) → Type 0
-  FailsAs key token options HasNoState stream input old new = EndsEarly key token options HasNoState stream input old (λ told now. (told.status < ALARM) × WritesSome now new told.lines)
+  -- a run that ends with a fault: neither evidence nor an alarm was told, and all that was told is written unless a write failed
+  abbrev pub FailsAs : List ℕ → List ℕ → AskOptions → Type 0 → T → Option (List ℕ) → ProgramFault → Option (List ℕ) → Option (List ℕ) → Type 0
+  FailsAs key token options HasNoState stream input fault old new =
+      EndsEarly key token options HasNoState stream input old (λ told now. (told.status < CAUGHT) × WritesUnless (fault ≡ CannotWrite) now new told.lines)
 
 -- A run over a socket, of which definitions know neither what it took nor what it will give: nothing is written, as
 -- where no connection came about; or a name is settled, and nothing is asked; or the run is one for some frames that
@@ -140,8 +160,8 @@ AsksOverSocket options input status old new = ((status ≡ REFUSED) × Keeps old
 
 -- one that ends with a fault: nothing is written, or some of what settling a name tells, or the run is one for some
 -- frames that came
-abbrev pub FailsOverSocket : AskOptions → Option (List ℕ) → Option (List ℕ) → Option (List ℕ) → Type 0
-FailsOverSocket options input old new = Keeps old new
+abbrev pub FailsOverSocket : AskOptions → Option (List ℕ) → ProgramFault → Option (List ℕ) → Option (List ℕ) → Type 0
+FailsOverSocket options input fault old new = Keeps old new
     ⊎ (((name : List ℕ) × IsSettling options name × SettlesPart name old new)
     ⊎ ((key token : List ℕ) × (ask_keys_of options ≡ Some (key, token)) × (socket : TcpStream)
-    × FailsAs sha256 KeyedAccepts KeyedVerifies (ExchangesFrames {T = TcpStream} (λ _. None) (λ _. None)) key token options (options.state ≡ None) socket input old new))
+    × FailsAs sha256 KeyedAccepts KeyedVerifies (ExchangesFrames {T = TcpStream} (λ _. None) (λ _. None)) key token options (options.state ≡ None) socket input fault old new))

@@ -1,7 +1,8 @@
 -- How a monitor of a name is added, and begins to watch.
-use Rattle.std.specs.Prelude.{◌≡◌, ◌≢◌, ◌⊎◌, ℕ, zero, suc, ◌<◌, List, [], ◌∷◌, ◌++◌, length, Any, if◌then◌else◌, Option, Some, None, Result, Ok, Err, codes}
+use Rattle.std.specs.Prelude.{◌≡◌, ◌≢◌, ◌⊎◌, ℕ, zero, suc, ◌<◌, List, [], ◌∷◌, ◌++◌, length, Any, if◌then◌else◌, Option, Some, None, Result, Ok, Err, codes, decimal}
 use Rattle.std.specs.List.{list_any}
 use Rattle.std.specs.Str.{bytes_eq}
+use Rattle.hex.specs.Hex.{encode_lower}
 use Rattle.rootchain.specs.Chains.{IsHead, KeyedRoots}
 use Rattle.rootchain.specs.Places.{IsNextAfter}
 use Rattle.rootchain.specs.Promises.{signed_promise_bytes}
@@ -25,9 +26,11 @@ use Rattle.asking.specs.Asking.{HandsTo}
 use Rattle.asking.specs.Refused.{client_refuses}
 use Rattle.asking.specs.Scenes.{Scene}
 use Rattle.asking.specs.Recalled.{TellsAlarms}
-use Rattle.asking.specs.Reports.{Report, told_after}
+use Rattle.asking.specs.Reports.{Report, fine, told_after}
 use Rattle.asking.specs.Visiting.{TestsAll, TestsSome}
 use Rattle.asking.specs.Watching.{StepsSome, StepsThrough}
+use Rattle.asking.specs.declared.joining.ToWatch.{ToWatch}
+use Rattle.asking.specs.declared.joining.ToWatch.TheVariants.{FromRoot, Nothing}
 
 -- the chain's first root after an epoch, if it has one
 abbrev pub IsFirstAfter : KeyedRoots → ℕ → Option SignedRoot → Type 0
@@ -39,6 +42,20 @@ abbrev pub IsUnwatched : KeyedRoots → List ℕ → List Mark → Option Signed
 IsUnwatched chain name [] first = (root : SignedRoot) × IsHead chain root × (first ≡ Some root)
 IsUnwatched chain name (mark ∷ more) first =
     ((mark.name ≡ name) × IsFirstAfter chain mark.epoch first) ⊎ ((mark.name ≢ name) × IsUnwatched chain name more first)
+
+-- the first mark of the name says that it was watched up to this epoch
+abbrev pub IsMarkedUpTo : List ℕ → ℕ → List Mark → Type 0
+IsMarkedUpTo name epoch [] = ⊥
+IsMarkedUpTo name epoch (mark ∷ more) = ((mark.name ≡ name) × (mark.epoch ≡ epoch)) ⊎ ((mark.name ≢ name) × IsMarkedUpTo name epoch more)
+
+-- where the watching of a name goes on: at that root, or nowhere, with the epoch up to which it was watched
+abbrev pub IsLeftToWatch : KeyedRoots → List ℕ → List Mark → ToWatch → Type 0
+IsLeftToWatch chain name marks (FromRoot first) = IsUnwatched chain name marks (Some first)
+IsLeftToWatch chain name marks (Nothing epoch) = IsUnwatched chain name marks None × IsMarkedUpTo name epoch marks
+
+-- what is told of a name of which all was watched, up to this epoch
+abbrev pub watched_told : List ℕ → ℕ → Report
+watched_told name epoch = fine (codes "watched " ++ encode_lower name ++ codes " " ++ decimal epoch)
 
 -- the promise is one for the name, from before an epoch, which a mark awaits, and later than the last one that was
 abbrev pub IsLaterPromise : List Mark → List ℕ → ℕ → Option SignedPromise → SignedPromise → Type 0
@@ -114,10 +131,10 @@ module _ (hash : List ℕ → List ℕ) (accepted verified : List ℕ → List �
         × (after ≡ record before { told = told_after before.told (client_refuses (codes "client refuses root") why) }))
 
     -- a name is watched from the first root on that is to be watched, and then each promise is tested that is
-    -- due; nothing is asked where there is no such root
+    -- due; where there is no such root, nothing is asked, and it is told up to which epoch the name was watched
     abbrev pub WatchesNew : Scene T → Scene T → Type 0
     WatchesNew before after =
-        (IsUnwatched before.client.chain name marks None × (after ≡ before))
+        (IsUnwatched before.client.chain name marks None × ((epoch : ℕ) × IsMarkedUpTo name epoch marks × (after ≡ record before { told = told_after before.told (watched_told name epoch) })))
         ⊎ ((first : SignedRoot) × IsUnwatched before.client.chain name marks (Some first)
         × ((middle : Scene T) × BeginsAt first before middle × TestsAll hash accepted exchanged marks middle after))
 
@@ -127,10 +144,12 @@ module _ (hash : List ℕ → List ℕ) (accepted verified : List ℕ → List �
         ⊎ ((monitor : Monitor) × IsJoined marks key promised before.client.chain first name given monitor
         × StepsSome hash accepted exchanged (record before { monitors = before.monitors ++ monitor ∷ [] }) (length before.monitors) after)
 
-    -- a name is watched from such a root on, up to some point; or it is watched, and then some promises are tested
+    -- nothing is told of a name yet; or it is watched from such a root on, up to some point; or it is watched, and then some
+    -- promises are tested
     abbrev pub WatchesSome : Scene T → Scene T → Type 0
-    WatchesSome before after = (first : SignedRoot) × IsUnwatched before.client.chain name marks (Some first)
-        × (BeginsSomeAt first before after ⊎ ((middle : Scene T) × BeginsAt first before middle × TestsSome hash accepted exchanged marks middle after))
+    WatchesSome before after = (after ≡ before)
+        ⊎ ((first : SignedRoot) × IsUnwatched before.client.chain name marks (Some first)
+        × (BeginsSomeAt first before after ⊎ ((middle : Scene T) × BeginsAt first before middle × TestsSome hash accepted exchanged marks middle after)))
 
   module _ {T : Type 0} (exchanged : T → RequestContent → Frame → T → Type 0) (known : Remembered) (marks : List Mark) (key : List ℕ) (promised : List SignedPromise) (name : List ℕ) (given : Option (List ℕ)) where
     -- the alarms that earlier runs told of a name are told again, and then it is watched
@@ -142,4 +161,4 @@ module _ (hash : List ℕ → List ℕ) (accepted verified : List ℕ → List �
     abbrev pub BeginsSome : Scene T → Scene T → Type 0
     BeginsSome before after = (after ≡ before)
         ⊎ ((again : Report) × TellsAlarms name known again
-        × (let recalled : Scene T = record before { told = told_after before.told again } in (after ≡ recalled) ⊎ WatchesSome exchanged marks key promised name given recalled after))
+        × WatchesSome exchanged marks key promised name given (record before { told = told_after before.told again }) after)

@@ -25,3 +25,4 @@ pub mod StateRuns
 pub mod Visiting
 pub mod Watching
 pub mod Told
+pub mod Wanted

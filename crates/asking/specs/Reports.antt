@@ -1,19 +1,22 @@
 -- What is told of an answer: its lines, and the status of a run in which it was the worst.
 use Rattle.std.specs.Prelude.{◌≡◌, ℕ, nat_lt, if◌then◌else◌, List, [], ◌∷◌, ◌++◌}
 use Rattle.asking.specs.declared.said.Said.{Said}
-use Rattle.asking.specs.declared.said.TheConstants.{REFUSED}
+use Rattle.asking.specs.declared.said.TheConstants.{CAUGHT, REFUSED}
 
 pub record Report : Type 0 where
   -- each with its LF
   pub lines : List ℕ
   pub status : ℕ
 
--- one line, where all went well, and where something was refused
+-- one line, where all went well, where something was refused, and where it shows that the provider is caught
 abbrev pub fine : List ℕ → Report
 fine line = record { lines = line ++ 10 ∷ []; status = 0 }
 
 abbrev pub refused : List ℕ → Report
 refused line = record { lines = line ++ 10 ∷ []; status = REFUSED }
+
+abbrev pub caught : List ℕ → Report
+caught line = record { lines = line ++ 10 ∷ []; status = CAUGHT }
 
 -- nothing
 abbrev pub silent : Report

@@ -1,12 +1,15 @@
 -- What a run does to the files of its state, and what these say at each time.
-use Rattle.std.specs.Prelude.{◌≡◌, ◌⊎◌, ℕ, ◌<◌, ◌≤◌, true, List, [], ◌∷◌, ◌++◌, Contains, Option, None, Some, ⊤, filter, map, nat_lt}
+use Rattle.std.specs.Prelude.{◌≡◌, ◌⊎◌, ℕ, ◌<◌, ◌≤◌, true, List, [], ◌∷◌, ◌++◌, Any, Contains, Option, None, Some, Ok, ⊤, filter, map, nat_lt}
+use Rattle.std.specs.List.{AllByRecursion}
 use Rattle.commands.specs.declared.edit.Verb.{Verb}
 use Rattle.rootchain.specs.Chains.{IsHead, KeyedRoots}
 use Rattle.rootchain.specs.Promises.{IsSignedPromise, PromiseVerifies}
 use Rattle.rootchain.specs.declared.signed_promise.SignedPromise.{SignedPromise}
 use Rattle.rootchain.specs.declared.signed_root.SignedRoot.{SignedRoot}
 use Rattle.memory.specs.Lists.{HasNoRepeat}
-use Rattle.memory.specs.Memories.{name_of, nothing, Memory}
+use Rattle.memory.specs.Memories.{name_of, Memory}
+use Rattle.memory.specs.Texts.{HasWholeLines, Spells}
+use Rattle.memory.specs.Watching.{IsAwaited}
 use Rattle.memory.specs.declared.mark.Mark.{Mark}
 use Rattle.memory.specs.declared.promised.Promised.{Promised}
 use Rattle.play.specs.Scripts.{line_of, Ask, ScriptLine, Watch}
@@ -14,31 +17,45 @@ use Rattle.wire.specs.Requests.{Put}
 use Rattle.asking.specs.Told.{TellsEpoch}
 use Rattle.asking.specs.declared.asker.Asker.{Asker}
 
--- what the files of a state have: the roots of a chain, and what is remembered
+-- what the files of a state have: the roots of a chain, and the text of what is remembered
 pub record Stored : Type 0 where
   pub roots : List SignedRoot
-  pub known : Memory
+  pub text : List ℕ
 
 abbrev pub stored_nothing : Stored
-stored_nothing = record { roots = []; known = nothing }
+stored_nothing = record { roots = []; text = [] }
 
--- what is stored where this asks with it
-abbrev pub stored_by : {H V S : Type 0} → Asker H V S → Stored
-stored_by asker = record { roots = asker.client.chain.roots; known = asker.known }
-
--- What happens to them, with what was written to the output before it. Roots are added, or this is to be remembered; after
--- a fault they may have what they had.
+-- What happens to them, with what was written to the output before it. Roots are added, or lines, or the text is written
+-- anew; after a fault they may have what they had.
 pub data Act : Type 0 where
   Loads : Stored → Act
   AddsRoots : List SignedRoot → Option (List ℕ) → Act
-  Remembers : Memory → Option (List ℕ) → Act
+  AddsLines : List ℕ → Option (List ℕ) → Act
+  Writes : List ℕ → Option (List ℕ) → Act
 
 -- what they have after all this, the latest first
 abbrev pub stored_after : List Act → Stored
 stored_after [] = stored_nothing
 stored_after (Loads stored ∷ acts) = stored
-stored_after (AddsRoots more out ∷ acts) = record { roots = (stored_after acts).roots ++ more; known = (stored_after acts).known }
-stored_after (Remembers known out ∷ acts) = record { roots = (stored_after acts).roots; known = known }
+stored_after (AddsRoots more out ∷ acts) = record { roots = (stored_after acts).roots ++ more; text = (stored_after acts).text }
+stored_after (AddsLines lines out ∷ acts) = record { roots = (stored_after acts).roots; text = (stored_after acts).text ++ lines }
+stored_after (Writes text out ∷ acts) = record { roots = (stored_after acts).roots; text = text }
+
+-- what is found in them: the roots, and the memory that the text spells
+pub record Found : Type 0 where
+  pub roots : List SignedRoot
+  pub known : Memory
+
+abbrev pub found_in : Stored → Memory → Found
+found_in stored known = record { roots = stored.roots; known = known }
+
+abbrev pub IsFound : Stored → Found → Type 0
+IsFound stored found = (stored.roots ≡ found.roots) × Spells stored.text (Ok found.known)
+
+-- what this asks with is loaded: the roots of its chain, and whole lines that spell what it knows
+abbrev pub LoadsFor : {H V S : Type 0} → (List Act → Type 0) → (List Act → Type 0) → Asker H V S → Type 0
+LoadsFor Before After asker = (text : List ℕ) × HasWholeLines text × Spells text (Ok asker.known)
+    × ((acts : List Act) → Before acts → After (Loads (record { roots = asker.client.chain.roots; text = text }) ∷ acts))
 
 -- one of these lines says this; nothing is known of it where they are not
 abbrev pub IsSaid : Option (List (List ℕ)) → ScriptLine → Type 0
@@ -56,6 +73,16 @@ IsAskedChange lines signed = (verb : Verb) × IsSaid lines (Ask (Put verb signed
 -- the promise is remembered as one for a change of the owner's own
 abbrev pub WasOwn : Memory → SignedPromise → Type 0
 WasOwn known signed = (promised : Promised) × Contains known.promises promised × (promised.signed ≡ signed) × (promised.is_own ≡ true)
+
+-- the promises that are held of earlier runs are those that were remembered for changes of the owner's own
+pub record AreEarlier (known : Memory) (earlier : List SignedPromise) : Type 0 where
+  pub were : AllByRecursion (WasOwn known) earlier
+  pub all : (signed : SignedPromise) → WasOwn known signed → Contains earlier signed
+
+-- The promise was remembered when a run began, as one for a change of the owner's own, and a mark awaited it. It counts in an
+-- epoch that is above all that were remembered so of its name.
+abbrev pub Counts : Memory → ℕ → SignedPromise → Type 0
+Counts known epoch signed = WasOwn known signed × Any (IsAwaited signed) known.marks × ((other : SignedPromise) → WasOwn known other → other.promise.name ≡ signed.promise.name → other.promise.epoch < epoch)
 
 -- the promise is signed with this key
 abbrev pub IsSignedBy : (List ℕ → List ℕ → List ℕ → Type 0) → List ℕ → SignedPromise → Type 0
@@ -82,31 +109,37 @@ abbrev pub HasMark : List Mark → Mark → Type 0
 HasMark marks old = (mark : Mark) × Contains marks mark × (mark.name ≡ old.name) × (mark.since ≤ old.since)
 
 -- the root is an old one, whose epoch was watched for the name before
-abbrev pub WasStored : Stored → List ℕ → SignedRoot → Type 0
+abbrev pub WasStored : Found → List ℕ → SignedRoot → Type 0
 WasStored before name root = Contains before.roots root
     × ((mark : Mark) × Contains before.known.marks mark × (mark.name ≡ name) × (mark.since < root.body.epoch) × (root.body.epoch ≤ mark.epoch))
 
 module _ (hash : List ℕ → List ℕ) (accepted : List ℕ → List ℕ → List ℕ → Type 0) (Given : List ℕ → Option (List ℕ) → Type 0) (Own Asked : SignedPromise → Type 0) where
-  -- What is stored where something else was before a run, and this text was written in it: roots are only added, and no mark
+  -- What is found where something else was before a run, and this text was written in it: roots are only added, and no mark
   -- that was there is lost; of each root above the begin of a mark, up to the mark, it was told, or the root's epoch had been
   -- watched before. A promise for a change of the owner's own is an old one, or was asked for.
-  pub record KeepsTold (before : Stored) (text : List ℕ) (after : Stored) : Type 0 where
+  pub record KeepsTold (before : Found) (text : List ℕ) (after : Found) : Type 0 where
     pub grows : (more : List SignedRoot) × (after.roots ≡ before.roots ++ more)
     pub stays : (old : Mark) → Contains before.known.marks old → HasMark after.known.marks old
     pub told : (mark : Mark) → Contains after.known.marks mark → (root : SignedRoot) → Contains after.roots root → mark.since < root.body.epoch → root.body.epoch ≤ mark.epoch
-        → TellsEpoch Given Own hash accepted text mark.name root ⊎ WasStored before mark.name root
+        → TellsEpoch Given Own (Counts before.known) hash accepted text mark.name root ⊎ WasStored before mark.name root
     pub own : (signed : SignedPromise) → WasOwn after.known signed → WasOwn before.known signed ⊎ Asked signed
 
+  -- the text that is stored spells a memory, with which it is so
+  abbrev pub SpellsTold : Found → List ℕ → Stored → Type 0
+  SpellsTold before text stored = (known : Memory) × Spells stored.text (Ok known) × KeepsTold before text (found_in stored known)
+
   -- so it is after each of these acts of a run, the latest first, before which the output had this text
-  abbrev pub AllKeepTold : Stored → List ℕ → List Act → Type 0
+  abbrev pub AllKeepTold : Found → List ℕ → List Act → Type 0
   AllKeepTold before old [] = ⊥
-  AllKeepTold before old (Loads stored ∷ acts) = (stored ≡ before) × (acts ≡ [])
+  AllKeepTold before old (Loads stored ∷ acts) = IsFound stored before × (acts ≡ [])
   AllKeepTold before old (AddsRoots more out ∷ acts) =
-      AllKeepTold before old acts × ((text : List ℕ) × (out ≡ Some (old ++ text)) × KeepsTold before text (stored_after (AddsRoots more out ∷ acts)))
-  AllKeepTold before old (Remembers known out ∷ acts) =
-      AllKeepTold before old acts × ((text : List ℕ) × (out ≡ Some (old ++ text)) × KeepsTold before text (stored_after (Remembers known out ∷ acts)))
+      AllKeepTold before old acts × ((text : List ℕ) × (out ≡ Some (old ++ text)) × SpellsTold before text (stored_after (AddsRoots more out ∷ acts)))
+  AllKeepTold before old (AddsLines lines out ∷ acts) =
+      AllKeepTold before old acts × ((text : List ℕ) × (out ≡ Some (old ++ text)) × SpellsTold before text (stored_after (AddsLines lines out ∷ acts)))
+  AllKeepTold before old (Writes anew out ∷ acts) =
+      AllKeepTold before old acts × ((text : List ℕ) × (out ≡ Some (old ++ text)) × SpellsTold before text (stored_after (Writes anew out ∷ acts)))
 
 -- What happened in a run to what is kept: nothing, or acts after each of which all that it had watched was told. Some lines
 -- were asked under this key, and the output had this text before.
 abbrev pub LeavesTold : (List ℕ → List ℕ) → (List ℕ → List ℕ → List ℕ → Type 0) → (List ℕ → List ℕ → List ℕ → Type 0) → Option (List (List ℕ)) → List ℕ → List ℕ → (List Act → Type 0) → Type 0
-LeavesTold hash accepted verified lines key old Happened = (acts : List Act) × Happened acts × ((acts ≡ []) ⊎ ((start : Stored) × AllKeepTold hash accepted (IsAsked lines) (IsOwnPromise verified key lines start.known) (IsAskedChange lines) start old acts))
+LeavesTold hash accepted verified lines key old Happened = (acts : List Act) × Happened acts × ((acts ≡ []) ⊎ ((start : Found) × AllKeepTold hash accepted (IsAsked lines) (IsOwnPromise verified key lines start.known) (IsAskedChange lines) start old acts))

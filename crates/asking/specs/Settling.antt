@@ -1,5 +1,5 @@
 -- The command that settles the alarms of a name.
-use Rattle.std.specs.Prelude.{◌≡◌, ℕ, List, [], ◌∷◌, ◌++◌, Option, Some, None, Ok, codes, decimal}
+use Rattle.std.specs.Prelude.{◌≡◌, ◌⊎◌, ℕ, ◌<◌, ◌≤◌, List, [], ◌∷◌, ◌++◌, Option, Some, None, Ok, codes, decimal}
 use Rattle.std.specs.Io.KnownBytes.{Appends}
 use Rattle.hex.specs.Hex.{decode_of, encode_lower}
 use Rattle.encoding.specs.Limits.{IsName}
@@ -7,6 +7,7 @@ use Rattle.memory.specs.Memories.{Memory}
 use Rattle.textio.specs.Output.{WritesSome}
 use Rattle.asking.specs.AskOptions.{AskOptions}
 use Rattle.asking.specs.Recalled.{evidence_again}
+use Rattle.asking.specs.declared.said.TheConstants.{CAUGHT}
 
 -- the words are `settle` and a name in hexadecimal digits, and there is a state
 abbrev pub IsSettling : AskOptions → List ℕ → Type 0
@@ -21,10 +22,11 @@ settled_line name count = codes "settled " ++ encode_lower name ++ codes " " ++ 
 abbrev pub settled_text : Memory → List ℕ → ℕ → List ℕ
 settled_text known name count = (evidence_again known).lines ++ settled_line name count
 
--- all of that is written, and the status is that of the evidence
+-- all of that is written, or behind evidence perhaps a beginning; the status is that of the evidence
 abbrev pub Settles : List ℕ → ℕ → Option (List ℕ) → Option (List ℕ) → Type 0
-Settles name status old new = (known : Memory) × (count : ℕ) × (status ≡ (evidence_again known).status) × Appends old new (settled_text known name count)
+Settles name status old new = (known : Memory) × (count : ℕ) × (status ≡ (evidence_again known).status)
+    × (Appends old new (settled_text known name count) ⊎ ((CAUGHT ≤ status) × WritesSome old new (settled_text known name count)))
 
--- or a beginning of it
+-- a beginning of it is written, and there is no evidence
 abbrev pub SettlesPart : List ℕ → Option (List ℕ) → Option (List ℕ) → Type 0
-SettlesPart name old new = (known : Memory) × (count : ℕ) × WritesSome old new (settled_text known name count)
+SettlesPart name old new = (known : Memory) × (count : ℕ) × ((evidence_again known).status < CAUGHT) × WritesSome old new (settled_text known name count)

@@ -10,12 +10,12 @@ use Rattle.client.specs.declared.client_refusal.Refusal.{Refusal}
 use Rattle.asking.specs.declared.said.Said.{Said}
 use Rattle.asking.specs.declared.said.TheConstants.{OTHER_INDEX}
 use Rattle.asking.specs.Refused.{client_refuses, refuses_text}
-use Rattle.asking.specs.Reports.{Report, Tells, refused, silent}
+use Rattle.asking.specs.Reports.{Report, Tells, caught, refused, silent}
 
 -- nothing of one that was kept, and evidence of one that was broken
 abbrev pub due_told : Result Due Refusal → Report
 due_told (Ok Kept) = silent
-due_told (Ok (Broken broken)) = refused (evidence_text (evidence.Broken broken))
+due_told (Ok (Broken broken)) = caught (evidence_text (evidence.Broken broken))
 due_told (Ok OtherIndex) = refused (refuses_text (codes "client refuses promise") OTHER_INDEX)
 due_told (Err why) = client_refuses (codes "client refuses proof") why
 

@@ -13,7 +13,7 @@ use Rattle.wire.specs.Frames.{Frame}
 use Rattle.wire.specs.Requests.{RequestContent, Query}
 use Rattle.memory.specs.declared.mark.Mark.{Mark}
 use Rattle.asking.specs.declared.said.Said.{Said}
-use Rattle.asking.specs.declared.said.TheConstants.{ALARM}
+use Rattle.asking.specs.declared.said.TheConstants.{CAUGHT}
 use Rattle.asking.specs.Refused.{client_refuses}
 use Rattle.asking.specs.Scenes.{Scene, FrameAnswers, IsUnanswered}
 use Rattle.asking.specs.Reports.{Report, Tells, told_after}
@@ -22,7 +22,7 @@ use Rattle.asking.specs.Visiting.{TestsAll, TestsSome}
 -- what a step tells
 abbrev pub step_told : List ℕ → ℕ → Step → Report
 step_told name epoch Kept = record { lines = step_text name epoch Kept ++ 10 ∷ []; status = 0 }
-step_told name epoch (Alarm at found) = record { lines = step_text name epoch (Alarm at found) ++ 10 ∷ []; status = ALARM }
+step_told name epoch (Alarm at found) = record { lines = step_text name epoch (Alarm at found) ++ 10 ∷ []; status = CAUGHT }
 
 module _ (hash : List ℕ → List ℕ) (accepted : List ℕ → List ℕ → List ℕ → Type 0) where
   -- a monitor watched an epoch by a reply, or its client refused the proof, and not for want of memory

@@ -11,7 +11,7 @@ ghost use Rattle.asking.specs.Refused.{other_reply, refuses_text};
 ghost use Rattle.asking.specs.Scenes.{miss_told, GivesBody};
 ghost use Rattle.asking.specs.Reports.{refused, report_of, Tells};
 
-use crate::said::{Said, directory_words};
+use crate::said::{REFUSED, Said, directory_words};
 use encoding::Name;
 use play::{Ask, push_number, tell_response};
 use rootchain::RootList;
@@ -92,7 +92,9 @@ pub(crate) fn tell_refused(code: u8, said: &mut Said) -> Result<(), AllocError>
     tell_response(&mut said.text, Response::Refused(code))?;
     said.words.extend_from_slice(b"refused ")?;
     push_number(&mut said.words, u64::from(code))?;
-    said.explain(directory_words(code))
+    said.explain(directory_words(code))?;
+    said.raise(REFUSED);
+    Ok(())
 }
 
 /// The body of a frame that answers what was asked; else tells why it does not, whole or not at all.

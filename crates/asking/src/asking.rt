@@ -17,6 +17,7 @@ ghost use Rattle.asking.specs.declared.ask_fault.AskFault.TheVariants.{Stopped};
 use crate::answering::answers_at;
 use crate::checking::hear;
 use crate::exchange::{exchange, frame_in};
+use crate::wanted::last_epoch;
 use crate::{AskFault, Asker, Said};
 use nodehash::NodeHash;
 use play::Ask;
@@ -55,7 +56,7 @@ fn is_change(ask: &Ask) -> bool
     }
 }
 
-/// The epoch of a response, or 0 if it has none.
+/// The epoch of a response, of roots that of the last; or 0 if it has none.
 fn epoch_in(response: &Response<'_>) -> u64
     ensures { result ≡ response_epoch (response_seen response.now) }
 {
@@ -63,7 +64,7 @@ fn epoch_in(response: &Response<'_>) -> u64
         Response::Promise(signed) => signed.promise.epoch,
         Response::Proof(found) => found.body().epoch,
         Response::Root(root) => root.body.epoch,
-        Response::Roots(_) => 0,
+        Response::Roots(roots) => last_epoch(roots),
         Response::Refused(_) => 0,
     }
 }

@@ -1,5 +1,5 @@
 // What the client makes of the reply to what was asked.
-ghost use Rattle.std.specs.Prelude.{◌≡◌, ◌≢◌, ◌++◌, ◌∷◌, ◌⊎◌, [], OnErr, OnOk, Result};
+ghost use Rattle.std.specs.Prelude.{◌≡◌, ◌≢◌, ◌⊎◌, OnErr, OnOk, Result};
 ghost use Rattle.encoding.specs.Limits.{IsName};
 ghost use Rattle.wire.specs.FrameViews.{frame_seen};
 ghost use Rattle.wire.specs.Responses.{response_seen};
@@ -12,11 +12,13 @@ ghost use Rattle.proofs.specs.declared.statement.Statement.{Statement};
 ghost use Rattle.audits.specs.Files.{evidence_text};
 ghost use Rattle.play.specs.Scripts.{ask_seen};
 ghost use Rattle.asking.specs.Checking.{look_told, promise_told, HearsFrame, HearsResponse, IsTellable};
-ghost use Rattle.asking.specs.Refused.{client_refuses, evidence_before};
-ghost use Rattle.asking.specs.Reports.{report_of, Report, Tells};
+ghost use Rattle.asking.specs.Refused.{client_refuses, evidence_told};
+ghost use Rattle.asking.specs.Reports.{caught, report_of, Report, Tells};
 
 use crate::answering::{answers_at, tell_refused, tell_unread};
 use crate::placing::{place_all, place_latest};
+use crate::said::CAUGHT;
+use crate::wanted::Wanted;
 use crate::{Checks, Said};
 use auditor::Evidence;
 use audits::evidence_json;
@@ -36,19 +38,18 @@ pub(crate) fn tell_evidence(
     evidence: &Evidence,
     said: &mut Said,
 ) -> Result<(), AllocError>
-    ensures text { OnOk result ((said.new).text.items ≡ (said.old).text.items ++ evidence_text evidence.now ++ 10 ∷ []) }
-    ensures status { (said.new).status ≡ (said.old).status }
+    ensures { OnOk result (Tells said.old (caught (evidence_text evidence.now)) said.new) }
 {
     let json = evidence_json(alloc, evidence)?;
     said.text.extend_from_slice(json.as_bytes())?;
     said.text.push(b'\n')?;
+    said.raise(CAUGHT);
     Ok(())
 }
 
 /// Tells the evidence of a refusal, if it has some.
 fn tell_roots(alloc: Global, why: Refusal, said: &mut Said) -> Result<(), AllocError>
-    ensures text { OnOk result ((said.new).text.items ≡ (said.old).text.items ++ evidence_before why) }
-    ensures status { (said.new).status ≡ (said.old).status }
+    ensures { OnOk result (Tells said.old (evidence_told why) said.new) }
 {
     match why {
         Refusal::RootDiffers(roots) => tell_evidence(alloc, &Evidence::Root(roots), said),
@@ -191,10 +192,12 @@ where
             if !is_answer {
                 return said.refuse_other();
             }
-            let Ask::History { .. } = ask else {
+            let Ask::History { from, count } = ask else {
                 unreachable!()
             };
-            place_all(alloc, client, checks, roots, said)
+            let (from, count) = (*from, *count);
+            let wanted = Wanted { held, from, count };
+            place_all(alloc, client, checks, &wanted, roots, said)
         }
     }
 }

@@ -4,7 +4,7 @@ ghost use Rattle.client.specs.declared.client_refusal.Refusal.TheVariants.{Memor
 ghost use Rattle.memory.specs.Watching.{IsAwaited};
 ghost use Rattle.asking.specs.Askers.{asker_changes, asker_earlier, asker_key, asker_known, asker_marks};
 ghost use Rattle.asking.specs.Exchanges.{ExchangesFrames};
-ghost use Rattle.asking.specs.Joining.{first_expected, noted_for, own_for, AllHand, BeginsAt, BeginsSome, BeginsSomeAt, BeginsWatch, IsJoined, IsLaterPromise, IsLatest, IsUnwatched, RefusesOne, Retraces, RetracesOne, StartsFrom, WatchesNew, WatchesSome};
+ghost use Rattle.asking.specs.Joining.{first_expected, noted_for, own_for, AllHand, BeginsAt, BeginsSome, BeginsSomeAt, BeginsWatch, IsJoined, IsLaterPromise, IsLatest, IsLeftToWatch, RefusesOne, Retraces, RetracesOne, StartsFrom, watched_told, WatchesNew, WatchesSome};
 ghost use Rattle.asking.specs.Recalled.{TellsAlarms};
 ghost use Rattle.asking.specs.Reports.{report_of, Report, Tells};
 ghost use Rattle.asking.specs.Scenes.{scene, HaltsAfter, StaysWhole};
@@ -12,7 +12,7 @@ ghost use Rattle.asking.specs.declared.ask_fault.AskFault.TheVariants.{Stopped};
 
 use crate::checking::tell_client;
 use crate::promises::is_marked;
-use crate::said::ALARM;
+use crate::said::CAUGHT;
 use crate::watching::hand_one;
 use crate::{AskFault, Asker, Checks, Said};
 use client::{Client, Refusal};
@@ -35,7 +35,7 @@ where
 {
     /// Tells the alarms of a name again that earlier runs told. Then it adds a monitor of the name that expects this key,
     /// or none, and lets it watch each epoch that is new: those behind the mark of the name, or the latest one if there
-    /// is no mark. Where none is new, nothing is added.
+    /// is no mark. Where none is new, nothing is added, and it is told up to which epoch the name was watched.
     ///
     /// # Errors
     ///
@@ -68,7 +68,8 @@ where
         said.join(now)
     }
 
-    /// Adds a monitor of a name, and lets it watch each epoch that is new.
+    /// Adds a monitor of a name, and lets it watch each epoch that is new. Where none is, tells up to which epoch the name
+    /// was watched.
     fn watch_new<T: Read + Write>(
         &mut self,
         stream: &mut T,
@@ -83,11 +84,13 @@ where
         ensures halts { IfErr result (λ fault. HaltsAfter (WatchesSome H.digest_of V.accepted S.verified (ExchangesFrames T.contents T.remaining) (asker_marks self.old) (asker_key self.old) (own_for (asker_marks self.old) name.now (asker_earlier self.old) (asker_changes self.old)) name.now (option_map (λ key. key.now) key.entry)
             (scene self.old said.old stream.old)) fault self.new said.new) }
     {
-        let Some(first) = first_unwatched(&self.client, &self.marks, name) else {
-            return Ok(());
-        };
-        self.begin_watch(stream, &first, name, key, said)?;
-        self.test_promises(stream, said)
+        match left_to_watch(&self.client, &self.marks, name) {
+            ToWatch::FromRoot(first) => {
+                self.begin_watch(stream, &first, name, key, said)?;
+                self.test_promises(stream, said)
+            }
+            ToWatch::Nothing(epoch) => Ok(tell_watched(self.alloc, name, epoch, said)?),
+        }
     }
 
     /// Adds a monitor that watches from this root on, and lets it watch.
@@ -162,7 +165,7 @@ fn alarms_said(alloc: Global, known: &memory::Memory, name: &Name) -> Result<Sai
     if count == 0 {
         return Ok(said);
     }
-    said.raise(ALARM);
+    said.raise(CAUGHT);
     Ok(said)
 }
 
@@ -188,27 +191,45 @@ fn explain_again(
     said.words.extend_from_slice(&words)
 }
 
-/// The first root whose epoch was not watched for a name in an earlier run.
-fn first_unwatched<H, V, S>(
-    client: &Client<H, V, S>,
-    marks: &[Mark],
-    name: &Name,
-) -> Option<SignedRoot>
+/// Where the watching of a name goes on.
+#[derive(Debug, Drop)]
+enum ToWatch {
+    /// At this root.
+    FromRoot(SignedRoot),
+    /// Nowhere: all was watched up to this epoch.
+    Nothing(u64),
+}
+
+/// The first root whose epoch was not watched for a name in an earlier run, or the last epoch that was.
+fn left_to_watch<H, V, S>(client: &Client<H, V, S>, marks: &[Mark], name: &Name) -> ToWatch
 where
     H: NodeHash + Drop,
     V: VufCheck + Drop,
     S: Verifier + Drop,
-    ensures { IsUnwatched client.now.chain name.now marks.now result }
+    ensures { IsLeftToWatch client.now.chain name.now marks.now result }
 {
     for mark in marks {
         if mark.name == *name {
             return match client.chain().after(mark.epoch) {
-                Some(root) => Some(root.copied()),
-                None => None,
+                Some(root) => ToWatch::FromRoot(root.copied()),
+                None => ToWatch::Nothing(mark.epoch),
             };
         }
     }
-    Some(client.chain().head().copied())
+    ToWatch::FromRoot(client.chain().head().copied())
+}
+
+/// Tells up to which epoch a name was watched, whole or not at all.
+fn tell_watched(alloc: Global, name: &Name, epoch: u64, said: &mut Said) -> Result<(), AllocError>
+    ensures tells { OnOk result (Tells said.old (watched_told name.now epoch) said.new) }
+    ensures untold { OnErr result (report_of said.new ≡ report_of said.old) }
+{
+    let mut line = Vec::from_slice(alloc, b"watched ")?;
+    push_hex(&mut line, name.bytes())?;
+    line.push(b' ')?;
+    push_number(&mut line, epoch)?;
+    line.push(b'\n')?;
+    said.text.extend_from_slice(&line)
 }
 
 /// A client whose chain is that of another one from this root on.

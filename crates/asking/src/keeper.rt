@@ -1,12 +1,11 @@
 // Where a run keeps its state. Contracts know what is handed to it, and what was written to the output before that.
 ghost use Rattle.std.specs.Prelude.{◌≡◌, ◌∷◌, [], List, IfErr, IfOk, OnErr};
-ghost use Rattle.std.specs.List.{AllByRecursion};
 ghost use Rattle.asking.specs.Askers.{asker_changes, asker_client, asker_earlier, asker_key, asker_known, asker_marks, asker_monitors, asker_token};
 ghost use Rattle.asking.specs.Remembering.{AreWithin};
 ghost use Rattle.asking.specs.Reports.{report_of};
 ghost use Rattle.asking.specs.RunFaults.{IsFaultOfSaving, IsFaultOfState};
 ghost use Rattle.asking.specs.Runs.{KeepsAll};
-ghost use Rattle.asking.specs.Saves.{roots_above, stored_by, stored_nothing, Act, AddsRoots, HasOneOfEachName, Loads, Remembers, WasOwn};
+ghost use Rattle.asking.specs.Saves.{roots_above, stored_nothing, Act, AddsLines, AddsRoots, AreEarlier, HasOneOfEachName, Loads, LoadsFor, Writes};
 
 use crate::{Asker, Checks, Said};
 use client::Client;
@@ -56,13 +55,13 @@ pub trait Keeper {
         H: NodeHash + Drop,
         V: VufCheck + Drop,
         S: Verifier + Drop,
-        ensures loads { IfOk result (λ loaded. IfOk loaded (λ found. (acts : List Act) → has self.old acts → has self.new (Loads (stored_by found.asker) ∷ acts))) }
+        ensures loads { IfOk result (λ loaded. IfOk loaded (λ found. LoadsFor (has self.old) (has self.new) found.asker)) }
         ensures fresh { IfOk result (λ loaded. IfErr loaded (λ unused. (acts : List Act) → has self.old acts → has self.new (Loads stored_nothing ∷ acts))) }
         ensures fails { OnErr result ((acts : List Act) → has self.old acts → has self.new acts) }
         ensures knows { IfOk result (λ loaded. IfOk loaded (λ found. (asker_key found.asker ≡ key) × (asker_token found.asker ≡ token) × (asker_monitors found.asker ≡ []) × (asker_changes found.asker ≡ []))) }
         ensures chain { IfOk result (λ loaded. IfOk loaded (λ found. (asker_client found.asker).chain.key ≡ key)) }
         ensures kept { IfOk result (λ loaded. IfOk loaded (λ found. KeepsAll (asker_client found.asker) (asker_earlier found.asker))) }
-        ensures own { IfOk result (λ loaded. IfOk loaded (λ found. AllByRecursion (WasOwn (asker_known found.asker)) (asker_earlier found.asker))) }
+        ensures own { IfOk result (λ loaded. IfOk loaded (λ found. AreEarlier (asker_known found.asker) (asker_earlier found.asker))) }
         ensures memory { IfOk result (λ loaded. IfOk loaded (λ found. (found.memory ≡ asker_known found.asker) × (asker_marks found.asker ≡ found.memory.marks))) }
         ensures marks { IfOk result (λ loaded. IfOk loaded (λ found. AreWithin (asker_client found.asker).chain found.memory × HasOneOfEachName found.memory)) }
         ensures said { report_of said.new ≡ report_of said.old }
@@ -87,31 +86,21 @@ pub trait Keeper {
         ensures acts { (acts : List Act) → has self.old acts → has self.new (AddsRoots (roots_above epoch client.now.chain.roots) (W.contents writer.now) ∷ acts) }
         ensures err { IfErr result IsFaultOfSaving };
 
-    /// Adds lines with which the memory is this one. After a fault some of them may be there.
+    /// Adds lines to the text of the memory. After a fault some of them may be there.
     ///
     /// # Errors
     ///
     /// `CannotWrite`; `OutOfMemory`.
-    fn add<W: Write>(
-        &mut self,
-        memory: &Memory,
-        lines: &[u8],
-        writer: &W,
-    ) -> Result<(), ProgramFault>
-        ensures acts { (acts : List Act) → has self.old acts → has self.new (Remembers memory.now (W.contents writer.now) ∷ acts) }
+    fn add<W: Write>(&mut self, lines: &[u8], writer: &W) -> Result<(), ProgramFault>
+        ensures acts { (acts : List Act) → has self.old acts → has self.new (AddsLines lines.now (W.contents writer.now) ∷ acts) }
         ensures err { IfErr result IsFaultOfSaving };
 
-    /// Writes this memory anew, whose text this is. After a fault there is what was there, or all of it.
+    /// Writes the text of the memory anew. After a fault there is what was there, or all of it.
     ///
     /// # Errors
     ///
     /// `CannotWrite`; `OutOfMemory`.
-    fn replace<W: Write>(
-        &mut self,
-        memory: &Memory,
-        text: &[u8],
-        writer: &W,
-    ) -> Result<(), ProgramFault>
-        ensures acts { (acts : List Act) → has self.old acts → has self.new (Remembers memory.now (W.contents writer.now) ∷ acts) }
+    fn replace<W: Write>(&mut self, text: &[u8], writer: &W) -> Result<(), ProgramFault>
+        ensures acts { (acts : List Act) → has self.old acts → has self.new (Writes text.now (W.contents writer.now) ∷ acts) }
         ensures err { IfErr result IsFaultOfSaving };
 }

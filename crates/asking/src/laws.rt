@@ -1,15 +1,33 @@
-ghost use Rattle.std.specs.Prelude.{◌≡◌, ◌++◌, ◌<◌, ◌≤◌, ℕ, Contains, List, None, Option, Some};
+ghost use Rattle.std.specs.Prelude.{◌≡◌, ◌≢◌, ◌++◌, ◌<◌, ◌≤◌, ℕ, [], Contains, List, None, Ok, Option, Some};
 ghost use Rattle.std.specs.List.{AllByRecursion};
+ghost use Rattle.client.specs.declared.client_refusal.Refusal.{Refusal};
+ghost use Rattle.client.specs.declared.client_refusal.Refusal.TheVariants.{RootDiffers};
+ghost use Rattle.client.specs.declared.due.Due.TheVariants.{Broken};
+ghost use Rattle.memory.specs.Memories.{Memory};
+ghost use Rattle.memory.specs.Texts.{Spells};
 ghost use Rattle.memory.specs.declared.mark.Mark.{Mark};
+ghost use Rattle.monitor.specs.declared.step.Step.TheVariants.{Alarm};
+ghost use Rattle.proofs.specs.declared.broken_promise.BrokenPromise.{BrokenPromise};
+ghost use Rattle.proofs.specs.declared.statement.Statement.{Statement};
+ghost use Rattle.rootchain.specs.declared.evidence.RootEvidence.{RootEvidence};
+ghost use Rattle.rootchain.specs.Chains.{KeyedRoots};
 ghost use Rattle.rootchain.specs.declared.signed_promise.SignedPromise.{SignedPromise};
 ghost use Rattle.rootchain.specs.declared.signed_root.SignedRoot.{SignedRoot};
 ghost use Rattle.asking.specs.AskOptions.{AskOptions};
+ghost use Rattle.asking.specs.Ending.{stopped_status};
+ghost use Rattle.asking.specs.Checking.{AreTold};
 ghost use Rattle.asking.specs.Exchanges.{ExchangesFrames};
+ghost use Rattle.asking.specs.Recalled.{evidence_again, TellsAlarms};
+ghost use Rattle.asking.specs.Refused.{client_refuses};
+ghost use Rattle.asking.specs.Reports.{refused, told_after, Report};
 ghost use Rattle.asking.specs.Runs.{lines_asked, RunsWhole};
-ghost use Rattle.asking.specs.Saves.{HasMark, IsAsked, IsAskedChange, IsOwnPromise, WasOwn};
+ghost use Rattle.asking.specs.Saves.{HasMark, IsAsked, IsAskedChange, IsOwnPromise, Stored, WasOwn};
 ghost use Rattle.asking.specs.StateRuns.{left_by, AllRun, StateRun, WasAskedIn, WasTold};
+ghost use Rattle.asking.specs.Testing.{due_told};
 ghost use Rattle.asking.specs.Told.{TellsWatched};
-ghost use Rattle.asking.specs.declared.said.TheConstants.{ALARM, OTHER_INDEX, OTHER_REPLY, REFUSED};
+ghost use Rattle.asking.specs.Wanted.{last_epoch, roots_sent, AreWanted, BeginFrom, IsOfChain, IsReached};
+ghost use Rattle.asking.specs.Watching.{step_told};
+ghost use Rattle.asking.specs.declared.said.TheConstants.{OTHER_INDEX, OTHER_REPLY};
 
 use nodehash::NodeHash;
 use sigiface::Verifier;
@@ -17,12 +35,25 @@ use std::io::{Read, Write};
 use vrfiface::VufCheck;
 
 /// A reply that does not answer what was asked is refused with 25, and a promise whose name has another index than
-/// it says with 26. A run in which something was refused has status 1, and one with an alarm has status 3.
+/// it says with 26.
 pub fn refusals_have_their_numbers()
     ensures reply { OTHER_REPLY ≡ 25 }
     ensures index { OTHER_INDEX ≡ 26 }
-    ensures refused { REFUSED ≡ 1 }
-    ensures alarm { ALARM ≡ 3 }
+{}
+
+/// What is told has status 3 where the provider is caught: by roots that contradict the chain, by a promise that was not
+/// kept, or by evidence of an earlier run; and where a name is not as its owner expects, also by an alarm of an earlier run.
+/// Any other refusal has status 1. Behind a 3 a run ends with 3, whatever else is told, also if it is stopped.
+pub fn statuses_tell_who_is_caught()
+    ensures evidence { (what : List ℕ) (roots : RootEvidence) → (client_refuses what (RootDiffers roots)).status ≡ 3 }
+    ensures broken { (broken : BrokenPromise) → (due_told (Ok (Broken broken))).status ≡ 3 }
+    ensures known { (known : Memory) → known.evidence ≢ [] → (evidence_again known).status ≡ 3 }
+    ensures alarm { (name : List ℕ) (epoch at : ℕ) (found : Statement) → (step_told name epoch (Alarm at found)).status ≡ 3 }
+    ensures alarms { (name : List ℕ) (known : Memory) (told : Report) → TellsAlarms name known told → told.lines ≢ [] → told.status ≡ 3 }
+    ensures refused { (line : List ℕ) → (refused line).status ≡ 1 }
+    ensures refuses { (what : List ℕ) (why : Refusal) → ((roots : RootEvidence) → why ≢ RootDiffers roots) → (client_refuses what why).status ≡ 1 }
+    ensures stays { (before told : Report) → before.status ≡ 3 → told.status ≤ 3 → (told_after before told).status ≡ 3 }
+    ensures stopped { stopped_status 3 ≡ 3 }
 {}
 
 /// Each epoch that a monitor watched in a whole run is told: the output has the line of a step for it, which compares
@@ -33,17 +64,36 @@ pub fn watched_epochs_are_told<T: Read + Write, H: NodeHash, V: VufCheck, S: Ver
         → (text : List ℕ) × (new ≡ Some (old ++ text)) × AllByRecursion (TellsWatched H.digest_of V.accepted text) run.last.monitors }
 {}
 
-/// Whatever runs there were over one state, and wherever each was stopped: each root of the state that a mark says was
-/// watched is told in the output of one of the runs, before the last of what that run did to the state. No mark of an
-/// earlier run is lost: the state has one of its name that begins no later. Each promise that the state has for a change of
-/// the owner's own is for one that a line of some run asks for.
+/// Whatever runs there were over one state, and wherever each was stopped: what is saved loads as a memory. Each root of
+/// the state that a mark of it says was watched is told in the output of one of the runs, before the last of what that run
+/// did to the state, or was watched before all of them. No root is lost, and no mark of an earlier run: the memory has one of
+/// its name that begins no later. Each promise that it has for a change of the owner's own is for one that a line of some run
+/// asks for, or was remembered so before all of them.
 pub fn stored_marks_are_told<H: NodeHash, V: VufCheck, S: Verifier>()
-    ensures told { (key : List ℕ) (runs : List (StateRun (Option (List (List ℕ))))) → AllRun H.digest_of V.accepted IsAsked (λ asked found. IsOwnPromise S.verified key asked found.known) IsAskedChange runs
-        → (mark : Mark) → Contains (left_by runs).known.marks mark
-        → (root : SignedRoot) → Contains (left_by runs).roots root → mark.since < root.body.epoch → root.body.epoch ≤ mark.epoch
-        → WasTold H.digest_of V.accepted IsAsked (λ asked found. IsOwnPromise S.verified key asked found.known) runs mark.name root }
-    ensures stay { (key : List ℕ) (later earlier : List (StateRun (Option (List (List ℕ))))) → AllRun H.digest_of V.accepted IsAsked (λ asked found. IsOwnPromise S.verified key asked found.known) IsAskedChange (later ++ earlier)
-        → (old : Mark) → Contains (left_by earlier).known.marks old → HasMark (left_by (later ++ earlier)).known.marks old }
-    ensures own { (key : List ℕ) (runs : List (StateRun (Option (List (List ℕ))))) → AllRun H.digest_of V.accepted IsAsked (λ asked found. IsOwnPromise S.verified key asked found.known) IsAskedChange runs
-        → (signed : SignedPromise) → WasOwn (left_by runs).known signed → WasAskedIn IsAskedChange runs signed }
+    ensures loads { (key : List ℕ) (first : Stored) (runs : List (StateRun (Option (List (List ℕ))))) → AllRun H.digest_of V.accepted IsAsked (IsOwnPromise S.verified key) IsAskedChange first runs
+        → (before : Memory) → Spells first.text (Ok before) → (known : Memory) × Spells (left_by first runs).text (Ok known) }
+    ensures told { (key : List ℕ) (first : Stored) (runs : List (StateRun (Option (List (List ℕ))))) → AllRun H.digest_of V.accepted IsAsked (IsOwnPromise S.verified key) IsAskedChange first runs
+        → (known : Memory) → Spells (left_by first runs).text (Ok known) → (mark : Mark) → Contains known.marks mark
+        → (root : SignedRoot) → Contains (left_by first runs).roots root → mark.since < root.body.epoch → root.body.epoch ≤ mark.epoch
+        → WasTold H.digest_of V.accepted IsAsked (IsOwnPromise S.verified key) first runs mark.name root }
+    ensures grow { (key : List ℕ) (first : Stored) (later earlier : List (StateRun (Option (List (List ℕ))))) → AllRun H.digest_of V.accepted IsAsked (IsOwnPromise S.verified key) IsAskedChange first (later ++ earlier)
+        → (more : List SignedRoot) × ((left_by first (later ++ earlier)).roots ≡ (left_by first earlier).roots ++ more) }
+    ensures stay { (key : List ℕ) (first : Stored) (later earlier : List (StateRun (Option (List (List ℕ))))) → AllRun H.digest_of V.accepted IsAsked (IsOwnPromise S.verified key) IsAskedChange first (later ++ earlier)
+        → (before known : Memory) → Spells (left_by first earlier).text (Ok before) → Spells (left_by first (later ++ earlier)).text (Ok known) → (old : Mark) → Contains before.marks old → HasMark known.marks old }
+    ensures own { (key : List ℕ) (first : Stored) (runs : List (StateRun (Option (List (List ℕ))))) → AllRun H.digest_of V.accepted IsAsked (IsOwnPromise S.verified key) IsAskedChange first runs
+        → (known : Memory) → Spells (left_by first runs).text (Ok known) → (signed : SignedPromise) → WasOwn known signed → WasAskedIn IsAskedChange first runs signed }
+{}
+
+/// Of the roots that a directory has, where each names the one before, and none comes before the first, it sends so many
+/// from an epoch on. If they go up to the head that a chain had, and the chain has got as far as those that are sent, these
+/// are what was asked for.
+pub fn sent_roots_are_wanted<H: NodeHash>()
+    ensures { (chain : KeyedRoots) (held from count : ℕ) (all : List SignedRoot) → BeginFrom H.digest_of 0 all → held ≤ last_epoch 0 all → IsReached chain (roots_sent from count all)
+        → AreWanted H.digest_of chain (record { held = held; from = from; count = count }) (roots_sent from count all) }
+{}
+
+/// Roots that are told without a refusal are those of the chain, and older ones.
+pub fn told_roots_are_of_the_chain<H: NodeHash, S: Verifier>()
+    ensures { (chain : KeyedRoots) (held from count : ℕ) (roots : List SignedRoot) (told : Report) → AreTold H.digest_of S.verified chain (record { held = held; from = from; count = count }) roots roots told
+        → told.status ≡ 0 → AllByRecursion (IsOfChain chain) roots }
 {}

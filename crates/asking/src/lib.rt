@@ -2,8 +2,9 @@
 //! checked as a client checks it (after CONIKS, section 4), and told in the line that `play` prints.
 //!
 //! Callers can rely on this: whatever bytes come back, a reply is told only as the client's own calls
-//! decide: a proof that the client refuses, a latest root that does not stand in its chain, a promise that its
-//! provider did not sign, and a reply to another request are told as refused, by the number of the refusal.
+//! decide: a proof that the client refuses, a latest root that does not stand in its chain, roots of which one is left
+//! out, a promise that its provider did not sign, and a reply to another request are told as refused, by the number of
+//! the refusal.
 //! Contracts do not know what a socket or a file has; `scripts/asks.py` shows those.
 //!
 //! ```text
@@ -33,15 +34,20 @@ mod said;
 mod settling;
 mod state;
 mod state_files;
+mod wanted;
 mod watching;
 
 pub use ask_fault::AskFault;
 pub use asker::Asker;
 pub use checking::hear;
 pub use keeper::{Keeper, Loaded};
-pub use laws::{refusals_have_their_numbers, stored_marks_are_told, watched_epochs_are_told};
+pub use laws::{
+    refusals_have_their_numbers, sent_roots_are_wanted, statuses_tell_who_is_caught,
+    stored_marks_are_told, told_roots_are_of_the_chain, watched_epochs_are_told,
+};
 pub use order::{AskKeys, AskOrder};
 pub use play::Checks;
 pub use run::RunEnd;
 pub use running::{ask, ask_over};
 pub use said::Said;
+pub use settling::settle_over;

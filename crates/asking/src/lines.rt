@@ -1,5 +1,6 @@
 // The lines of the files in which a client's chain and what it keeps are stored between runs.
-ghost use Rattle.std.specs.Prelude.{◌≡◌, ◌++◌, List, map, IfErr, IfOk, Ok, OnOk};
+ghost use Rattle.hex.specs.Hex.{decode_of};
+ghost use Rattle.std.specs.Prelude.{◌≡◌, ◌++◌, ◌∷◌, [], List, map, IfErr, IfOk, Ok, OnOk};
 ghost use Rattle.std.specs.List.{AllByRecursion};
 ghost use Rattle.textio.specs.Lines.{lines_of};
 ghost use Rattle.rootchain.specs.Promises.{IsSignedPromise};
@@ -11,7 +12,7 @@ ghost use Rattle.memory.specs.Texts.{Spells, TakesLine};
 ghost use Rattle.memory.specs.declared.item.Item.TheVariants as items;
 ghost use Rattle.asking.specs.Remembering.{own_of, AreOwnOf, AreWithin, IsOwnOf, IsWithin};
 ghost use Rattle.asking.specs.RunFaults.{IsFaultOfState};
-ghost use Rattle.asking.specs.Saves.{WasOwn};
+ghost use Rattle.asking.specs.Saves.{AreEarlier};
 ghost use Rattle.client.specs.Clients.{with_promise};
 ghost use Rattle.asking.specs.Runs.{IsSameAsker, StillKeeps};
 
@@ -29,7 +30,8 @@ use vrfiface::VufCheck;
 
 /// The bytes that a line of a file gives in hexadecimal digits.
 pub(crate) fn line_bytes(alloc: Global, line: &[u8], number: u64) -> Result<Vec<u8>, ProgramFault>
-    ensures { IfErr result IsFaultOfState }
+    ensures bytes { IfOk result (λ bytes. decode_of line.now ≡ Ok bytes.items) }
+    ensures err { IfErr result IsFaultOfState }
 {
     match hex::decode(alloc, line) {
         Ok(bytes) => Ok(bytes),
@@ -53,7 +55,9 @@ pub(crate) fn fault_of(why: &client::Refusal, number: u64) -> ProgramFault
 }
 
 /// Appends the list of one root, which these bytes are.
-fn push_list(list: &mut Vec<u8>, root: &[u8]) -> Result<(), AllocError> {
+fn push_list(list: &mut Vec<u8>, root: &[u8]) -> Result<(), AllocError>
+    ensures { OnOk result (list.new.items ≡ list.old.items ++ (0 ∷ 1 ∷ root.now)) }
+{
     list.extend_from_slice(&[0, 1])?;
     list.extend_from_slice(root)
 }
@@ -92,7 +96,7 @@ where
         ensures spells { IfOk result (λ memory. Spells text.now (Ok memory) × (memory ≡ (self.new).known)) }
         ensures marks { OnOk result ((self.new).marks.items ≡ (self.new).known.marks) }
         ensures earlier { OnOk result ((own : List Signed) × AreOwnOf (lines_of text.now) own × ((self.new).earlier.items ≡ (self.old).earlier.items ++ own)) }
-        ensures own { OnOk result (AllByRecursion (WasOwn (self.new).known) (self.old).earlier.items → AllByRecursion (WasOwn (self.new).known) (self.new).earlier.items) }
+        ensures own { OnOk result ((self.old).earlier.items ≡ [] → AreEarlier (self.new).known (self.new).earlier.items) }
         ensures formed { OnOk result (AllByRecursion IsSignedPromise (self.old).earlier.items → AllByRecursion IsSignedPromise (self.new).earlier.items) }
         ensures chain { (self.new).client.chain ≡ (self.old).client.chain }
         ensures changes { (self.new).changes ≡ (self.old).changes }

@@ -10,6 +10,7 @@ ghost use Rattle.asking.specs.Stopping.{epochs_text, StopsAmong, StopsAtRoot};
 ghost use Rattle.asking.specs.Reports.{Report, Tells};
 
 use crate::checking::tell_client;
+use crate::wanted::{Wanted, are_wanted};
 use crate::{Checks, Said};
 use client::{Client, Refusal};
 use nodehash::NodeHash;
@@ -119,17 +120,17 @@ where
 fn push_epochs<H, V, S>(
     client: &Client<H, V, S>,
     checks: &mut Checks<H, V, S>,
-    roots: RootList<'_>,
+    roots: &RootList<'_>,
     line: &mut Vec<u8>,
 ) -> Result<Option<Refusal>, AllocError>
 where
     H: NodeHash + Drop,
     V: VufCheck + Drop,
     S: Verifier + Drop,
-    ensures stops { IfOk result (λ stop. StopsAmong H.digest_of S.verified client.now.chain roots.entry stop) }
-    ensures text { IfOk result (λ stop. stop ≡ None → line.new.items ≡ line.old.items ++ epochs_text roots.entry) }
+    ensures stops { IfOk result (λ stop. StopsAmong H.digest_of S.verified client.now.chain roots.now stop) }
+    ensures text { IfOk result (λ stop. stop ≡ None → line.new.items ≡ line.old.items ++ epochs_text roots.now) }
 {
-    let mut rest = roots;
+    let mut rest = roots.copied();
     for _ in 0..rest.len() {
         let Some(root) = rest.next() else {
             unreachable!()
@@ -143,11 +144,12 @@ where
     Ok(None)
 }
 
-/// Tells roots that were asked for. Each verifies, and is no evidence with the chain.
+/// Tells roots that were asked for. Each verifies, and is no evidence with the chain, and none is left out.
 pub(crate) fn place_all<H, V, S>(
     alloc: Global,
     client: &Client<H, V, S>,
     checks: &mut Checks<H, V, S>,
+    wanted: &Wanted,
     roots: RootList<'_>,
     said: &mut Said,
 ) -> Result<(), AllocError>
@@ -155,12 +157,15 @@ where
     H: NodeHash + Drop,
     V: VufCheck + Drop,
     S: Verifier + Drop,
-    ensures { OnOk result ((told : Report) × AreTold H.digest_of S.verified client.now.chain roots.entry roots.entry told × Tells said.old told said.new) }
+    ensures { OnOk result ((told : Report) × AreTold H.digest_of S.verified client.now.chain wanted.now roots.entry roots.entry told × Tells said.old told said.new) }
 {
     let mut line = Vec::from_slice(alloc, b"roots")?;
-    match push_epochs(client, checks, roots, &mut line)? {
+    match push_epochs(client, checks, &roots, &mut line)? {
         Some(why) => refuse_root(alloc, why, said),
         None => {
+            if !are_wanted(client, &mut checks.hash, wanted, &roots) {
+                return said.refuse_other();
+            }
             line.push(b'\n')?;
             said.text.extend_from_slice(&line)
         }

@@ -1,5 +1,5 @@
 // The promises that the client keeps are tested once the chain has the next root.
-ghost use Rattle.std.specs.Prelude.{◌≡◌, ◌≢◌, ◌++◌, ◌∷◌, ◌↔◌, [], codes, IfErr, IfOk, IsTrue, OnErr, OnOk};
+ghost use Rattle.std.specs.Prelude.{◌≡◌, ◌≢◌, ◌↔◌, codes, IfErr, IfOk, IsTrue, OnErr, OnOk};
 ghost use Rattle.auditor.specs.declared.evidence.Evidence.TheVariants as evidence;
 ghost use Rattle.audits.specs.Files.{evidence_text};
 ghost use Rattle.asking.specs.Askers.{asker_marks};
@@ -8,7 +8,7 @@ ghost use Rattle.asking.specs.Refused.{refuses_text};
 ghost use Rattle.asking.specs.Scenes.{scene, HaltsAfter, HaltsIn, StaysWhole};
 ghost use Rattle.asking.specs.Testing.{TellsDue};
 ghost use Rattle.asking.specs.declared.said.TheConstants.{OTHER_INDEX};
-ghost use Rattle.asking.specs.Reports.{refused, report_of, Tells};
+ghost use Rattle.asking.specs.Reports.{caught, refused, report_of, Tells};
 ghost use Rattle.asking.specs.Visiting.{AwaitsMonitor, HasMonitor, IsMarked, TestsAll, TestsName, TestsSome, Visits};
 ghost use Rattle.asking.specs.declared.ask_fault.AskFault.TheVariants.{Stopped};
 
@@ -142,8 +142,7 @@ where
 
 /// Tells that a promise was not kept, by the evidence of it.
 fn tell_proof(alloc: Global, broken: BrokenPromise, said: &mut Said) -> Result<(), AllocError>
-    ensures text { OnOk result ((said.new).text.items ≡ (said.old).text.items ++ evidence_text (evidence.Broken broken) ++ 10 ∷ []) }
-    ensures status { (said.new).status ≡ (said.old).status }
+    ensures { OnOk result (Tells said.old (caught (evidence_text (evidence.Broken broken))) said.new) }
 {
     tell_evidence(alloc, &Evidence::Broken(broken), said)
 }
@@ -155,7 +154,7 @@ fn tell_broken(
     broken: BrokenPromise,
     said: &mut Said,
 ) -> Result<(), AllocError>
-    ensures { OnOk result (Tells said.old (refused (evidence_text (evidence.Broken broken))) said.new) }
+    ensures { OnOk result (Tells said.old (caught (evidence_text (evidence.Broken broken))) said.new) }
 {
     tell_proof(alloc, broken, said)?;
     said.begin(b"promise for ", name)?;

@@ -7,7 +7,7 @@ ghost use Rattle.textio.specs.declared.program_fault.ProgramFault.TheVariants.{C
 ghost use Rattle.play.specs.Scripts.{line_of, line_seen};
 ghost use Rattle.asking.specs.AskOptions.{ask_values};
 ghost use Rattle.asking.specs.Askers.{asker_changes};
-ghost use Rattle.asking.specs.Ending.{AsksPart, AsksSomeLine, BeginsNone, DoesSome, DoesSomeNoting, end_status, EndsEarly, HoldsBack, PreparesSome, stopped_status, TakesSomeNew};
+ghost use Rattle.asking.specs.Ending.{AsksPart, AsksSomeLine, BeginsNone, DoesSome, DoesSomeNoting, end_status, EndsEarly, EndsWith, FailsWith, HoldsBack, PreparesSome, TakesSomeNew};
 ghost use Rattle.asking.specs.Exchanges.{ExchangesFrames};
 ghost use Rattle.asking.specs.Keeping.{AddsTo, IsSettled, KeepsUp, SavesTo};
 ghost use Rattle.asking.specs.Recalled.{evidence_again};
@@ -16,17 +16,17 @@ ghost use Rattle.asking.specs.RunFaults.{AsksInput, CannotBeAsked, IsFaultOfSavi
 ghost use Rattle.asking.specs.Runs.{AsksLine, AsksLines, BeginsAsking, DoesLine, emptied, Grows, IsSoundFor, KeepsAll, new_background, background_of, lines_asked, Prepares, RunsWhole, TakesNew, with_word, words_line, Writes};
 ghost use Rattle.asking.specs.declared.ask_fault.AskFault.TheVariants.{OutOfMemory as NoMemory};
 ghost use Rattle.asking.specs.declared.ask_fault.RunFault.TheVariants.{Program};
-ghost use Rattle.asking.specs.declared.run.RunEnd.TheVariants.{Whole, Stopped};
-ghost use Rattle.asking.specs.declared.said.TheConstants.{ALARM};
+ghost use Rattle.asking.specs.declared.run.RunEnd.TheVariants.{Whole};
+ghost use Rattle.asking.specs.declared.said.TheConstants.{CAUGHT};
 ghost use Rattle.asking.specs.Scenes.{scene, Scene, StartsAtHead};
-ghost use Rattle.asking.specs.Saves.{Act, LeavesTold, Stored};
+ghost use Rattle.asking.specs.Saves.{Act, Found, LeavesTold};
 ghost use Rattle.asking.specs.Settling.{settled_text};
-ghost use Rattle.asking.specs.Standing.{standing, AreAsked, AsksAmong, HasBegun, HasFailed, HasLoaded, IsFresh, IsLeft, IsUpTo, LeavesState, RunStands, StateIsKept, StateStands};
+ghost use Rattle.asking.specs.Standing.{standing, AreAsked, AsksAmong, DropsAlarms, HasBegun, HasFailed, HasLoaded, IsFresh, IsLeft, IsUpTo, LeavesState, RunStands, SettlesState, StateIsKept, StateIsSaved, StateStands};
 ghost use Rattle.memory.specs.Memories.{Memory};
 
 use crate::ask_fault::RunFault;
 use crate::keeper::Keeper;
-use crate::said::{ALARM, REFUSED};
+use crate::said::{CAUGHT, REFUSED};
 use crate::settling::tell_settled;
 use crate::state::State;
 use crate::{AskFault, AskKeys, AskOrder, Asker, Checks, Said};
@@ -40,14 +40,17 @@ use std::io::{BufRead, Read, Write};
 use textio::{ProgramFault, write_text};
 use vrfiface::VufCheck;
 
-/// How a run ended, with its status: 1 if the directory or the client refused, or evidence of an earlier run is told;
-/// 3 if an alarm is told; else 0.
+/// How a run ended, with its status: 3 if evidence or an alarm is told, also one of an earlier run; else 1 if the
+/// directory or the client refused; else 0.
 #[derive(Clone, Copy, Debug, PartialEq, Eq)]
 pub enum RunEnd {
     /// All was asked.
     Whole(u8),
-    /// No reply came, new roots were refused, or a fault followed an alarm. The status is 1, or 3 after an alarm.
+    /// No reply came, new roots were refused, or a fault followed evidence or an alarm. The status is 1, or 3 after evidence
+    /// or an alarm.
     Stopped(u8),
+    /// A write failed, and evidence or an alarm had been found, of which perhaps not all is told. The status is 3.
+    Unwritten,
 }
 
 impl RunEnd {
@@ -57,6 +60,7 @@ impl RunEnd {
     {
         match self {
             RunEnd::Whole(status) | RunEnd::Stopped(status) => status,
+            RunEnd::Unwritten => CAUGHT,
         }
     }
 }
@@ -113,7 +117,7 @@ impl Run {
         }
     }
 
-    /// Ends a run with its status. That of an alarm stays, even if a fault follows.
+    /// Ends a run with its status. That of evidence or an alarm stays, even if a fault follows.
     pub(crate) fn end<W: Write, E: Write>(
         &mut self,
         outcome: Result<(), RunFault>,
@@ -121,9 +125,8 @@ impl Run {
         errors: &mut E,
     ) -> Result<RunEnd, ProgramFault>
         ensures ok { OnOk outcome ((result ≡ Ok (Whole (self.old).said.status)) × (writer.new ≡ writer.old)) }
-        ensures stopped { OnErr outcome (IfOk result (λ ended. ended ≡ Stopped (stopped_status (self.old).said.status))) }
-        ensures failed { OnErr outcome (IfErr result (λ given. (self.old).said.status < ALARM)) }
-        ensures some { OnErr outcome (WritesSome (W.contents writer.old) (W.contents writer.new) (self.old).said.text.items) }
+        ensures stopped { OnErr outcome (IfOk result (EndsWith (outcome ≡ Err (Program CannotWrite)) (self.old).said (W.contents writer.old) (W.contents writer.new))) }
+        ensures failed { OnErr outcome (IfErr result (FailsWith (outcome ≡ Err (Program CannotWrite)) (self.old).said (W.contents writer.old) (W.contents writer.new))) }
         ensures gives { IfErr result (λ given. IsFaultOfSaving given ⊎ (outcome ≡ Err (Program given))) }
         ensures grows { Grows (W.contents writer.old) (W.contents writer.new) }
     {
@@ -132,13 +135,16 @@ impl Run {
             Err(fault) => fault,
         };
         match self.conclude(fault, writer, errors) {
-            Err(fault) if self.said.status < ALARM => Err(fault),
+            Err(fault) if self.said.status < CAUGHT => Err(fault),
             Err(fault) => {
                 let _told = fault.tell(errors);
-                Ok(RunEnd::Stopped(ALARM))
+                match fault {
+                    ProgramFault::CannotWrite => Ok(RunEnd::Unwritten),
+                    _ => Ok(RunEnd::Stopped(CAUGHT)),
+                }
             }
-            Ok(()) if self.said.status < ALARM => Ok(RunEnd::Stopped(REFUSED)),
-            Ok(()) => Ok(RunEnd::Stopped(ALARM)),
+            Ok(()) if self.said.status < CAUGHT => Ok(RunEnd::Stopped(REFUSED)),
+            Ok(()) => Ok(RunEnd::Stopped(CAUGHT)),
         }
     }
 
@@ -151,6 +157,8 @@ impl Run {
     ) -> Result<(), ProgramFault>
         ensures status { (self.new).said.status ≡ (self.old).said.status }
         ensures some { WritesSome (W.contents writer.old) (W.contents writer.new) (self.old).said.text.items }
+        ensures written { OnOk result ((fault ≢ Program CannotWrite) × Appends (W.contents writer.old) (W.contents writer.new) (self.old).said.text.items) }
+        ensures unwritten { IfErr result (λ given. ((fault ≢ Program CannotWrite) × Appends (W.contents writer.old) (W.contents writer.new) (self.old).said.text.items) ⊎ (given ≡ CannotWrite)) }
         ensures gives { IfErr result (λ given. IsFaultOfSaving given ⊎ (fault ≡ Program given)) }
         ensures grows { Grows (W.contents writer.old) (W.contents writer.new) }
     {
@@ -165,8 +173,11 @@ impl Run {
             }
             RunFault::Ask(AskFault::Stopped) => self.write(writer, errors),
             RunFault::Ask(AskFault::NoReply) => {
-                self.said.words.extend_from_slice(b"no reply\n")?;
-                self.write(writer, errors)
+                // What was told is written even if memory runs out here.
+                let noted = self.said.words.extend_from_slice(b"no reply\n");
+                self.write(writer, errors)?;
+                noted?;
+                Ok(())
             }
         }
     }
@@ -197,7 +208,7 @@ impl Run {
         ensures faults { IfErr result (StopsOr (IsFaultWith (¬ ((self.old).state ≡ None)) (AsksInput (ask_values order.entry).words)
             (λ number. IfSome (lines_asked (ask_values order.entry).words (R.remaining reader.old)) (λ lines. IsFirstUnasked 1 lines number)))) }
         ensures part { OnErr result (report_of (self.old).said ≡ emptied 0 → EndsEarly H.digest_of V.accepted S.verified (ExchangesFrames T.contents T.remaining) keys.now.signing_key keys.now.token (ask_values order.entry)
-            ((self.old).state ≡ None) stream.old (R.remaining reader.old) (W.contents writer.old) (HoldsBack (W.contents writer.new) (self.new).said)) }
+            ((self.old).state ≡ None) stream.old (R.remaining reader.old) (W.contents writer.old) (HoldsBack (result ≡ Err (Program CannotWrite)) (W.contents writer.new) (self.new).said)) }
         ensures kept { IsFresh (self.old).state → (old : List ℕ) (acts : List Act) → W.contents writer.old ≡ Some old → K.has keeper.old acts
             → LeavesTold H.digest_of V.accepted S.verified (lines_asked (ask_values order.entry).words (R.remaining reader.old)) keys.now.signing_key old (λ done. K.has keeper.new (done ++ acts)) }
         ensures unread { ¬ AsksInput (ask_values order.entry).words → reader.new ≡ reader.old }
@@ -234,7 +245,7 @@ impl Run {
         ensures faults { IfErr result (StopsOr (IsFaultWith (¬ ((self.old).state ≡ None)) (AsksInput (ask_values order.entry).words)
             (λ number. IfSome (lines_asked (ask_values order.entry).words (R.remaining reader.old)) (λ lines. IsFirstUnasked 1 lines number)))) }
         ensures part { report_of (self.old).said ≡ emptied 0 → EndsEarly H.digest_of V.accepted S.verified (ExchangesFrames T.contents T.remaining) keys.now.signing_key keys.now.token (ask_values order.entry)
-            ((self.old).state ≡ None) stream.old (R.remaining reader.old) (W.contents writer.old) (HoldsBack (W.contents writer.new) (self.new).said) }
+            ((self.old).state ≡ None) stream.old (R.remaining reader.old) (W.contents writer.old) (HoldsBack (result ≡ Err (Program CannotWrite)) (W.contents writer.new) (self.new).said) }
         ensures kept { IsFresh (self.old).state → (old : List ℕ) (acts : List Act) → W.contents writer.old ≡ Some old → K.has keeper.old acts
             → IsLeft H.digest_of V.accepted S.verified (lines_asked (ask_values order.entry).words (R.remaining reader.old)) keys.now.signing_key old (λ done. K.has keeper.new (done ++ acts)) (self.new).state (W.contents writer.new) }
         ensures unread { ¬ AsksInput (ask_values order.entry).words → reader.new ≡ reader.old }
@@ -295,7 +306,7 @@ impl Run {
         ensures none { OnErr result (BeginsNone S.verified (ExchangesFrames T.contents T.remaining) keys.now.signing_key stream.old (report_of (self.old).said) (report_of (self.new).said)) }
         ensures faults { IfErr result (StopsOr (λ fault. ((¬ ((self.old).state ≡ None)) × IsFaultOfState fault) ⊎ (fault ≡ OutOfMemory))) }
         ensures stands { IfOk result (λ asker. IsFresh (self.old).state → (lines : Option (List (List ℕ))) (old : List ℕ) (acts : List Act) → K.has keeper.old acts
-            → (start : Stored) × RunStands H.digest_of V.accepted S.verified lines start old (λ done. K.has keeper.new (done ++ acts)) asker (self.new).said.text.items (self.new).state (Some old)) }
+            → (start : Found) × RunStands H.digest_of V.accepted S.verified lines start old (λ done. K.has keeper.new (done ++ acts)) asker (self.new).said.text.items (self.new).state (Some old)) }
         ensures left { OnErr result (IsFresh (self.old).state → (lines : Option (List (List ℕ))) (old : List ℕ) (acts : List Act) → K.has keeper.old acts
             → IsLeft H.digest_of V.accepted S.verified lines keys.now.signing_key old (λ done. K.has keeper.new (done ++ acts)) (self.new).state (Some old)) }
         ensures still { ((self.new).state ≡ None) ↔ ((self.old).state ≡ None) }
@@ -405,8 +416,8 @@ impl Run {
         ensures prepares { OnOk result (Writes (Prepares H.digest_of V.accepted S.verified (ExchangesFrames T.contents T.remaining) (background_of asker.old) ((self.old).state ≡ None))
             (scene asker.old (self.old).said stream.old) (W.contents writer.old) (W.contents writer.new) (scene asker.new (self.new).said stream.new)) }
         ensures part { OnErr result ((reached : Scene T) × PreparesSome H.digest_of V.accepted S.verified (ExchangesFrames T.contents T.remaining) (background_of asker.old) ((self.old).state ≡ None) (scene asker.old (self.old).said stream.old) reached
-            × HoldsBack (W.contents writer.new) (self.new).said reached.told (W.contents writer.old)) }
-        ensures stands { (lines : Option (List (List ℕ))) (start : Stored) (old : List ℕ) (acts : List Act) → RunStands H.digest_of V.accepted S.verified lines start old (λ done. K.has keeper.old (done ++ acts)) asker.old (self.old).said.text.items (self.old).state (W.contents writer.old)
+            × HoldsBack (result ≡ Err (Program CannotWrite)) (W.contents writer.new) (self.new).said reached.told (W.contents writer.old)) }
+        ensures stands { (lines : Option (List (List ℕ))) (start : Found) (old : List ℕ) (acts : List Act) → RunStands H.digest_of V.accepted S.verified lines start old (λ done. K.has keeper.old (done ++ acts)) asker.old (self.old).said.text.items (self.old).state (W.contents writer.old)
             → StateIsKept H.digest_of V.accepted S.verified lines (asker.old).key start old (λ done. K.has keeper.new (done ++ acts)) (self.new).state (W.contents writer.new)
             × OnOk result (RunStands H.digest_of V.accepted S.verified lines start old (λ done. K.has keeper.new (done ++ acts)) asker.new (self.new).said.text.items (self.new).state (W.contents writer.new)) }
         ensures stays { background_of asker.new ≡ background_of asker.old }
@@ -492,8 +503,8 @@ impl Run {
         ensures asks { OnOk result (IfSome (R.remaining reader.old) (λ input. AsksLines H.digest_of V.accepted S.verified (ExchangesFrames T.contents T.remaining) (background_of asker.old) (lines_of input)
             (scene asker.old (self.old).said stream.old) (W.contents writer.old) (W.contents writer.new) (scene asker.new (self.new).said stream.new))) }
         ensures part { IfSome (R.remaining reader.old) (λ input. (told : Report) × (now : Option (List ℕ)) × AsksPart H.digest_of V.accepted S.verified (ExchangesFrames T.contents T.remaining) (background_of asker.old) (lines_of input)
-            (scene asker.old (self.old).said stream.old) told (W.contents writer.old) now × HoldsBack (W.contents writer.new) (self.new).said told now) }
-        ensures stands { (start : Stored) (old : List ℕ) (acts : List Act) → RunStands H.digest_of V.accepted S.verified (option_map lines_of (R.remaining reader.old)) start old (λ done. K.has keeper.old (done ++ acts)) asker.old (self.old).said.text.items (self.old).state (W.contents writer.old)
+            (scene asker.old (self.old).said stream.old) told (W.contents writer.old) now × HoldsBack (result ≡ Err (Program CannotWrite)) (W.contents writer.new) (self.new).said told now) }
+        ensures stands { (start : Found) (old : List ℕ) (acts : List Act) → RunStands H.digest_of V.accepted S.verified (option_map lines_of (R.remaining reader.old)) start old (λ done. K.has keeper.old (done ++ acts)) asker.old (self.old).said.text.items (self.old).state (W.contents writer.old)
             → StateIsKept H.digest_of V.accepted S.verified (option_map lines_of (R.remaining reader.old)) (asker.old).key start old (λ done. K.has keeper.new (done ++ acts)) (self.new).state (W.contents writer.new) }
         ensures faults { IfErr result (StopsOr (IsFaultWith ⊥ ⊤ (λ number. IfSome (R.remaining reader.old) (λ input. IsFirstUnasked 1 (lines_of input) number)))) }
         ensures grows { Grows (W.contents writer.old) (W.contents writer.new) }
@@ -532,8 +543,8 @@ impl Run {
         ensures asks { OnOk result (Writes (AsksLine H.digest_of V.accepted S.verified (ExchangesFrames T.contents T.remaining) (background_of asker.old) line.now)
             (scene asker.old (self.old).said stream.old) (W.contents writer.old) (W.contents writer.new) (scene asker.new (self.new).said stream.new)) }
         ensures part { (reached : Scene T) × AsksSomeLine H.digest_of V.accepted S.verified (ExchangesFrames T.contents T.remaining) (background_of asker.old) line.now (scene asker.old (self.old).said stream.old) reached
-            × HoldsBack (W.contents writer.new) (self.new).said reached.told (W.contents writer.old) }
-        ensures stands { (lines : Option (List (List ℕ))) (start : Stored) (old : List ℕ) (acts : List Act) → AsksAmong lines line.now
+            × HoldsBack (result ≡ Err (Program CannotWrite)) (W.contents writer.new) (self.new).said reached.told (W.contents writer.old) }
+        ensures stands { (lines : Option (List (List ℕ))) (start : Found) (old : List ℕ) (acts : List Act) → AsksAmong lines line.now
             → RunStands H.digest_of V.accepted S.verified lines start old (λ done. K.has keeper.old (done ++ acts)) asker.old (self.old).said.text.items (self.old).state (W.contents writer.old)
             → StateIsKept H.digest_of V.accepted S.verified lines (asker.old).key start old (λ done. K.has keeper.new (done ++ acts)) (self.new).state (W.contents writer.new)
             × OnOk result (RunStands H.digest_of V.accepted S.verified lines start old (λ done. K.has keeper.new (done ++ acts)) asker.new (self.new).said.text.items (self.new).state (W.contents writer.new)) }
@@ -572,12 +583,12 @@ impl Run {
         S: Verifier + Drop,
         ensures asked { OnOk result (asked ≡ Ok tt) }
         ensures writes { OnOk result (Appends (W.contents writer.old) (W.contents writer.new) (self.old).said.text.items × (report_of (self.new).said ≡ emptied (self.old).said.status)) }
-        ensures leaves { HoldsBack (W.contents writer.new) (self.new).said (report_of (self.old).said) (W.contents writer.old) }
+        ensures leaves { HoldsBack (result ≡ Err (Program CannotWrite)) (W.contents writer.new) (self.new).said (report_of (self.old).said) (W.contents writer.old) }
         ensures keeps { IsSettled result → KeepsUp asker.now (self.old).said.text.items (self.old).state (self.new).state }
-        ensures kept { (lines : Option (List (List ℕ))) (key : List ℕ) (start : Stored) (old : List ℕ) (acts : List Act) → AreAsked lines start.known asker.now.changes.items → StateIsKept H.digest_of V.accepted S.verified lines key start old (λ done. K.has keeper.old (done ++ acts)) (self.old).state (W.contents writer.old)
+        ensures kept { (lines : Option (List (List ℕ))) (key : List ℕ) (start : Found) (old : List ℕ) (acts : List Act) → AreAsked lines start.known asker.now.changes.items → StateIsSaved H.digest_of V.accepted S.verified lines key start old (λ done. K.has keeper.old (done ++ acts)) (self.old).state (W.contents writer.old)
             → (asked ≢ Err NoMemory → StateStands H.digest_of V.accepted S.verified lines key start old (λ done. K.has keeper.old (done ++ acts)) (self.old).state (W.contents writer.old) (standing asker.now.client asker.now.monitors.items (self.old).said.text.items))
             → StateIsKept H.digest_of V.accepted S.verified lines key start old (λ done. K.has keeper.new (done ++ acts)) (self.new).state (W.contents writer.new) }
-        ensures stands { OnOk result ((lines : Option (List (List ℕ))) (key : List ℕ) (start : Stored) (old : List ℕ) (acts : List Act) → AreAsked lines start.known asker.now.changes.items
+        ensures stands { OnOk result ((lines : Option (List (List ℕ))) (key : List ℕ) (start : Found) (old : List ℕ) (acts : List Act) → AreAsked lines start.known asker.now.changes.items
             → StateStands H.digest_of V.accepted S.verified lines key start old (λ done. K.has keeper.old (done ++ acts)) (self.old).state (W.contents writer.old) (standing asker.now.client asker.now.monitors.items (self.old).said.text.items)
             → StateStands H.digest_of V.accepted S.verified lines key start old (λ done. K.has keeper.new (done ++ acts)) (self.new).state (W.contents writer.new) (standing asker.now.client asker.now.monitors.items [])) }
         ensures faults { IfErr result (StopsOr IsFaultOfSaving) }
@@ -619,9 +630,9 @@ impl Run {
         V: VufCheck + Drop,
         S: Verifier + Drop,
         ensures adds { OnOk result (AddsTo asker.now told.now (self.old).state (self.new).state) }
-        ensures kept { (lines : Option (List (List ℕ))) (key : List ℕ) (start : Stored) (old : List ℕ) (acts : List Act) → AreAsked lines start.known asker.now.changes.items → StateIsKept H.digest_of V.accepted S.verified lines key start old (λ done. K.has keeper.old (done ++ acts)) (self.old).state (W.contents writer.now)
+        ensures kept { (lines : Option (List (List ℕ))) (key : List ℕ) (start : Found) (old : List ℕ) (acts : List Act) → AreAsked lines start.known asker.now.changes.items → StateIsSaved H.digest_of V.accepted S.verified lines key start old (λ done. K.has keeper.old (done ++ acts)) (self.old).state (W.contents writer.now)
             → StateIsKept H.digest_of V.accepted S.verified lines key start old (λ done. K.has keeper.new (done ++ acts)) (self.new).state (W.contents writer.now) }
-        ensures stands { OnOk result ((lines : Option (List (List ℕ))) (key : List ℕ) (start : Stored) (old : List ℕ) (acts : List Act) (said : List ℕ) → AreAsked lines start.known asker.now.changes.items
+        ensures stands { OnOk result ((lines : Option (List (List ℕ))) (key : List ℕ) (start : Found) (old : List ℕ) (acts : List Act) (said : List ℕ) → AreAsked lines start.known asker.now.changes.items
             → StateStands H.digest_of V.accepted S.verified lines key start old (λ done. K.has keeper.old (done ++ acts)) (self.old).state (W.contents writer.now) (standing asker.now.client asker.now.monitors.items said)
             → StateStands H.digest_of V.accepted S.verified lines key start old (λ done. K.has keeper.new (done ++ acts)) (self.new).state (W.contents writer.now) (standing asker.now.client asker.now.monitors.items said)) }
         ensures up_to { OnOk result (IfSome (self.new).state (λ state. IsUpTo asker.now.client state.epoch)) }
@@ -651,9 +662,10 @@ impl Run {
         V: VufCheck + Drop,
         S: Verifier + Drop,
         ensures saves { OnOk result (asked.now ≢ Err NoMemory → SavesTo asker.now told.now (self.old).state (self.new).state) }
-        ensures kept { (lines : Option (List (List ℕ))) (key : List ℕ) (start : Stored) (old : List ℕ) (acts : List Act) → IfSome (self.old).state (λ state. IsUpTo asker.now.client state.epoch)
+        ensures kept { (lines : Option (List (List ℕ))) (key : List ℕ) (start : Found) (old : List ℕ) (acts : List Act) → IfSome (self.old).state (λ state. IsUpTo asker.now.client state.epoch)
             → StateStands H.digest_of V.accepted S.verified lines key start old (λ done. K.has keeper.old (done ++ acts)) (self.old).state (W.contents writer.now) (standing asker.now.client asker.now.monitors.items [])
-            → StateStands H.digest_of V.accepted S.verified lines key start old (λ done. K.has keeper.new (done ++ acts)) (self.new).state (W.contents writer.now) (standing asker.now.client asker.now.monitors.items []) }
+            → StateIsKept H.digest_of V.accepted S.verified lines key start old (λ done. K.has keeper.new (done ++ acts)) (self.new).state (W.contents writer.now)
+            × OnOk result (StateStands H.digest_of V.accepted S.verified lines key start old (λ done. K.has keeper.new (done ++ acts)) (self.new).state (W.contents writer.now) (standing asker.now.client asker.now.monitors.items [])) }
         ensures none { asked.now ≡ Err NoMemory → ((self.new).state ≡ (self.old).state) × (keeper.new ≡ keeper.old) }
         ensures said { (self.new).said ≡ (self.old).said }
         ensures err { IfErr result IsFaultOfSaving }
@@ -684,7 +696,12 @@ impl Run {
         S: Verifier + Drop,
         ensures settles { OnOk result (report_of (self.old).said ≡ emptied 0 → (known : Memory) × (count : ℕ)
             × ((self.new).said.text.items ≡ settled_text known name.now count) × ((self.new).said.status ≡ (evidence_again known).status)) }
-        ensures part { report_of (self.old).said ≡ emptied 0 → (known : Memory) × (count : ℕ) × (rest : List ℕ) × (settled_text known name.now count ≡ (self.new).said.text.items ++ rest) }
+        ensures part { report_of (self.old).said ≡ emptied 0 → (known : Memory) × (count : ℕ) × (rest : List ℕ) × (settled_text known name.now count ≡ (self.new).said.text.items ++ rest)
+            × ((self.new).said.status ≡ (evidence_again known).status) }
+        ensures drops { OnOk result (IsFresh (self.old).state → report_of (self.old).said ≡ emptied 0
+            → IfSome (self.new).state (λ state. (count : ℕ) × ((self.new).said.text.items ≡ settled_text state.memory name.now count) × ((self.new).said.status ≡ (evidence_again state.memory).status))) }
+        ensures kept { IsFresh (self.old).state → (lines : Option (List (List ℕ))) (old : List ℕ) (acts : List Act) → W.contents writer.now ≡ Some old → K.has keeper.old acts
+            → LeavesTold H.digest_of V.accepted S.verified lines keys.now.signing_key old (λ done. K.has keeper.new (done ++ acts)) }
         ensures err { IfErr result IsFaultOfState }
     {
         self.recall(keeper, checks, keys)?;
@@ -706,7 +723,10 @@ impl Run {
         V: VufCheck + Drop,
         S: Verifier + Drop,
         ensures tells { OnOk result (report_of (self.old).said ≡ emptied 0 → (known : Memory) × (report_of (self.new).said ≡ evidence_again known)) }
+        ensures knows { OnOk result (IsFresh (self.old).state → report_of (self.old).said ≡ emptied 0 → IfSome (self.new).state (λ state. report_of (self.new).said ≡ evidence_again state.memory)) }
         ensures untold { OnErr result (report_of (self.new).said ≡ report_of (self.old).said) }
+        ensures left { IsFresh (self.old).state → (lines : Option (List (List ℕ))) (old : List ℕ) (acts : List Act) → K.has keeper.old acts
+            → IsLeft H.digest_of V.accepted S.verified lines keys.now.signing_key old (λ done. K.has keeper.new (done ++ acts)) (self.new).state (Some old) }
         ensures err { IfErr result IsFaultOfState }
     {
         let Ok(asker) = self.load(keeper, checks, keys)? else {
@@ -724,6 +744,8 @@ impl Run {
         writer: &W,
     ) -> Result<usize, ProgramFault>
         ensures said { (self.new).said ≡ (self.old).said }
+        ensures hands { (acts : List Act) → K.has keeper.old acts → SettlesState name.now (K.has keeper.new) acts (self.old).state (W.contents writer.now) }
+        ensures drops { IfOk result (λ count. DropsAlarms name.now (K.has keeper.old) (K.has keeper.new) count (self.old).state (self.new).state (W.contents writer.now)) }
         ensures err { IfErr result IsFaultOfSaving }
     {
         let Some(state) = self.state.as_mut() else {
@@ -775,7 +797,7 @@ fn evidence_said(alloc: Global, known: &Memory) -> Result<Said, AllocError>
     if known.evidence().is_empty() {
         return Ok(said);
     }
-    said.raise(REFUSED);
+    said.raise(CAUGHT);
     Ok(said)
 }
 

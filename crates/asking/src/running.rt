@@ -12,7 +12,7 @@ ghost use Rattle.asking.specs.Saves.{Act, LeavesTold};
 use crate::keeper::Keeper;
 use crate::run::{Run, RunEnd};
 use crate::said::REFUSED;
-use crate::settling::{name_to_settle, settle};
+use crate::settling::{name_to_settle, settle_over};
 use crate::state_files::StateFiles;
 use crate::{AskKeys, AskOrder, Checks};
 use encoding::Hash32;
@@ -21,18 +21,18 @@ use sigiface::Verifier;
 use std::alloc::Global;
 use std::fs::{File, Files};
 use std::io::{BufRead, Read, Write};
-use std::net::{Net, TcpListener, TcpStream};
-use std::time::Duration;
+use std::net::{Net, TcpListener, TcpStream, ToSocketAddrs};
+use std::time::{Clock, Duration, Instant};
 use textio::{ProgramFault, hex32_or_zeros, option_hex32, write_text};
 use vrfiface::VufCheck;
 
-/// How long a reply is waited for.
+/// How long a connection is waited for, and a reply.
 const SECONDS: u64 = 60;
 
 /// Asks what the words of an order ask, or the lines of the input, over a connection to its address, and
 /// writes the line of each answer. The words of refusals go to the errors. Words that settle a name ask nothing. Returns
-/// the status: 1 if the directory or the client refused, if no reply came, or if evidence of an earlier run is told; 3
-/// if an alarm is told; else 0.
+/// the status: 3 if evidence or an alarm is told, also one of an earlier run; else 1 if the directory or the client refused,
+/// or no reply came; else 0.
 ///
 /// # Errors
 ///
@@ -48,7 +48,7 @@ pub fn ask<'a, N, R, W, E>(
     errors: &mut E,
 ) -> Result<u8, ProgramFault>
 where
-    N: Net<Listener = TcpListener, Stream = TcpStream> + Files<File = File>,
+    N: Net<Listener = TcpListener, Stream = TcpStream> + Clock + Files<File = File>,
     R: BufRead,
     W: Write,
     E: Write,
@@ -58,7 +58,7 @@ where
     ensures faults { IfErr result (λ fault. (fault ≡ BadHex) ⊎ IsRunFault (ask_values order.entry) (R.remaining reader.old) fault) }
     ensures grows { Grows (W.contents writer.old) (W.contents writer.new) }
     ensures runs { IfOk result (λ status. AsksOverSocket (ask_values order.entry) (R.remaining reader.old) status (W.contents writer.old) (W.contents writer.new)) }
-    ensures fails { OnErr result (FailsOverSocket (ask_values order.entry) (R.remaining reader.old) (W.contents writer.old) (W.contents writer.new)) }
+    ensures fails { IfErr result (λ fault. FailsOverSocket (ask_values order.entry) (R.remaining reader.old) fault (W.contents writer.old) (W.contents writer.new)) }
 {
     match keys_of(&order) {
         Ok(keys) => ask_under(alloc, system, keys, order, reader, writer, errors),
@@ -90,7 +90,7 @@ fn ask_under<'a, N, R, W, E>(
     errors: &mut E,
 ) -> Result<u8, ProgramFault>
 where
-    N: Net<Listener = TcpListener, Stream = TcpStream> + Files<File = File>,
+    N: Net<Listener = TcpListener, Stream = TcpStream> + Clock + Files<File = File>,
     R: BufRead,
     W: Write,
     E: Write,
@@ -100,11 +100,12 @@ where
     ensures runs { ask_keys_of (ask_values order.entry) ≡ Some (keys.signing_key, keys.token)
         → IfOk result (λ status. AsksOverSocket (ask_values order.entry) (R.remaining reader.old) status (W.contents writer.old) (W.contents writer.new)) }
     ensures fails { ask_keys_of (ask_values order.entry) ≡ Some (keys.signing_key, keys.token)
-        → OnErr result (FailsOverSocket (ask_values order.entry) (R.remaining reader.old) (W.contents writer.old) (W.contents writer.new)) }
+        → IfErr result (λ fault. FailsOverSocket (ask_values order.entry) (R.remaining reader.old) fault (W.contents writer.old) (W.contents writer.new)) }
 {
     if let Some(name) = name_to_settle(alloc, &order)? {
+        let mut keeper = StateFiles::new(alloc, system, order.state.unwrap_or(""))?;
         let checks = Checks::keyed(keys.signing_key);
-        return settle(alloc, system, checks, &keys, order, &name, writer, errors);
+        return settle_over(alloc, &mut keeper, checks, &keys, &name, writer, errors);
     }
     ask_connected(alloc, system, keys, order, reader, writer, errors)
 }
@@ -120,7 +121,7 @@ fn ask_connected<'a, N, R, W, E>(
     errors: &mut E,
 ) -> Result<u8, ProgramFault>
 where
-    N: Net<Listener = TcpListener, Stream = TcpStream> + Files<File = File>,
+    N: Net<Listener = TcpListener, Stream = TcpStream> + Clock + Files<File = File>,
     R: BufRead,
     W: Write,
     E: Write,
@@ -130,9 +131,9 @@ where
     ensures runs { ask_keys_of (ask_values order.entry) ≡ Some (keys.signing_key, keys.token)
         → IfOk result (λ status. AsksOverSocket (ask_values order.entry) (R.remaining reader.old) status (W.contents writer.old) (W.contents writer.new)) }
     ensures fails { ask_keys_of (ask_values order.entry) ≡ Some (keys.signing_key, keys.token)
-        → OnErr result (FailsOverSocket (ask_values order.entry) (R.remaining reader.old) (W.contents writer.old) (W.contents writer.new)) }
+        → IfErr result (λ fault. FailsOverSocket (ask_values order.entry) (R.remaining reader.old) fault (W.contents writer.old) (W.contents writer.new)) }
 {
-    let Ok(mut stream) = TcpStream::connect(system, order.address) else {
+    let Some(mut stream) = connected(alloc, system, order.address) else {
         write_text(errors, b"cannot connect\n")?;
         return Ok(REFUSED);
     };
@@ -153,6 +154,33 @@ where
         errors,
     )?;
     Ok(ended.status())
+}
+
+/// A connection to one of the addresses of a host, the first that answers. All of them have the time of one together: the
+/// host's owner chooses how many there are.
+fn connected<N>(alloc: Global, system: &N, address: &str) -> Option<TcpStream>
+where
+    N: Net<Listener = TcpListener, Stream = TcpStream> + Clock,
+{
+    let begun = Instant::now(system).ok()?;
+    let mut addresses = Vec::new(alloc);
+    for address in address.to_socket_addrs(system).ok()? {
+        addresses.push(address).ok()?;
+    }
+    let mut count = u32::try_from(addresses.len()).ok()?;
+    for address in &addresses {
+        let left = Duration::from_secs(SECONDS).saturating_sub(begun.elapsed(system).ok()?);
+        // A silent address leaves a share of the time to each behind it.
+        let share = left / count.max(1);
+        if share.is_zero() {
+            break;
+        }
+        if let Ok(stream) = TcpStream::connect_timeout(system, address, share) {
+            return Some(stream);
+        }
+        count = count.saturating_sub(1);
+    }
+    None
 }
 
 /// Asks what the words of an order ask, or the lines of the input, over a stream to a directory, and writes the
@@ -184,8 +212,8 @@ where
     S: Verifier + Drop,
     ensures runs { IfOk result (λ ended. RunsAs H.digest_of V.accepted S.verified (ExchangesFrames T.contents T.remaining) keys.signing_key keys.token (ask_values order.entry)
         (order.entry.state ≡ None) stream.old stream.new (R.remaining reader.old) ended (W.contents writer.old) (W.contents writer.new)) }
-    ensures fails { OnErr result (FailsAs H.digest_of V.accepted S.verified (ExchangesFrames T.contents T.remaining) keys.signing_key keys.token (ask_values order.entry)
-        (order.entry.state ≡ None) stream.old (R.remaining reader.old) (W.contents writer.old) (W.contents writer.new)) }
+    ensures fails { IfErr result (λ fault. FailsAs H.digest_of V.accepted S.verified (ExchangesFrames T.contents T.remaining) keys.signing_key keys.token (ask_values order.entry)
+        (order.entry.state ≡ None) stream.old (R.remaining reader.old) fault (W.contents writer.old) (W.contents writer.new)) }
     ensures keeps { (old : List ℕ) (acts : List Act) → W.contents writer.old ≡ Some old → K.has keeper.old acts
         → LeavesTold H.digest_of V.accepted S.verified (lines_asked (ask_values order.entry).words (R.remaining reader.old)) keys.signing_key old (λ done. K.has keeper.new (done ++ acts)) }
     ensures faults { IfErr result (IsRunFault (ask_values order.entry) (R.remaining reader.old)) }

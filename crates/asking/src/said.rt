@@ -1,17 +1,17 @@
 ghost use Rattle.std.specs.Prelude.{◌≡◌, ◌++◌, [], OnErr, OnOk};
 ghost use Rattle.asking.specs.Refused.{other_reply, refuses_text};
 ghost use Rattle.asking.specs.Reports.{refused, report_of, worse, Tells};
-ghost use Rattle.asking.specs.declared.said.TheConstants.{REFUSED};
 
 use encoding::Name;
 use play::{push_hex, push_number};
 use std::alloc::{AllocError, Global};
 
-/// The status of a run in which the directory or the client refused.
+/// The status of a run in which nothing can be said of something: the directory or the client refused, or no reply came.
 pub(crate) const REFUSED: u8 = 1;
 
-/// The status of a run in which a monitor gave an alarm.
-pub(crate) const ALARM: u8 = 3;
+/// The status of a run in which the provider is caught, by evidence or a broken promise, or a name is not as its owner
+/// expects.
+pub(crate) const CAUGHT: u8 = 3;
 
 /// The number of the refusal of a reply that does not answer what was asked.
 const OTHER_REPLY: u8 = 25;
@@ -73,7 +73,9 @@ impl Said {
         push_refusal(&mut self.text, what, number)?;
         self.text.push(b'\n')?;
         push_refusal(&mut self.words, what, number)?;
-        self.explain(words)
+        self.explain(words)?;
+        self.raise(REFUSED);
+        Ok(())
     }
 
     /// Begins a line of the errors with a name and what is done for it.
@@ -97,15 +99,14 @@ impl Said {
         )
     }
 
-    /// Ends a line of the errors by these words. Something was refused.
+    /// Ends a line of the errors by these words.
     pub(crate) fn explain(&mut self, words: &[u8]) -> Result<(), AllocError>
-        ensures text { OnOk result ((self.new).text ≡ (self.old).text) }
-        ensures status { OnOk result ((self.new).status ≡ worse (self.old).status REFUSED) }
+        ensures text { (self.new).text ≡ (self.old).text }
+        ensures status { (self.new).status ≡ (self.old).status }
     {
         self.words.extend_from_slice(b": ")?;
         self.words.extend_from_slice(words)?;
         self.words.push(b'\n')?;
-        self.raise(REFUSED);
         Ok(())
     }
 }

@@ -1,13 +1,21 @@
 // The command that settles the alarms of a name: they are dropped from what is remembered, and nothing is asked.
-ghost use Rattle.std.specs.Prelude.{◌≡◌, ◌++◌, List, ℕ, IfErr, IfOk, MatchOption, OnErr, OnOk};
+ghost use Rattle.std.specs.Prelude.{◌≡◌, ◌++◌, ◌<◌, ◌≤◌, Err, List, ℕ, IfErr, IfOk, MatchOption, OnErr, OnOk, Option, Some};
+ghost use Rattle.std.specs.Io.KnownBytes.{Appends};
+ghost use Rattle.memory.specs.Memories.{Memory};
+ghost use Rattle.textio.specs.Output.{WritesSome};
 ghost use Rattle.asking.specs.AskOptions.{ask_values};
+ghost use Rattle.asking.specs.Recalled.{evidence_again};
 ghost use Rattle.asking.specs.Reports.{report_of};
 ghost use Rattle.asking.specs.RunFaults.{IsFaultOfState};
-ghost use Rattle.asking.specs.Runs.{Grows};
-ghost use Rattle.asking.specs.Settling.{settled_line, IsSettling, Settles, SettlesPart};
+ghost use Rattle.asking.specs.Runs.{emptied, Grows};
+ghost use Rattle.asking.specs.Saves.{Act, LeavesTold};
+ghost use Rattle.asking.specs.Settling.{settled_line, settled_text, IsSettling, Settles, SettlesPart};
+ghost use Rattle.asking.specs.Standing.{IsFresh};
+ghost use Rattle.asking.specs.declared.said.TheConstants.{CAUGHT};
 
+use crate::keeper::Keeper;
 use crate::run::Run;
-use crate::state_files::StateFiles;
+use crate::said::CAUGHT;
 use crate::{AskKeys, AskOrder, Checks, Said};
 use encoding::Name;
 use hex::FromHexError;
@@ -15,7 +23,6 @@ use nodehash::NodeHash;
 use play::{push_hex, push_number};
 use sigiface::Verifier;
 use std::alloc::{AllocError, Global};
-use std::fs::{File, Files};
 use std::io::Write;
 use textio::ProgramFault;
 use vrfiface::VufCheck;
@@ -43,23 +50,23 @@ pub(crate) fn name_to_settle(
     }
 }
 
-/// Settles the alarms of a name, and tells how many there were, behind evidence of earlier runs. Returns the status.
+/// Settles the alarms of a name in what a keeper keeps, and tells how many there were, behind evidence of earlier runs.
+/// Returns the status. Behind evidence a fault is told, and is no error.
 ///
 /// # Errors
 ///
 /// Those of a state that cannot be read or written; `OutOfMemory`.
-pub(crate) fn settle<'a, F, W, E, H, V, S>(
+pub fn settle_over<K, W, E, H, V, S>(
     alloc: Global,
-    files: &'a F,
+    keeper: &mut K,
     checks: Checks<H, V, S>,
     keys: &AskKeys,
-    order: AskOrder<'a>,
     name: &Name,
     writer: &mut W,
     errors: &mut E,
 ) -> Result<u8, ProgramFault>
 where
-    F: Files<File = File>,
+    K: Keeper,
     W: Write,
     E: Write,
     H: NodeHash + Drop,
@@ -68,15 +75,65 @@ where
     ensures settles { IfOk result (λ status. Settles name.now status (W.contents writer.old) (W.contents writer.new)) }
     ensures part { OnErr result (SettlesPart name.now (W.contents writer.old) (W.contents writer.new)) }
     ensures err { IfErr result IsFaultOfState }
+    ensures keeps { (lines : Option (List (List ℕ))) (old : List ℕ) (acts : List Act) → W.contents writer.old ≡ Some old → K.has keeper.old acts
+        → LeavesTold H.digest_of V.accepted S.verified lines keys.now.signing_key old (λ done. K.has keeper.new (done ++ acts)) }
     ensures grows { Grows (W.contents writer.old) (W.contents writer.new) }
 {
-    let mut keeper = StateFiles::new(alloc, files, order.state.unwrap_or(""))?;
-    let mut run = Run::new(alloc, order.state.is_some());
-    let settled = run.settle_alarms(&mut keeper, checks, keys, name, writer);
+    let mut run = Run::new(alloc, true);
+    let settled = settle_in(&mut run, keeper, checks, keys, name, writer, errors);
+    end_settled(settled, run.status(), errors)
+}
+
+/// Settles the alarms of a name in a run, and writes what is told.
+fn settle_in<K, W, E, H, V, S>(
+    run: &mut Run,
+    keeper: &mut K,
+    checks: Checks<H, V, S>,
+    keys: &AskKeys,
+    name: &Name,
+    writer: &mut W,
+    errors: &mut E,
+) -> Result<(), ProgramFault>
+where
+    K: Keeper,
+    W: Write,
+    E: Write,
+    H: NodeHash + Drop,
+    V: VufCheck + Drop,
+    S: Verifier + Drop,
+    ensures settles { OnOk result (report_of (run.old).said ≡ emptied 0 → (known : Memory) × (count : ℕ)
+        × ((run.new).said.status ≡ (evidence_again known).status) × Appends (W.contents writer.old) (W.contents writer.new) (settled_text known name.now count)) }
+    ensures part { OnErr result (report_of (run.old).said ≡ emptied 0 → (known : Memory) × (count : ℕ)
+        × ((run.new).said.status ≡ (evidence_again known).status) × WritesSome (W.contents writer.old) (W.contents writer.new) (settled_text known name.now count)) }
+    ensures err { IfErr result IsFaultOfState }
+    ensures kept { IsFresh (run.old).state → (lines : Option (List (List ℕ))) (old : List ℕ) (acts : List Act) → W.contents writer.old ≡ Some old → K.has keeper.old acts
+        → LeavesTold H.digest_of V.accepted S.verified lines keys.now.signing_key old (λ done. K.has keeper.new (done ++ acts)) }
+    ensures grows { Grows (W.contents writer.old) (W.contents writer.new) }
+{
+    let settled = run.settle_alarms(keeper, checks, keys, name, writer);
     let written = run.write(writer, errors);
     settled?;
     written?;
-    Ok(run.status())
+    Ok(())
+}
+
+/// The status of an order that settles a name, or its fault. That of evidence stays, even if a fault follows.
+fn end_settled<E: Write>(
+    settled: Result<(), ProgramFault>,
+    status: u8,
+    errors: &mut E,
+) -> Result<u8, ProgramFault>
+    ensures ok { IfOk result (λ given. (given ≡ status) × (OnErr settled (CAUGHT ≤ status))) }
+    ensures err { IfErr result (λ fault. (settled ≡ Err fault) × (status < CAUGHT)) }
+{
+    match settled {
+        Err(fault) if status < CAUGHT => Err(fault),
+        Err(fault) => {
+            let _told = fault.tell(errors);
+            Ok(status)
+        }
+        Ok(()) => Ok(status),
+    }
 }
 
 /// Tells how many alarms of a name were dropped, whole or not at all.

@@ -1,11 +1,12 @@
 // The state of a run: what is remembered, and what of it was handed on to be kept. Each line is handed on before more is
 // told.
-ghost use Rattle.std.specs.Prelude.{◌≡◌, ◌⊎◌, ◌+◌, ◌≤◌, ◌++◌, ◌∷◌, ℕ, [], false, true, List, Option, Contains, drop, length, IfErr, IfOk, OnErr, OnOk};
+ghost use Rattle.std.specs.Prelude.{◌≡◌, ◌⊎◌, ◌+◌, ◌<◌, ◌≤◌, ◌++◌, ◌∷◌, ℕ, [], false, true, List, None, Option, Some, Contains, drop, length, IfErr, IfOk, OnErr, OnOk};
 ghost use Rattle.std.specs.List.{AllByRecursion};
+ghost use Rattle.rootchain.specs.Promises.{IsSignedPromise};
 ghost use Rattle.memory.specs.Leaving.{Leaves, Settles};
 ghost use Rattle.memory.specs.Learning.{AreGone, Each, MarksOne};
 ghost use Rattle.memory.specs.Memories.{nothing};
-ghost use Rattle.memory.specs.Texts.{items_text};
+ghost use Rattle.memory.specs.Texts.{items_text, memory_text, TakesAll};
 ghost use Rattle.memory.specs.declared.item.Item.{Item as Remembered};
 ghost use Rattle.monitor.specs.Monitors.{Monitor as Watcher};
 ghost use Rattle.asking.specs.Keeping.{LearnsAfter, LearnsBefore, LearnsPromises, MayMove};
@@ -13,7 +14,7 @@ ghost use Rattle.asking.specs.Remembering.{AreWithin};
 ghost use Rattle.asking.specs.Reports.{report_of};
 ghost use Rattle.asking.specs.RunFaults.{IsFaultOfSaving, IsFaultOfState};
 ghost use Rattle.asking.specs.Runs.{IsSoundFor, KeepsAll};
-ghost use Rattle.asking.specs.Saves.{roots_above, stored_by, stored_nothing, Act, AddsRoots, HasOneOfEachName, IsHeadEpoch, Loads, Remembers, Stored, WasOwn};
+ghost use Rattle.asking.specs.Saves.{roots_above, stored_nothing, Act, AddsLines, AddsRoots, AreEarlier, Found, HasOneOfEachName, IsHeadEpoch, Loads, LoadsFor, Writes};
 ghost use Rattle.asking.specs.Standing.{standing, AddsNoOwn, AddsOwn, AreAsked, IsKept, IsUpTo, KeepsMarks, Stands};
 
 use crate::keeper::{Keeper, Loaded};
@@ -95,7 +96,7 @@ impl State {
         H: NodeHash + Drop,
         V: VufCheck + Drop,
         S: Verifier + Drop,
-        ensures loads { IfOk result (λ loaded. IfOk loaded (λ asker. (acts : List Act) → K.has keeper.old acts → K.has keeper.new (Loads (stored_by asker) ∷ acts))) }
+        ensures loads { IfOk result (λ loaded. IfOk loaded (λ asker. LoadsFor (K.has keeper.old) (K.has keeper.new) asker)) }
         ensures fresh { IfOk result (λ loaded. IfErr loaded (λ unused. (acts : List Act) → K.has keeper.old acts → K.has keeper.new (Loads stored_nothing ∷ acts))) }
         ensures fails { OnErr result (((acts : List Act) → K.has keeper.old acts → K.has keeper.new acts) × ((self.new).is_loaded ≡ (self.old).is_loaded)) }
         ensures knows { IfOk result (λ loaded. IfOk loaded (λ asker. (asker.key ≡ key) × (asker.token ≡ token) × (asker.monitors.items ≡ []) × (asker.changes.items ≡ []))) }
@@ -105,7 +106,7 @@ impl State {
         ensures none { IfOk result (λ loaded. IfErr loaded (λ unused. ((self.new).memory ≡ (self.old).memory) × ((self.new).epoch ≡ (self.old).epoch))) }
         ensures sound { IfOk result (λ loaded. IfOk loaded (λ asker. IsSoundFor H.digest_of V.accepted S.verified key asker.client)) }
         ensures kept { IfOk result (λ loaded. IfOk loaded (λ asker. KeepsAll asker.client asker.earlier.items)) }
-        ensures own { IfOk result (λ loaded. IfOk loaded (λ asker. AllByRecursion (WasOwn asker.known) asker.earlier.items)) }
+        ensures own { IfOk result (λ loaded. IfOk loaded (λ asker. AreEarlier asker.known asker.earlier.items)) }
         ensures said { report_of said.new ≡ report_of said.old }
         ensures err { IfErr result IsFaultOfState }
     {
@@ -156,10 +157,10 @@ impl State {
         ensures looked { ((self.new).head ≡ (self.old).head) × ((self.new).monitors ≡ (self.old).monitors) }
         ensures changes { OnOk result ((self.new).changes ≡ length asker.now.changes.items) }
         ensures up_to { OnOk result (IsUpTo asker.now.client (self.new).epoch) }
-        ensures kept { (lines : Option (List (List ℕ))) (key : List ℕ) (start : Stored) (old : List ℕ) (acts : List Act) → AreAsked lines start.known asker.now.changes.items → IsKept H.digest_of V.accepted S.verified lines key start old (λ done. K.has keeper.old (done ++ acts)) (self.old).epoch (self.old).memory (W.contents writer.now)
-            → IsKept H.digest_of V.accepted S.verified lines key start old (λ done. K.has keeper.new (done ++ acts)) (self.new).epoch (self.new).memory (W.contents writer.now) }
-        ensures stands { OnOk result ((lines : Option (List (List ℕ))) (key : List ℕ) (start : Stored) (old : List ℕ) (acts : List Act) (said : List ℕ) → AreAsked lines start.known asker.now.changes.items → Stands H.digest_of V.accepted S.verified lines key start old (λ done. K.has keeper.old (done ++ acts)) (self.old).epoch (self.old).memory (W.contents writer.now) (standing asker.now.client asker.now.monitors.items said)
-            → Stands H.digest_of V.accepted S.verified lines key start old (λ done. K.has keeper.new (done ++ acts)) (self.new).epoch (self.new).memory (W.contents writer.now) (standing asker.now.client asker.now.monitors.items said)) }
+        ensures kept { (lines : Option (List (List ℕ))) (key : List ℕ) (start : Found) (old : List ℕ) (acts : List Act) → AreAsked lines start.known asker.now.changes.items → IsKept H.digest_of V.accepted S.verified lines key start old (λ done. K.has keeper.old (done ++ acts)) (self.old).epoch (self.old).memory [] (W.contents writer.now)
+            → (unsaved : List Remembered) × IsKept H.digest_of V.accepted S.verified lines key start old (λ done. K.has keeper.new (done ++ acts)) (self.new).epoch (self.new).memory unsaved (W.contents writer.now) }
+        ensures stands { OnOk result ((lines : Option (List (List ℕ))) (key : List ℕ) (start : Found) (old : List ℕ) (acts : List Act) (said : List ℕ) → AreAsked lines start.known asker.now.changes.items → Stands H.digest_of V.accepted S.verified lines key start old (λ done. K.has keeper.old (done ++ acts)) (self.old).epoch (self.old).memory [] (W.contents writer.now) (standing asker.now.client asker.now.monitors.items said)
+            → Stands H.digest_of V.accepted S.verified lines key start old (λ done. K.has keeper.new (done ++ acts)) (self.new).epoch (self.new).memory [] (W.contents writer.now) (standing asker.now.client asker.now.monitors.items said)) }
     {
         // If a fault comes before all is handed on, nothing tells how much is kept.
         let size = self.size.take();
@@ -199,9 +200,10 @@ impl State {
             × LearnsAfter told.now asker.now.monitors.items some (self.old).memory (self.new).memory) }
         ensures looked { OnOk result (((self.new).monitors ≡ length asker.now.monitors.items) × IsHeadEpoch asker.now.client.chain (self.new).head) }
         ensures changes { (self.new).changes ≡ (self.old).changes }
-        ensures kept { (lines : Option (List (List ℕ))) (key : List ℕ) (start : Stored) (old : List ℕ) (acts : List Act) → IsUpTo asker.now.client (self.old).epoch
-            → Stands H.digest_of V.accepted S.verified lines key start old (λ done. K.has keeper.old (done ++ acts)) (self.old).epoch (self.old).memory (W.contents writer.now) (standing asker.now.client asker.now.monitors.items [])
-            → Stands H.digest_of V.accepted S.verified lines key start old (λ done. K.has keeper.new (done ++ acts)) (self.new).epoch (self.new).memory (W.contents writer.now) (standing asker.now.client asker.now.monitors.items []) }
+        ensures kept { (lines : Option (List (List ℕ))) (key : List ℕ) (start : Found) (old : List ℕ) (acts : List Act) → IsUpTo asker.now.client (self.old).epoch
+            → Stands H.digest_of V.accepted S.verified lines key start old (λ done. K.has keeper.old (done ++ acts)) (self.old).epoch (self.old).memory [] (W.contents writer.now) (standing asker.now.client asker.now.monitors.items [])
+            → (unsaved : List Remembered) × Stands H.digest_of V.accepted S.verified lines key start old (λ done. K.has keeper.new (done ++ acts)) (self.new).epoch (self.new).memory unsaved (W.contents writer.now) (standing asker.now.client asker.now.monitors.items [])
+            × OnOk result (unsaved ≡ []) }
     {
         let size = self.size.take();
         let mut lines = Vec::new(self.alloc);
@@ -254,6 +256,8 @@ impl State {
     pub(crate) fn settle(&mut self, name: &Name) -> usize
         ensures settles { Settles name.now (self.old).memory (self.new).memory }
         ensures counted { result + length (self.new).memory.alarms ≡ length (self.old).memory.alarms }
+        ensures same { ((self.new).is_loaded ≡ (self.old).is_loaded) × ((self.new).epoch ≡ (self.old).epoch) × ((self.new).tested ≡ (self.old).tested) }
+        ensures unsaved { 0 < result → (self.new).size ≡ None }
     {
         let count = self.memory.settle(name);
         if 0 < count {
@@ -275,6 +279,8 @@ impl State {
         S: Verifier + Drop,
         ensures learns { OnOk result ((news : List Remembered) × LearnsPromises (drop (self.old).changes asker.now.changes.items) asker.now.client.promises (self.old).memory news (self.new).memory
             × (lines.new.items ≡ lines.old.items ++ items_text news)) }
+        ensures takes { AllByRecursion IsSignedPromise asker.now.changes.items → OnOk result ((news : List Remembered) × TakesAll news (self.old).memory (self.new).memory × (lines.new.items ≡ lines.old.items ++ items_text news)) }
+        ensures taken { AllByRecursion IsSignedPromise asker.now.changes.items → OnErr result ((news : List Remembered) × TakesAll news (self.old).memory (self.new).memory) }
         ensures some { OnErr result (KeepsMarks (self.old).memory (self.new).memory) }
         ensures own { AddsOwn asker.now.changes.items (self.old).memory (self.new).memory }
         ensures changes { OnOk result ((self.new).changes ≡ length asker.now.changes.items) }
@@ -302,6 +308,8 @@ impl State {
         S: Verifier + Drop,
         ensures learns { OnOk result ((some : List Watcher) × (news : List Remembered) × MayMove asker.now.client.chain (self.old).head (self.old).monitors asker.now.monitors.items some
             × Each (MarksOne asker.now.monitors.items) some (self.old).memory news (self.new).memory × (lines.new.items ≡ lines.old.items ++ items_text news)) }
+        ensures takes { OnOk result ((news : List Remembered) × TakesAll news (self.old).memory (self.new).memory × (lines.new.items ≡ lines.old.items ++ items_text news)) }
+        ensures taken { OnErr result ((news : List Remembered) × TakesAll news (self.old).memory (self.new).memory) }
         ensures some { OnErr result ((done : List Watcher) × (news : List Remembered) × AllByRecursion (Contains asker.now.monitors.items) done × Each (MarksOne asker.now.monitors.items) done (self.old).memory news (self.new).memory) }
         ensures looked { OnOk result (((self.new).monitors ≡ length asker.now.monitors.items) × IsHeadEpoch asker.now.client.chain (self.new).head) }
         ensures same { ((self.new).epoch ≡ (self.old).epoch) × ((self.new).changes ≡ (self.old).changes) }
@@ -332,8 +340,12 @@ impl State {
         ensures err { IfErr result IsFaultOfSaving }
         ensures leaves { OnOk result (((self.old).is_loaded ≡ false) ⊎ ((self.old).epoch ≡ 0) ⊎ Leaves (self.old).tested.items (self.old).memory (self.new).memory) }
         ensures marks { (self.new).memory.marks ≡ (self.old).memory.marks }
+        ensures evidence { (self.new).memory.evidence ≡ (self.old).memory.evidence }
         ensures own { AddsNoOwn (self.old).memory (self.new).memory }
-        ensures hands { (acts : List Act) → K.has keeper.old acts → K.has keeper.new acts ⊎ (((self.old).is_loaded ≡ true) × K.has keeper.new (Remembers (self.new).memory (W.contents writer.now) ∷ acts)) }
+        ensures hands { (acts : List Act) → K.has keeper.old acts → K.has keeper.new acts
+            ⊎ (((self.old).is_loaded ≡ true) × Leaves (self.old).tested.items (self.old).memory (self.new).memory × K.has keeper.new (Writes (memory_text (self.new).memory) (W.contents writer.now) ∷ acts)) }
+        ensures writes { OnOk result (((self.old).is_loaded ≡ false) ⊎ ((self.old).epoch ≡ 0) ⊎ ((self.old).size ≡ Some (length (memory_text (self.new).memory)))
+            ⊎ ((acts : List Act) → K.has keeper.old acts → K.has keeper.new (Writes (memory_text (self.new).memory) (W.contents writer.now) ∷ acts))) }
         ensures beside { (self.old).epoch ≡ 0 → (acts : List Act) → K.has keeper.old acts → K.has keeper.new acts }
         ensures same { ((self.new).is_loaded ≡ (self.old).is_loaded) × ((self.new).epoch ≡ (self.old).epoch) }
     {
@@ -348,7 +360,7 @@ impl State {
         if self.size == Some(text.len()) {
             return Ok(());
         }
-        keeper.replace(&self.memory, &text, writer)
+        keeper.replace(&text, writer)
     }
 
     /// Hands lines on to be kept, behind so many bytes, if that is known.
@@ -361,10 +373,10 @@ impl State {
     ) -> Result<(), ProgramFault>
         ensures err { IfErr result IsFaultOfSaving }
         ensures same { ((self.new).memory ≡ (self.old).memory) × ((self.new).epoch ≡ (self.old).epoch) × ((self.new).changes ≡ (self.old).changes) × ((self.new).head ≡ (self.old).head) × ((self.new).monitors ≡ (self.old).monitors) }
-        ensures hands { (acts : List Act) → K.has keeper.old acts → K.has keeper.new acts ⊎ K.has keeper.new (Remembers (self.old).memory (W.contents writer.now) ∷ acts) }
+        ensures hands { (acts : List Act) → K.has keeper.old acts → ((lines.now ≡ []) × K.has keeper.new acts) ⊎ K.has keeper.new (AddsLines lines.now (W.contents writer.now) ∷ acts) }
     {
         if !lines.is_empty() {
-            keeper.add(&self.memory, lines, writer)?;
+            keeper.add(lines, writer)?;
         }
         self.size = size.map(|size| size.saturating_add(lines.len()));
         Ok(())

@@ -3,15 +3,15 @@
 // the disk before more is told. At the end of a run a new second file, without the lines that no longer hold, takes the
 // place of the old one. A line without its LF was cut short, and is dropped. Contracts do not know what a file holds:
 // `scripts/states.py` shows it.
-ghost use Rattle.std.specs.Prelude.{◌≡◌, ◌⊎◌, ◌≤◌, [], length, IfErr, IfOk, OnOk};
-ghost use Rattle.std.specs.List.{AllByRecursion};
+ghost use Rattle.std.specs.Prelude.{◌≡◌, ◌≢◌, ◌⊎◌, ◌≤◌, ◌++◌, ℕ, [], All, length, List, IfErr, IfOk, Ok, OnOk};
 ghost use Rattle.textio.specs.declared.program_fault.ProgramFault.TheVariants.{OutOfMemory};
 ghost use Rattle.memory.specs.Memories.{nothing};
+ghost use Rattle.memory.specs.Texts.{HasWholeLines, Spells};
 ghost use Rattle.asking.specs.Remembering.{AreWithin};
 ghost use Rattle.asking.specs.Reports.{report_of};
 ghost use Rattle.asking.specs.RunFaults.{IsFaultOfSaving, IsFaultOfState};
 ghost use Rattle.asking.specs.Runs.{KeepsAll};
-ghost use Rattle.asking.specs.Saves.{HasOneOfEachName, WasOwn};
+ghost use Rattle.asking.specs.Saves.{AreEarlier, HasOneOfEachName};
 
 use crate::keeper::{Keeper, Loaded};
 use crate::lines::{fault_of, line_bytes, roots_text};
@@ -49,7 +49,9 @@ pub(crate) struct StateFiles<'a, F> {
 
 /// The front of the bytes up to the last LF.
 fn whole_lines(bytes: &[u8]) -> &[u8]
-    ensures { length result.now ≤ length bytes.now }
+    ensures size { length result.now ≤ length bytes.now }
+    ensures whole { HasWholeLines result.now }
+    ensures rest { (rest : List ℕ) × (bytes.now ≡ result.now ++ rest) × All (λ byte. byte ≢ 10) rest }
 {
     match bytes.iter().rposition(|byte| *byte == b'\n') {
         Some(place) => bytes.split_at(place + 1).0,
@@ -235,9 +237,10 @@ impl<F: Files<File = File>> StateFiles<'_, F> {
         ensures knows { IfOk result (λ found. (found.asker.key ≡ key) × (found.asker.token ≡ token) × (found.asker.monitors.items ≡ []) × (found.asker.changes.items ≡ [])) }
         ensures chain { IfOk result (λ found. found.asker.client.chain.key ≡ key) }
         ensures kept { IfOk result (λ found. KeepsAll found.asker.client found.asker.earlier.items) }
-        ensures own { IfOk result (λ found. AllByRecursion (WasOwn found.asker.known) found.asker.earlier.items) }
+        ensures own { IfOk result (λ found. AreEarlier found.asker.known found.asker.earlier.items) }
         ensures memory { IfOk result (λ found. (found.memory ≡ found.asker.known) × (found.asker.marks.items ≡ found.memory.marks)) }
         ensures marks { IfOk result (λ found. AreWithin found.asker.client.chain found.memory × HasOneOfEachName found.memory) }
+        ensures text { IfOk result (λ found. (text : List ℕ) × HasWholeLines text × Spells text (Ok found.asker.known)) }
         ensures said { report_of said.new ≡ report_of said.old }
         ensures err { IfErr result IsFaultOfState }
     {
@@ -342,12 +345,7 @@ impl<F: Files<File = File>> Keeper for StateFiles<'_, F> {
         }
     }
 
-    fn add<W: Write>(
-        &mut self,
-        _memory: &Memory,
-        lines: &[u8],
-        _writer: &W,
-    ) -> Result<(), ProgramFault> {
+    fn add<W: Write>(&mut self, lines: &[u8], _writer: &W) -> Result<(), ProgramFault> {
         if self.kept.is_none() {
             match open_kept(self.files, self.beside.as_str()) {
                 Ok(file) => self.kept = Some(file),
@@ -360,12 +358,7 @@ impl<F: Files<File = File>> Keeper for StateFiles<'_, F> {
         }
     }
 
-    fn replace<W: Write>(
-        &mut self,
-        _memory: &Memory,
-        text: &[u8],
-        _writer: &W,
-    ) -> Result<(), ProgramFault> {
+    fn replace<W: Write>(&mut self, text: &[u8], _writer: &W) -> Result<(), ProgramFault> {
         self.kept = None;
         replace(self.alloc, self.files, self.beside.as_str(), text)
     }

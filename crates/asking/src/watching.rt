@@ -14,7 +14,7 @@ ghost use Rattle.asking.specs.declared.ask_fault.AskFault.TheVariants.{Stopped};
 use crate::answering::body_of;
 use crate::checking::tell_client;
 use crate::exchange::frame_in;
-use crate::said::ALARM;
+use crate::said::CAUGHT;
 use crate::{AskFault, Asker, Checks, Said};
 use encoding::Name;
 use monitor::{Monitor, Refusal, Step};
@@ -226,7 +226,7 @@ fn tell_watched(name: &[u8], epoch: u64, step: Step<'_>, said: &mut Said) -> Res
                 epoch,
                 Step::Alarm { epoch: at, found },
             )?;
-            said.raise(ALARM);
+            said.raise(CAUGHT);
             Ok(())
         }
     }

@@ -1,7 +1,7 @@
 use Rattle.std.proofs.Common.{◌≡◌, ◌≢◌, ◌∙◌, ◌++◌, ℕ, Global, List, Vec, ap, rules, subst, sym}
 use Rattle.memory.specs.Texts.{TellsAgain}
 use Rattle.asking.specs.Reports.{worse}
-use Rattle.asking.specs.declared.said.TheConstants.{ALARM}
+use Rattle.asking.specs.declared.said.TheConstants.{CAUGHT}
 use Rattle.asking.proofs.Recalling.{status_none, status_some}
 use Rattle.asking.proofs.joining.alarms_said.Goals as goal
 
@@ -12,7 +12,7 @@ returns-then-count-eq0 c =
     let none : c.in_ok-count.count ≡ 0 = search rules in (
       c.in_ok-count.count,
       subst (λ (xs : List ℕ). TellsAgain c.args.name.now c.args.known.now.alarms xs c.in_ok-count.count) (sym all) tells,
-      c.new-said.ensures.status ∙ sym (status_none ALARM c.in_ok-count.count none),
+      c.new-said.ensures.status ∙ sym (status_none CAUGHT c.in_ok-count.count none),
     )
 
 pub returns : goal.returns
@@ -22,5 +22,5 @@ returns c =
     let some : c.in_ok-count.count ≢ 0 = search rules in (
       c.in_ok-count.count,
       subst (λ (xs : List ℕ). TellsAgain c.args.name.now c.args.known.now.alarms xs c.in_ok-count.count) (sym all) tells,
-      c.raise.ensures.status ∙ ap (λ (n : ℕ). worse n ALARM) c.new-said.ensures.status ∙ sym (status_some ALARM c.in_ok-count.count some),
+      c.raise.ensures.status ∙ ap (λ (n : ℕ). worse n CAUGHT) c.new-said.ensures.status ∙ sym (status_some CAUGHT c.in_ok-count.count some),
     )

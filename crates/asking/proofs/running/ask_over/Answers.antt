@@ -17,11 +17,11 @@ returns g c =
       runs = ends_so g.H.NodeHash.digest_of g.V.VufCheck.accepted g.S.Verifier.verified (ExchangesFrames g.T.Write.contents g.T.Read.remaining) c.args.keys.signing_key c.args.keys.token (ask_values c.args.order)
           (c.new-run.result.state ≡ None) (c.args.order.state ≡ None) none some c.ask-outcome.result c.end.result c.args.stream.now c.ask-outcome.new.stream (g.R.Read.remaining c.args.reader.now)
           (g.W.Write.contents c.args.writer.now) (g.W.Write.contents c.ask-outcome.new.writer) (g.W.Write.contents c.end.new.writer) c.ask-outcome.new.self.said (report_of c.new-run.result.said) c.new-run.ensures.said
-          c.ask-outcome.ensures.runs c.ask-outcome.ensures.part ends c.end.ensures.stopped c.end.ensures.some;
+          c.ask-outcome.ensures.runs c.ask-outcome.ensures.part ends c.end.ensures.stopped;
       fails = fails_so g.H.NodeHash.digest_of g.V.VufCheck.accepted g.S.Verifier.verified (ExchangesFrames g.T.Write.contents g.T.Read.remaining) c.args.keys.signing_key c.args.keys.token (ask_values c.args.order)
           (c.new-run.result.state ≡ None) (c.args.order.state ≡ None) none some c.ask-outcome.result c.end.result c.args.stream.now c.ask-outcome.new.stream (g.R.Read.remaining c.args.reader.now)
           (g.W.Write.contents c.args.writer.now) (g.W.Write.contents c.ask-outcome.new.writer) (g.W.Write.contents c.end.new.writer) c.ask-outcome.new.self.said (report_of c.new-run.result.said) c.new-run.ensures.said
-          c.ask-outcome.ensures.part ends c.end.ensures.failed c.end.ensures.some;
+          c.ask-outcome.ensures.part ends c.end.ensures.failed;
       faults = given_so c.end.result c.ask-outcome.result c.args.order c.new-run.result.state (g.R.Read.remaining c.args.reader.now) none c.ask-outcome.ensures.faults c.end.ensures.gives;
       unread = c.ask-outcome.ensures.unread;
       grows = grows;

@@ -1,11 +1,15 @@
-use Rattle.std.proofs.Common.{◌≡◌, None}
+use Rattle.std.proofs.Common.{◌≡◌, Err, None}
 use Rattle.std.specs.Prelude.{IfSome}
 use Rattle.asking.specs.AskOptions.{ask_values}
 use Rattle.asking.specs.RunFaults.{AsksInput, IsFaultWith, IsFirstUnasked}
 use Rattle.asking.specs.Runs.{lines_asked}
-use Rattle.asking.proofs.Ended.{err_so}
+use Rattle.asking.specs.Exchanges.{ExchangesFrames}
+use Rattle.asking.specs.Reports.{report_of}
+use Rattle.textio.specs.declared.program_fault.ProgramFault.TheVariants.{CannotWrite}
+use Rattle.asking.specs.declared.ask_fault.RunFault.TheVariants.{Program}
+use Rattle.asking.proofs.Ended.{part_left}
 use Rattle.asking.proofs.Faulty.{saving_with}
-use Rattle.asking.proofs.Left.{asked_left, faults_left, leaves_told}
+use Rattle.asking.proofs.Left.{asked_left, failed_left, faults_left, leaves_told}
 use Rattle.asking.proofs.run.Run.ask.Goals as goal
 
 pub returns-clause-runs : goal.returns-clause-runs
@@ -19,7 +23,9 @@ returns-clause-faults g c =
 pub returns-clause-part : goal.returns-clause-part
 returns-clause-part g c =
     let part = rw (← c.leave.ensures.said) at c.ask_all-asked.ensures.part in
-    err_so c.leave.result part
+    part_left g.H.NodeHash.digest_of g.V.VufCheck.accepted g.S.Verifier.verified (ExchangesFrames g.T.Write.contents g.T.Read.remaining) c.args.keys.now.signing_key c.args.keys.now.token (ask_values c.args.order) (c.args.self.now.state ≡ None) c.args.stream.now
+    (g.R.Read.remaining c.args.reader.now) (g.W.Write.contents c.args.writer.now) (c.ask_all-asked.result ≡ Err (Program CannotWrite)) (c.leave.result ≡ Err (Program CannotWrite)) c.leave.result (g.W.Write.contents c.ask_all-asked.new.writer) c.leave.new.self.said
+    (report_of c.args.self.now.said) (failed_left c.ask_all-asked.result c.leave.result c.leave.ensures.err) part
 
 pub returns-clause-kept : goal.returns-clause-kept
 returns-clause-kept g c = λ fresh old acts is has.

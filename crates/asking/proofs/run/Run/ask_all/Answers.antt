@@ -1,6 +1,6 @@
 use Rattle.std.proofs.Common.{◌≡◌, ◌⊎◌, ◌∷◌, [], Err, None, refl, rules}
 use Rattle.std.specs.Prelude.{List, ℕ, IfSome, Ok, Option}
-use Rattle.textio.specs.declared.program_fault.ProgramFault.TheVariants.{OutOfMemory}
+use Rattle.textio.specs.declared.program_fault.ProgramFault.TheVariants.{CannotWrite, OutOfMemory}
 use Rattle.asking.specs.AskOptions.{ask_values}
 use Rattle.asking.specs.Ending.{AsksPart, HoldsBack}
 use Rattle.asking.specs.Exchanges.{ExchangesFrames}
@@ -9,7 +9,7 @@ use Rattle.asking.specs.RunFaults.{AsksInput, IsFaultOfSaving, IsFaultOfState, I
 use Rattle.asking.specs.Runs.{AsksLines, background_of, lines_asked, words_line}
 use Rattle.asking.specs.Scenes.{scene}
 use Rattle.asking.specs.declared.ask_fault.RunFault.{RunFault}
-use Rattle.asking.proofs.Ended.{early_asking, early_none, early_preparing, line_not, part_once, some_prepares_with, writes_with}
+use Rattle.asking.proofs.Ended.{early_asking, early_none, early_preparing, leaves_with, line_not, part_once, some_prepares_with, writes_with}
 use Rattle.asking.proofs.Faulty.{beginning_with, grows_not, grows_on, input_fault, reads_input, saving_with, stops_more, words_fault}
 use Rattle.asking.proofs.Ran.{asks_input, asks_words, begins_run, leads_once, ok_then, whole}
 use Rattle.std.proofs.Common.{◌∙◌, ◌++◌, ap, subst, sym}
@@ -19,6 +19,7 @@ use Rattle.asking.specs.Standing.{IsLeft, RunStands, StateIsKept}
 use Rattle.asking.proofs.Ran.{input_asked, words_among, words_asked}
 use Rattle.asking.proofs.RunSteps.{ok_have}
 use Rattle.asking.proofs.Written.{state-left}
+use Rattle.asking.specs.declared.ask_fault.RunFault.TheVariants.{Program}
 use Rattle.asking.proofs.run.Run.ask_all.Goals as goal
 
 pub returns-in-Some-clause-runs : goal.returns-in-Some-clause-runs
@@ -93,19 +94,21 @@ pub returns-in_err-asker-clause-grows : goal.returns-in_err-asker-clause-grows
 returns-in_err-asker-clause-grows g c = grows_not (g.W.Write.contents c.args.writer.now)
 
 pub returns-in_err-asker-clause-part : goal.returns-in_err-asker-clause-part
-returns-in_err-asker-clause-part g c = early_none g.H.NodeHash.digest_of g.V.VufCheck.accepted g.S.Verifier.verified (ExchangesFrames g.T.Write.contents g.T.Read.remaining) c.args.keys.now.signing_key c.args.keys.now.token (ask_values c.args.order) (c.args.self.now.state ≡ None) c.args.stream.now (g.R.Read.remaining c.args.reader.now) (g.W.Write.contents c.args.writer.now) (report_of c.args.self.now.said) c.begin.new.self.said c.in_err-asker.ensures.none
+returns-in_err-asker-clause-part g c = early_none g.H.NodeHash.digest_of g.V.VufCheck.accepted g.S.Verifier.verified (ExchangesFrames g.T.Write.contents g.T.Read.remaining) c.args.keys.now.signing_key c.args.keys.now.token (ask_values c.args.order) (c.args.self.now.state ≡ None) c.args.stream.now (g.R.Read.remaining c.args.reader.now) (g.W.Write.contents c.args.writer.now) _ (report_of c.args.self.now.said) c.begin.new.self.said c.in_err-asker.ensures.none
 
 pub returns-in_err-prepare-clause-part : goal.returns-in_err-prepare-clause-part
 returns-in_err-prepare-clause-part g c =
+    let passed : c.from_residual-in_err-prepare.result ≡ Err c.in_err-prepare.field-0.0 = search rules in
     let start = scene c.in_ok-asker.asker c.begin.new.self.said c.begin.new.stream in
     early_preparing g.H.NodeHash.digest_of g.V.VufCheck.accepted g.S.Verifier.verified (ExchangesFrames g.T.Write.contents g.T.Read.remaining) c.args.keys.now.signing_key c.args.keys.now.token (ask_values c.args.order) (c.args.self.now.state ≡ None) c.args.stream.now (g.R.Read.remaining c.args.reader.now) (g.W.Write.contents c.args.writer.now) (background_of c.in_ok-asker.asker) start (g.W.Write.contents c.prepare.new.writer) c.prepare.new.self.said
     (report_of c.args.self.now.said) (begins_run g.H.NodeHash.digest_of g.V.VufCheck.accepted g.S.Verifier.verified (ExchangesFrames g.T.Write.contents g.T.Read.remaining) c.args.keys.now.signing_key c.args.keys.now.token (c.args.self.now.state ≡ None) (background_of c.in_ok-asker.asker) c.args.stream.now start (report_of c.args.self.now.said)
-    c.in_ok-asker.ensures.said c.in_ok-asker.ensures.begins c.in_ok-asker.ensures.knows)
+    c.in_ok-asker.ensures.said c.in_ok-asker.ensures.begins c.in_ok-asker.ensures.knows) (c.from_residual-in_err-prepare.result ≡ Err (Program CannotWrite))
     (let (reached, some, leaves) = c.in_err-prepare.ensures.part in (
       reached,
       some_prepares_with g.H.NodeHash.digest_of g.V.VufCheck.accepted g.S.Verifier.verified (ExchangesFrames g.T.Write.contents g.T.Read.remaining) c.args.keys.now.signing_key c.args.keys.now.token (ask_values c.args.order)
           (c.begin.new.self.state ≡ None) (c.args.self.now.state ≡ None) c.begin.ensures.still.1 c.begin.ensures.still.0 (background_of c.in_ok-asker.asker) start reached some,
-      leaves,
+      leaves_with _ (c.from_residual-in_err-prepare.result ≡ Err (Program CannotWrite)) (g.W.Write.contents c.prepare.new.writer) c.prepare.new.self.said reached.told (g.W.Write.contents c.args.writer.now)
+          (λ failed. passed ∙ failed) leaves,
     ))
 
 pub returns-in_err-line-in-Some-clause-part : goal.returns-in_err-line-in-Some-clause-part
@@ -114,12 +117,12 @@ returns-in_err-line-in-Some-clause-part g c =
     let ready = scene c.prepare.new.asker c.prepare.new.self.said c.prepare.new.stream in
     early_asking g.H.NodeHash.digest_of g.V.VufCheck.accepted g.S.Verifier.verified (ExchangesFrames g.T.Write.contents g.T.Read.remaining) c.args.keys.now.signing_key c.args.keys.now.token (ask_values c.args.order) (c.args.self.now.state ≡ None) c.args.stream.now (g.R.Read.remaining c.args.reader.now) (g.W.Write.contents c.args.writer.now) (background_of c.in_ok-asker.asker) start (g.W.Write.contents c.prepare.new.writer) c.prepare.new.self.said
     (report_of c.args.self.now.said) (begins_run g.H.NodeHash.digest_of g.V.VufCheck.accepted g.S.Verifier.verified (ExchangesFrames g.T.Write.contents g.T.Read.remaining) c.args.keys.now.signing_key c.args.keys.now.token (c.args.self.now.state ≡ None) (background_of c.in_ok-asker.asker) c.args.stream.now start (report_of c.args.self.now.said)
-    c.in_ok-asker.ensures.said c.in_ok-asker.ensures.begins c.in_ok-asker.ensures.knows) (background_of c.prepare.new.asker) ready (g.W.Write.contents c.prepare.new.writer) (writes_with g.H.NodeHash.digest_of g.V.VufCheck.accepted g.S.Verifier.verified (ExchangesFrames g.T.Write.contents g.T.Read.remaining) c.args.keys.now.signing_key c.args.keys.now.token (ask_values c.args.order)
+    c.in_ok-asker.ensures.said c.in_ok-asker.ensures.begins c.in_ok-asker.ensures.knows) (c.from_residual-in_err-line-in-Some.result ≡ Err (Program CannotWrite)) (background_of c.prepare.new.asker) ready (g.W.Write.contents c.prepare.new.writer) (writes_with g.H.NodeHash.digest_of g.V.VufCheck.accepted g.S.Verifier.verified (ExchangesFrames g.T.Write.contents g.T.Read.remaining) c.args.keys.now.signing_key c.args.keys.now.token (ask_values c.args.order)
     (c.begin.new.self.state ≡ None) (c.args.self.now.state ≡ None) c.begin.ensures.still.1 c.begin.ensures.still.0 (background_of c.in_ok-asker.asker) (scene c.in_ok-asker.asker c.begin.new.self.said c.begin.new.stream)
     (g.W.Write.contents c.args.writer.now) (g.W.Write.contents c.prepare.new.writer) (scene c.prepare.new.asker c.prepare.new.self.said c.prepare.new.stream) c.in_ok-prepare.ensures.prepares) c.in_ok-prepare.ensures.stays
     (asks_words {E = RunFault} (λ lines. (told : Report) × (next : Option (List ℕ)) × AsksPart g.H.NodeHash.digest_of g.V.VufCheck.accepted g.S.Verifier.verified (ExchangesFrames g.T.Write.contents g.T.Read.remaining) (background_of c.prepare.new.asker) lines ready told (g.W.Write.contents c.prepare.new.writer) next
-    × HoldsBack (g.W.Write.contents c.prepare.new.writer) c.prepare.new.self.said told next) (Ok tt) (g.R.Read.remaining c.args.reader.now) c.args.order c.in-Some.field-0 c.in-Some.is
-    (part_once g.H.NodeHash.digest_of g.V.VufCheck.accepted g.S.Verifier.verified (ExchangesFrames g.T.Write.contents g.T.Read.remaining) (background_of c.prepare.new.asker) (words_line (ask_values c.args.order).words) ready (g.W.Write.contents c.prepare.new.writer) (g.W.Write.contents c.prepare.new.writer) c.prepare.new.self.said (line_not g.H.NodeHash.digest_of g.V.VufCheck.accepted g.S.Verifier.verified (ExchangesFrames g.T.Write.contents g.T.Read.remaining) (background_of c.prepare.new.asker) (words_line (ask_values c.args.order).words) ready (g.W.Write.contents c.prepare.new.writer) c.prepare.new.self.said refl)))
+    × HoldsBack (c.from_residual-in_err-line-in-Some.result ≡ Err (Program CannotWrite)) (g.W.Write.contents c.prepare.new.writer) c.prepare.new.self.said told next) (Ok tt) (g.R.Read.remaining c.args.reader.now) c.args.order c.in-Some.field-0 c.in-Some.is
+    (part_once g.H.NodeHash.digest_of g.V.VufCheck.accepted g.S.Verifier.verified (ExchangesFrames g.T.Write.contents g.T.Read.remaining) (background_of c.prepare.new.asker) (c.from_residual-in_err-line-in-Some.result ≡ Err (Program CannotWrite)) (words_line (ask_values c.args.order).words) ready (g.W.Write.contents c.prepare.new.writer) (g.W.Write.contents c.prepare.new.writer) c.prepare.new.self.said (line_not g.H.NodeHash.digest_of g.V.VufCheck.accepted g.S.Verifier.verified (ExchangesFrames g.T.Write.contents g.T.Read.remaining) (background_of c.prepare.new.asker) (c.from_residual-in_err-line-in-Some.result ≡ Err (Program CannotWrite)) (words_line (ask_values c.args.order).words) ready (g.W.Write.contents c.prepare.new.writer) c.prepare.new.self.said refl)))
 
 pub returns-in-Some-clause-part : goal.returns-in-Some-clause-part
 returns-in-Some-clause-part g c =
@@ -128,12 +131,12 @@ returns-in-Some-clause-part g c =
     let found = rw (c.deref.ensures.value, c.in_ok-line-in-Some.ensures) at c.ask_line.ensures.part in
     early_asking g.H.NodeHash.digest_of g.V.VufCheck.accepted g.S.Verifier.verified (ExchangesFrames g.T.Write.contents g.T.Read.remaining) c.args.keys.now.signing_key c.args.keys.now.token (ask_values c.args.order) (c.args.self.now.state ≡ None) c.args.stream.now (g.R.Read.remaining c.args.reader.now) (g.W.Write.contents c.args.writer.now) (background_of c.in_ok-asker.asker) start (g.W.Write.contents c.ask_line.new.writer) c.ask_line.new.self.said
     (report_of c.args.self.now.said) (begins_run g.H.NodeHash.digest_of g.V.VufCheck.accepted g.S.Verifier.verified (ExchangesFrames g.T.Write.contents g.T.Read.remaining) c.args.keys.now.signing_key c.args.keys.now.token (c.args.self.now.state ≡ None) (background_of c.in_ok-asker.asker) c.args.stream.now start (report_of c.args.self.now.said)
-    c.in_ok-asker.ensures.said c.in_ok-asker.ensures.begins c.in_ok-asker.ensures.knows) (background_of c.prepare.new.asker) ready (g.W.Write.contents c.prepare.new.writer) (writes_with g.H.NodeHash.digest_of g.V.VufCheck.accepted g.S.Verifier.verified (ExchangesFrames g.T.Write.contents g.T.Read.remaining) c.args.keys.now.signing_key c.args.keys.now.token (ask_values c.args.order)
+    c.in_ok-asker.ensures.said c.in_ok-asker.ensures.begins c.in_ok-asker.ensures.knows) (c.ask_line.result ≡ Err (Program CannotWrite)) (background_of c.prepare.new.asker) ready (g.W.Write.contents c.prepare.new.writer) (writes_with g.H.NodeHash.digest_of g.V.VufCheck.accepted g.S.Verifier.verified (ExchangesFrames g.T.Write.contents g.T.Read.remaining) c.args.keys.now.signing_key c.args.keys.now.token (ask_values c.args.order)
     (c.begin.new.self.state ≡ None) (c.args.self.now.state ≡ None) c.begin.ensures.still.1 c.begin.ensures.still.0 (background_of c.in_ok-asker.asker) (scene c.in_ok-asker.asker c.begin.new.self.said c.begin.new.stream)
     (g.W.Write.contents c.args.writer.now) (g.W.Write.contents c.prepare.new.writer) (scene c.prepare.new.asker c.prepare.new.self.said c.prepare.new.stream) c.in_ok-prepare.ensures.prepares) c.in_ok-prepare.ensures.stays
     (asks_words {E = RunFault} (λ lines. (told : Report) × (next : Option (List ℕ)) × AsksPart g.H.NodeHash.digest_of g.V.VufCheck.accepted g.S.Verifier.verified (ExchangesFrames g.T.Write.contents g.T.Read.remaining) (background_of c.prepare.new.asker) lines ready told (g.W.Write.contents c.prepare.new.writer) next
-    × HoldsBack (g.W.Write.contents c.ask_line.new.writer) c.ask_line.new.self.said told next) (Ok tt) (g.R.Read.remaining c.args.reader.now) c.args.order c.in-Some.field-0 c.in-Some.is
-    (part_once g.H.NodeHash.digest_of g.V.VufCheck.accepted g.S.Verifier.verified (ExchangesFrames g.T.Write.contents g.T.Read.remaining) (background_of c.prepare.new.asker) (words_line (ask_values c.args.order).words) ready (g.W.Write.contents c.prepare.new.writer) (g.W.Write.contents c.ask_line.new.writer) c.ask_line.new.self.said found))
+    × HoldsBack (c.ask_line.result ≡ Err (Program CannotWrite)) (g.W.Write.contents c.ask_line.new.writer) c.ask_line.new.self.said told next) (Ok tt) (g.R.Read.remaining c.args.reader.now) c.args.order c.in-Some.field-0 c.in-Some.is
+    (part_once g.H.NodeHash.digest_of g.V.VufCheck.accepted g.S.Verifier.verified (ExchangesFrames g.T.Write.contents g.T.Read.remaining) (background_of c.prepare.new.asker) (c.ask_line.result ≡ Err (Program CannotWrite)) (words_line (ask_values c.args.order).words) ready (g.W.Write.contents c.prepare.new.writer) (g.W.Write.contents c.ask_line.new.writer) c.ask_line.new.self.said found))
 
 pub returns-clause-part : goal.returns-clause-part
 returns-clause-part g c =
@@ -141,11 +144,11 @@ returns-clause-part g c =
     let ready = scene c.prepare.new.asker c.prepare.new.self.said c.prepare.new.stream in
     early_asking g.H.NodeHash.digest_of g.V.VufCheck.accepted g.S.Verifier.verified (ExchangesFrames g.T.Write.contents g.T.Read.remaining) c.args.keys.now.signing_key c.args.keys.now.token (ask_values c.args.order) (c.args.self.now.state ≡ None) c.args.stream.now (g.R.Read.remaining c.args.reader.now) (g.W.Write.contents c.args.writer.now) (background_of c.in_ok-asker.asker) start (g.W.Write.contents c.ask_lines.new.writer) c.ask_lines.new.self.said
     (report_of c.args.self.now.said) (begins_run g.H.NodeHash.digest_of g.V.VufCheck.accepted g.S.Verifier.verified (ExchangesFrames g.T.Write.contents g.T.Read.remaining) c.args.keys.now.signing_key c.args.keys.now.token (c.args.self.now.state ≡ None) (background_of c.in_ok-asker.asker) c.args.stream.now start (report_of c.args.self.now.said)
-    c.in_ok-asker.ensures.said c.in_ok-asker.ensures.begins c.in_ok-asker.ensures.knows) (background_of c.prepare.new.asker) ready (g.W.Write.contents c.prepare.new.writer) (writes_with g.H.NodeHash.digest_of g.V.VufCheck.accepted g.S.Verifier.verified (ExchangesFrames g.T.Write.contents g.T.Read.remaining) c.args.keys.now.signing_key c.args.keys.now.token (ask_values c.args.order)
+    c.in_ok-asker.ensures.said c.in_ok-asker.ensures.begins c.in_ok-asker.ensures.knows) (c.ask_lines.result ≡ Err (Program CannotWrite)) (background_of c.prepare.new.asker) ready (g.W.Write.contents c.prepare.new.writer) (writes_with g.H.NodeHash.digest_of g.V.VufCheck.accepted g.S.Verifier.verified (ExchangesFrames g.T.Write.contents g.T.Read.remaining) c.args.keys.now.signing_key c.args.keys.now.token (ask_values c.args.order)
     (c.begin.new.self.state ≡ None) (c.args.self.now.state ≡ None) c.begin.ensures.still.1 c.begin.ensures.still.0 (background_of c.in_ok-asker.asker) (scene c.in_ok-asker.asker c.begin.new.self.said c.begin.new.stream)
     (g.W.Write.contents c.args.writer.now) (g.W.Write.contents c.prepare.new.writer) (scene c.prepare.new.asker c.prepare.new.self.said c.prepare.new.stream) c.in_ok-prepare.ensures.prepares) c.in_ok-prepare.ensures.stays
     (asks_input {E = RunFault} (λ lines. (told : Report) × (next : Option (List ℕ)) × AsksPart g.H.NodeHash.digest_of g.V.VufCheck.accepted g.S.Verifier.verified (ExchangesFrames g.T.Write.contents g.T.Read.remaining) (background_of c.prepare.new.asker) lines ready told (g.W.Write.contents c.prepare.new.writer) next
-    × HoldsBack (g.W.Write.contents c.ask_lines.new.writer) c.ask_lines.new.self.said told next) (Ok tt) (g.R.Read.remaining c.args.reader.now) c.args.order c.in-None.is c.ask_lines.ensures.part)
+    × HoldsBack (c.ask_lines.result ≡ Err (Program CannotWrite)) (g.W.Write.contents c.ask_lines.new.writer) c.ask_lines.new.self.said told next) (Ok tt) (g.R.Read.remaining c.args.reader.now) c.args.order c.in-None.is c.ask_lines.ensures.part)
 
 pub returns-in_err-asker-clause-kept : goal.returns-in_err-asker-clause-kept
 returns-in_err-asker-clause-kept g c = λ fresh old acts is has.

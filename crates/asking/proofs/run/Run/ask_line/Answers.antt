@@ -13,7 +13,9 @@ use Rattle.asking.specs.Runs.{Background}
 use Rattle.asking.specs.Saves.{Act}
 use Rattle.asking.specs.Standing.{standing, StateStands}
 use Rattle.asking.proofs.RunSteps.{line-asked, line-ready, line-stands, settled-run, told-so}
-use Rattle.asking.proofs.Written.{state-kept}
+use Rattle.asking.proofs.Written.{state-kept, state-saved}
+use Rattle.textio.specs.declared.program_fault.ProgramFault.TheVariants.{CannotWrite}
+use Rattle.asking.specs.declared.ask_fault.RunFault.TheVariants.{Program}
 use Rattle.asking.proofs.run.Run.ask_line.Goals as goal
 
 pub returns-clause-asks : goal.returns-clause-asks
@@ -28,19 +30,19 @@ returns-clause-asks g c =
 pub returns-clause-part : goal.returns-clause-part
 returns-clause-part g c =
     let said : line_of c.args.line.now ≡ Some (line_seen c.in-Some.line) = sym (rw c.in-Some.is at c.in_ok-line.ensures) in
-    reaches_whole (AsksSomeLine g.H.NodeHash.digest_of g.V.VufCheck.accepted g.S.Verifier.verified (ExchangesFrames g.T.Write.contents g.T.Read.remaining) (background_of c.args.asker.now) c.args.line.now (scene c.args.asker.now c.args.self.now.said c.args.stream.now))
+    reaches_whole (c.settle.result ≡ Err (Program CannotWrite)) (AsksSomeLine g.H.NodeHash.digest_of g.V.VufCheck.accepted g.S.Verifier.verified (ExchangesFrames g.T.Write.contents g.T.Read.remaining) (background_of c.args.asker.now) c.args.line.now (scene c.args.asker.now c.args.self.now.said c.args.stream.now))
     (report_of c.ask_said.new.said) (g.W.Write.contents c.args.writer.now) (g.W.Write.contents c.settle.new.writer) c.settle.new.self.said
     (line_reaches g.H.NodeHash.digest_of g.V.VufCheck.accepted g.S.Verifier.verified (ExchangesFrames g.T.Write.contents g.T.Read.remaining) (background_of c.args.asker.now) c.args.line.now (line_seen c.in-Some.line) (report_of c.ask_said.new.said)
     (scene c.args.asker.now c.args.self.now.said c.args.stream.now) said c.ask_said.ensures.reaches) c.settle.ensures.leaves
 
 pub returns-in_err-line-clause-part : goal.returns-in_err-line-clause-part
 returns-in_err-line-clause-part g c =
-    line_not g.H.NodeHash.digest_of g.V.VufCheck.accepted g.S.Verifier.verified (ExchangesFrames g.T.Write.contents g.T.Read.remaining) (background_of c.args.asker.now) c.args.line.now
+    line_not g.H.NodeHash.digest_of g.V.VufCheck.accepted g.S.Verifier.verified (ExchangesFrames g.T.Write.contents g.T.Read.remaining) (background_of c.args.asker.now) _ c.args.line.now
     (scene c.args.asker.now c.args.self.now.said c.args.stream.now) (g.W.Write.contents c.args.writer.now) c.args.self.now.said refl
 
 pub returns-in_default-clause-part : goal.returns-in_default-clause-part
 returns-in_default-clause-part g c =
-    line_not g.H.NodeHash.digest_of g.V.VufCheck.accepted g.S.Verifier.verified (ExchangesFrames g.T.Write.contents g.T.Read.remaining) (background_of c.args.asker.now) c.args.line.now
+    line_not g.H.NodeHash.digest_of g.V.VufCheck.accepted g.S.Verifier.verified (ExchangesFrames g.T.Write.contents g.T.Read.remaining) (background_of c.args.asker.now) _ c.args.line.now
     (scene c.args.asker.now c.args.self.now.said c.args.stream.now) (g.W.Write.contents c.args.writer.now) c.args.self.now.said refl
 
 pub returns-in_default-ask_said-clause-part : goal.returns-in_default-ask_said-clause-part
@@ -48,7 +50,7 @@ returns-in_default-ask_said-clause-part g c =
     let said : line_of c.args.line.now ≡ Some (line_seen c.in-Some.line) = sym (rw c.in-Some.is at c.in_ok-line.ensures) in
     let reaches = line_reaches g.H.NodeHash.digest_of g.V.VufCheck.accepted g.S.Verifier.verified (ExchangesFrames g.T.Write.contents g.T.Read.remaining) (background_of c.args.asker.now) c.args.line.now (line_seen c.in-Some.line) (report_of c.ask_said.new.said)
     (scene c.args.asker.now c.args.self.now.said c.args.stream.now) said c.ask_said.ensures.reaches in
-    (reaches.0, reaches.1, leaves_same (g.W.Write.contents c.args.writer.now) c.ask_said.new.said reaches.0.told reaches.2)
+    (reaches.0, reaches.1, leaves_same _ (g.W.Write.contents c.args.writer.now) c.ask_said.new.said reaches.0.told reaches.2)
 
 pub returns-clause-stands : goal.returns-clause-stands
 returns-clause-stands g c = λ lines start old acts among stands.
@@ -63,7 +65,7 @@ returns-clause-stands g c = λ lines start old acts among stands.
     let happened : List Act → Type 0 = λ done. g.K.Keeper.has c.args.keeper.now (done ++ acts) in
     let happened' : List Act → Type 0 = λ done. g.K.Keeper.has c.settle.new.keeper (done ++ acts) in
     let state = c.args.self.now.state in
-    let kept = state-kept g.H.NodeHash.digest_of g.V.VufCheck.accepted g.S.Verifier.verified lines c.args.asker.now.key start old (λ (done : List Act). g.K.Keeper.has c.args.keeper.now (done ++ acts)) c.args.self.now.state (g.W.Write.contents c.args.writer.now)
+    let kept = state-saved g.H.NodeHash.digest_of g.V.VufCheck.accepted g.S.Verifier.verified lines c.args.asker.now.key start old (λ (done : List Act). g.K.Keeper.has c.args.keeper.now (done ++ acts)) c.args.self.now.state (g.W.Write.contents c.args.writer.now)
     (standing c.args.asker.now.client c.args.asker.now.monitors.items c.args.self.now.said.text.items) stands.0 in
     let (noted, notes) = c.in-Some-ask_said.ensures.notes in
     let changes = line-asked g.H.NodeHash.digest_of g.V.VufCheck.accepted g.S.Verifier.verified (ExchangesFrames g.T.Write.contents g.T.Read.remaining) lines start before after said c.args.stream.now noted line (among line seen) notes stands.2 in

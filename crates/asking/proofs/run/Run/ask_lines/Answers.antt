@@ -3,7 +3,7 @@ use Rattle.asking.specs.Exchanges.{ExchangesFrames}
 use Rattle.asking.specs.Runs.{AsksLine, Background, background_of, Writes}
 use Rattle.asking.specs.Reports.{report_of}
 use Rattle.asking.specs.Scenes.{scene}
-use Rattle.asking.proofs.Ended.{leaves_same, line_known, part_here, part_line}
+use Rattle.asking.proofs.Ended.{leaves_same, leaves_with, line_known, part_here, part_line}
 use Rattle.asking.proofs.Faulty.{asked_can, counts_first, counts_next, grows_not, grows_on, line_fault}
 use Rattle.asking.proofs.Ran.{leads_first, leads_next, leads_out}
 use Rattle.asking.proofs.Rising.{rises_on}
@@ -15,6 +15,8 @@ use Rattle.asking.specs.Standing.{standing, StateIsKept}
 use Rattle.asking.proofs.Ran.{leads_among}
 use Rattle.asking.proofs.RunSteps.{ok_have}
 use Rattle.asking.proofs.Written.{state-kept}
+use Rattle.textio.specs.declared.program_fault.ProgramFault.TheVariants.{CannotWrite}
+use Rattle.asking.specs.declared.ask_fault.RunFault.TheVariants.{Program}
 use Rattle.asking.proofs.run.Run.ask_lines.Goals as goal
 
 pub returns-then-not-branch-clause-asks : goal.returns-then-not-branch-clause-asks
@@ -71,26 +73,28 @@ returns-in_err-ask_line-clause-grows g c =
 
 pub returns-in_err-next_line-clause-part : goal.returns-in_err-next_line-clause-part
 returns-in_err-next_line-clause-part g c =
-    part_here g.H.NodeHash.digest_of g.V.VufCheck.accepted g.S.Verifier.verified (ExchangesFrames g.T.Write.contents g.T.Read.remaining) (background_of c.args.asker.now) (scene c.args.asker.now c.args.self.now.said c.args.stream.now) (scene c.loop-number.asker c.loop-number.self.said c.loop-number.stream) (g.R.Read.remaining c.args.reader.now) (g.W.Write.contents c.args.writer.now) (g.R.Read.remaining c.loop-number.reader) (g.W.Write.contents c.loop-number.writer) (g.W.Write.contents c.loop-number.writer) c.loop-number.self.said c.loop-number.invariant.asks
-    (leaves_same (g.W.Write.contents c.loop-number.writer) c.loop-number.self.said (report_of c.loop-number.self.said) refl)
+    part_here g.H.NodeHash.digest_of g.V.VufCheck.accepted g.S.Verifier.verified (ExchangesFrames g.T.Write.contents g.T.Read.remaining) (background_of c.args.asker.now) _ (scene c.args.asker.now c.args.self.now.said c.args.stream.now) (scene c.loop-number.asker c.loop-number.self.said c.loop-number.stream) (g.R.Read.remaining c.args.reader.now) (g.W.Write.contents c.args.writer.now) (g.R.Read.remaining c.loop-number.reader) (g.W.Write.contents c.loop-number.writer) (g.W.Write.contents c.loop-number.writer) c.loop-number.self.said c.loop-number.invariant.asks
+    (leaves_same _ (g.W.Write.contents c.loop-number.writer) c.loop-number.self.said (report_of c.loop-number.self.said) refl)
 
 pub returns-clause-part : goal.returns-clause-part
 returns-clause-part g c =
-    part_here g.H.NodeHash.digest_of g.V.VufCheck.accepted g.S.Verifier.verified (ExchangesFrames g.T.Write.contents g.T.Read.remaining) (background_of c.args.asker.now) (scene c.args.asker.now c.args.self.now.said c.args.stream.now) (scene c.loop-number.asker c.loop-number.self.said c.loop-number.stream) (g.R.Read.remaining c.args.reader.now) (g.W.Write.contents c.args.writer.now) (g.R.Read.remaining c.loop-number.reader) (g.W.Write.contents c.loop-number.writer) (g.W.Write.contents c.loop-number.writer) c.loop-number.self.said c.loop-number.invariant.asks
-    (leaves_same (g.W.Write.contents c.loop-number.writer) c.loop-number.self.said (report_of c.loop-number.self.said) refl)
+    part_here g.H.NodeHash.digest_of g.V.VufCheck.accepted g.S.Verifier.verified (ExchangesFrames g.T.Write.contents g.T.Read.remaining) (background_of c.args.asker.now) _ (scene c.args.asker.now c.args.self.now.said c.args.stream.now) (scene c.loop-number.asker c.loop-number.self.said c.loop-number.stream) (g.R.Read.remaining c.args.reader.now) (g.W.Write.contents c.args.writer.now) (g.R.Read.remaining c.loop-number.reader) (g.W.Write.contents c.loop-number.writer) (g.W.Write.contents c.loop-number.writer) c.loop-number.self.said c.loop-number.invariant.asks
+    (leaves_same _ (g.W.Write.contents c.loop-number.writer) c.loop-number.self.said (report_of c.loop-number.self.said) refl)
 
 pub returns-then-not-branch-clause-part : goal.returns-then-not-branch-clause-part
 returns-then-not-branch-clause-part g c =
-    part_here g.H.NodeHash.digest_of g.V.VufCheck.accepted g.S.Verifier.verified (ExchangesFrames g.T.Write.contents g.T.Read.remaining) (background_of c.args.asker.now) (scene c.args.asker.now c.args.self.now.said c.args.stream.now) (scene c.loop-number.asker c.loop-number.self.said c.loop-number.stream) (g.R.Read.remaining c.args.reader.now) (g.W.Write.contents c.args.writer.now) (g.R.Read.remaining c.loop-number.reader) (g.W.Write.contents c.loop-number.writer) (g.W.Write.contents c.loop-number.writer) c.loop-number.self.said c.loop-number.invariant.asks
-    (leaves_same (g.W.Write.contents c.loop-number.writer) c.loop-number.self.said (report_of c.loop-number.self.said) refl)
+    part_here g.H.NodeHash.digest_of g.V.VufCheck.accepted g.S.Verifier.verified (ExchangesFrames g.T.Write.contents g.T.Read.remaining) (background_of c.args.asker.now) _ (scene c.args.asker.now c.args.self.now.said c.args.stream.now) (scene c.loop-number.asker c.loop-number.self.said c.loop-number.stream) (g.R.Read.remaining c.args.reader.now) (g.W.Write.contents c.args.writer.now) (g.R.Read.remaining c.loop-number.reader) (g.W.Write.contents c.loop-number.writer) (g.W.Write.contents c.loop-number.writer) c.loop-number.self.said c.loop-number.invariant.asks
+    (leaves_same _ (g.W.Write.contents c.loop-number.writer) c.loop-number.self.said (report_of c.loop-number.self.said) refl)
 
 pub returns-in_err-ask_line-clause-part : goal.returns-in_err-ask_line-clause-part
 returns-in_err-ask_line-clause-part g c =
     let takes = rw (c.if-not-branch.false, ← c.deref.ensures.value) at c.in_ok-next_line.ensures.ok in
-    let part = line_known g.H.NodeHash.digest_of g.V.VufCheck.accepted g.S.Verifier.verified (ExchangesFrames g.T.Write.contents g.T.Read.remaining) (background_of c.args.asker.now) (background_of c.loop-number.asker) c.deref.result.now (scene c.loop-number.asker c.loop-number.self.said c.loop-number.stream) (g.W.Write.contents c.loop-number.writer) (g.W.Write.contents c.ask_line.new.writer) c.ask_line.new.self.said
+    let part = line_known g.H.NodeHash.digest_of g.V.VufCheck.accepted g.S.Verifier.verified (ExchangesFrames g.T.Write.contents g.T.Read.remaining) _ (background_of c.args.asker.now) (background_of c.loop-number.asker) c.deref.result.now (scene c.loop-number.asker c.loop-number.self.said c.loop-number.stream) (g.W.Write.contents c.loop-number.writer) (g.W.Write.contents c.ask_line.new.writer) c.ask_line.new.self.said
     c.loop-number.invariant.same c.in_err-ask_line.ensures.part in
-    part_line g.H.NodeHash.digest_of g.V.VufCheck.accepted g.S.Verifier.verified (ExchangesFrames g.T.Write.contents g.T.Read.remaining) (background_of c.args.asker.now) (scene c.args.asker.now c.args.self.now.said c.args.stream.now) (scene c.loop-number.asker c.loop-number.self.said c.loop-number.stream) (g.R.Read.remaining c.args.reader.now) (g.W.Write.contents c.args.writer.now) (g.R.Read.remaining c.loop-number.reader) (g.R.Read.remaining c.next_line.new.reader) (g.W.Write.contents c.loop-number.writer) (g.W.Write.contents c.ask_line.new.writer) c.deref.result.now c.ask_line.new.self.said
-    c.loop-number.invariant.asks takes part
+    let passed : c.from_residual-in_err-ask_line.result ≡ Err c.in_err-ask_line.field-0.0 = search rules in
+    let leaves = leaves_with _ (c.from_residual-in_err-ask_line.result ≡ Err (Program CannotWrite)) (g.W.Write.contents c.ask_line.new.writer) c.ask_line.new.self.said part.0.told (g.W.Write.contents c.loop-number.writer) (λ failed. passed ∙ failed) part.2 in
+    part_line g.H.NodeHash.digest_of g.V.VufCheck.accepted g.S.Verifier.verified (ExchangesFrames g.T.Write.contents g.T.Read.remaining) (background_of c.args.asker.now) (c.from_residual-in_err-ask_line.result ≡ Err (Program CannotWrite)) (scene c.args.asker.now c.args.self.now.said c.args.stream.now) (scene c.loop-number.asker c.loop-number.self.said c.loop-number.stream) (g.R.Read.remaining c.args.reader.now) (g.W.Write.contents c.args.writer.now) (g.R.Read.remaining c.loop-number.reader) (g.R.Read.remaining c.next_line.new.reader) (g.W.Write.contents c.loop-number.writer) (g.W.Write.contents c.ask_line.new.writer) c.deref.result.now c.ask_line.new.self.said
+    c.loop-number.invariant.asks takes (part.0, part.1, leaves)
 
 pub returns-in_err-next_line-clause-stands : goal.returns-in_err-next_line-clause-stands
 returns-in_err-next_line-clause-stands g c = λ start old acts stands.

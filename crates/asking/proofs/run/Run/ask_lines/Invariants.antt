@@ -3,7 +3,7 @@ use Rattle.std.specs.Prelude.{option_map}
 use Rattle.textio.specs.Lines.{lines_of}
 use Rattle.asking.specs.Exchanges.{ExchangesFrames}
 use Rattle.asking.specs.Runs.{Grows, background_of}
-use Rattle.asking.specs.Saves.{Act, Stored}
+use Rattle.asking.specs.Saves.{Act, Found}
 use Rattle.asking.specs.Scenes.{scene}
 use Rattle.asking.specs.Standing.{RunStands}
 use Rattle.asking.proofs.Faulty.{CountsOn}
@@ -18,7 +18,7 @@ invariant-loop-number g l = record {
   same : background_of l.asker ≡ background_of l.fn.asker;
   counts : CountsOn (g.R.Read.remaining l.fn.reader) l.number (g.R.Read.remaining l.reader);
   grows : Grows (g.W.Write.contents l.fn.writer) (g.W.Write.contents l.writer);
-  stands : (start : Stored) (old : List ℕ) (acts : List Act)
+  stands : (start : Found) (old : List ℕ) (acts : List Act)
       → RunStands g.H.NodeHash.digest_of g.V.VufCheck.accepted g.S.Verifier.verified (option_map lines_of (g.R.Read.remaining l.fn.reader)) start old (λ done. g.K.Keeper.has l.fn.keeper (done ++ acts)) l.fn.asker l.fn.self.said.text.items l.fn.self.state (g.W.Write.contents l.fn.writer)
       → RunStands g.H.NodeHash.digest_of g.V.VufCheck.accepted g.S.Verifier.verified (option_map lines_of (g.R.Read.remaining l.fn.reader)) start old (λ done. g.K.Keeper.has l.keeper (done ++ acts)) l.asker l.self.said.text.items l.self.state (g.W.Write.contents l.writer);
   rises : l.fn.self.said.status ≤ l.self.said.status;

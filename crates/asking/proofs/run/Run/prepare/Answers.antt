@@ -11,10 +11,12 @@ use Rattle.asking.specs.declared.ask_fault.AskFault.TheVariants.{OutOfMemory as 
 use Rattle.asking.specs.declared.state.State.{State}
 use Rattle.asking.specs.Runs.{Background}
 use Rattle.asking.specs.Saves.{Act}
-use Rattle.asking.specs.Standing.{standing, StateIsKept, StateStands}
+use Rattle.asking.specs.Standing.{standing, StateIsSaved, StateStands}
 use Rattle.asking.proofs.Ran.{ok_then}
 use Rattle.asking.proofs.RunSteps.{prepared-asked, prepared-ready, prepared-stands, settled-run, told-so}
-use Rattle.asking.proofs.Written.{state-kept}
+use Rattle.asking.proofs.Written.{state-saved}
+use Rattle.textio.specs.declared.program_fault.ProgramFault.TheVariants.{CannotWrite}
+use Rattle.asking.specs.declared.ask_fault.RunFault.TheVariants.{Program}
 use Rattle.asking.proofs.run.Run.prepare.Goals as goal
 
 pub returns-clause-prepares : goal.returns-clause-prepares
@@ -26,7 +28,7 @@ returns-clause-prepares g c =
 
 pub returns-clause-part : goal.returns-clause-part
 returns-clause-part g c =
-    reaches_so c.settle.result (PreparesSome g.H.NodeHash.digest_of g.V.VufCheck.accepted g.S.Verifier.verified (ExchangesFrames g.T.Write.contents g.T.Read.remaining) (background_of c.args.asker.now) (c.args.self.now.state ≡ None) (scene c.args.asker.now c.args.self.now.said c.args.stream.now))
+    reaches_so (c.settle.result ≡ Err (Program CannotWrite)) c.settle.result (PreparesSome g.H.NodeHash.digest_of g.V.VufCheck.accepted g.S.Verifier.verified (ExchangesFrames g.T.Write.contents g.T.Read.remaining) (background_of c.args.asker.now) (c.args.self.now.state ≡ None) (scene c.args.asker.now c.args.self.now.said c.args.stream.now))
     (report_of c.look_around-prepared.new.self.said) (g.W.Write.contents c.args.writer.now) (g.W.Write.contents c.settle.new.writer) c.settle.new.self.said c.look_around-prepared.ensures.reaches (err_so _ c.settle.ensures.leaves)
 
 pub returns-clause-stands : goal.returns-clause-stands
@@ -40,8 +42,8 @@ returns-clause-stands g c = λ lines start old acts stands.
     let happened' : List Act → Type 0 = λ done. g.K.Keeper.has c.settle.new.keeper (done ++ acts) in
     let still = c.look_around-prepared.ensures.still in
     let asked = prepared-asked g.S.Verifier.verified lines start before after c.look_around-prepared.ensures.changes stands.2 in
-    let kept = subst (λ (state : Option State). StateIsKept g.H.NodeHash.digest_of g.V.VufCheck.accepted g.S.Verifier.verified lines before.key start old happened state out) (sym still)
-    (state-kept g.H.NodeHash.digest_of g.V.VufCheck.accepted g.S.Verifier.verified lines before.key start old happened c.args.self.now.state out (standing before.client before.monitors.items said.text.items) stands.0) in
+    let kept = subst (λ (state : Option State). StateIsSaved g.H.NodeHash.digest_of g.V.VufCheck.accepted g.S.Verifier.verified lines before.key start old happened state out) (sym still)
+    (state-saved g.H.NodeHash.digest_of g.V.VufCheck.accepted g.S.Verifier.verified lines before.key start old happened c.args.self.now.state out (standing before.client before.monitors.items said.text.items) stands.0) in
     let enough : c.look_around-prepared.result ≢ Err NoMemory → StateStands g.H.NodeHash.digest_of g.V.VufCheck.accepted g.S.Verifier.verified lines before.key start old happened c.look_around-prepared.new.self.state out (standing after.client after.monitors.items said'.text.items) = λ some.
     let (reached, prepares, told, client, monitors) = c.look_around-prepared.ensures.stands some in
     subst (λ (state : Option State). StateStands g.H.NodeHash.digest_of g.V.VufCheck.accepted g.S.Verifier.verified lines before.key start old happened state out (standing after.client after.monitors.items said'.text.items)) (sym still)

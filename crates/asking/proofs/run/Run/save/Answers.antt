@@ -1,6 +1,9 @@
-use Rattle.std.proofs.Common.{◌≡◌, ◌≢◌, Err, Some, rules}
+use Rattle.std.proofs.Common.{◌≡◌, ◌≢◌, [], ◌++◌, List, Err, Some, rules}
 use Rattle.asking.specs.declared.ask_fault.AskFault.TheVariants.{OutOfMemory as NoMemory}
+use Rattle.asking.specs.Saves.{Act}
+use Rattle.asking.specs.Standing.{standing}
 use Rattle.asking.proofs.Keeping.{saved}
+use Rattle.asking.proofs.Written.{some-saved}
 use Rattle.asking.proofs.run.Run.save.Goals as goal
 
 pub returns-in-Some-clause-saves : goal.returns-in-Some-clause-saves
@@ -11,4 +14,6 @@ returns-in-Some-clause-saves g c =
 pub returns-in-Some-clause-kept : goal.returns-in-Some-clause-kept
 returns-in-Some-clause-kept g c =
     let was : c.args.self.now.state ≡ Some c.in-Some.state.now = search rules in
-    rw was c.save.ensures.kept
+    rw was (λ lines key start old acts up-to stands.
+    some-saved g.H.NodeHash.digest_of g.V.VufCheck.accepted g.S.Verifier.verified lines key start old (λ (done : List Act). g.K.Keeper.has c.save.new.keeper (done ++ acts)) c.save.result c.save.new.self (g.W.Write.contents c.args.writer.now)
+    (standing c.args.asker.now.client c.args.asker.now.monitors.items []) (c.save.ensures.kept lines key start old acts up-to stands))

@@ -1,8 +1,8 @@
 use Rattle.std.proofs.Common.{◌≡◌, ◌∙◌, ℕ, List, Err, Ok, ap, rules, subst, sym}
 use Rattle.asking.specs.Keeping.{SavesTo}
 use Rattle.asking.specs.Reports.{report_of}
-use Rattle.asking.specs.declared.ask_fault.RunFault.TheVariants.{Ask}
-use Rattle.asking.proofs.Ended.{leaves_same, leaves_written}
+use Rattle.asking.specs.declared.ask_fault.RunFault.TheVariants.{Ask, Program}
+use Rattle.asking.proofs.Ended.{leaves_cut, leaves_same, leaves_written}
 use Rattle.asking.proofs.Keeping.{kept_up, not_settled, was_asked}
 use Rattle.std.proofs.Common.{◌++◌, [], Option, inl, inr}
 use Rattle.std.specs.Prelude.{IfSome}
@@ -11,32 +11,37 @@ use Rattle.asking.specs.Reports.{Report}
 use Rattle.asking.specs.Saves.{Act}
 use Rattle.asking.specs.Standing.{standing, IsUpTo, StateIsKept, StateStands}
 use Rattle.asking.specs.declared.state.State.{State}
-use Rattle.asking.proofs.Written.{memory-cases, state-kept, state-stands-written, state-written}
+use Rattle.asking.proofs.RunSteps.{ok_have}
+use Rattle.asking.proofs.Written.{memory-cases, saved-kept, state-stands-written, state-written}
+use Rattle.textio.specs.declared.program_fault.ProgramFault.{ProgramFault}
+use Rattle.textio.specs.declared.program_fault.ProgramFault.TheVariants.{CannotWrite}
 use Rattle.asking.proofs.run.Run.settle.Goals as goal
 
 pub returns-in_err-explain_stop-clause-leaves : goal.returns-in_err-explain_stop-clause-leaves
 returns-in_err-explain_stop-clause-leaves g c =
-    leaves_same (g.W.Write.contents c.args.writer.now) c.explain_stop.new.self.said (report_of c.args.self.now.said) (c.explain_stop.ensures.said ∙ ap report_of c.add.ensures.said)
+    leaves_same _ (g.W.Write.contents c.args.writer.now) c.explain_stop.new.self.said (report_of c.args.self.now.said) (c.explain_stop.ensures.said ∙ ap report_of c.add.ensures.said)
 
 pub returns-in_err-write-clause-leaves : goal.returns-in_err-write-clause-leaves
 returns-in_err-write-clause-leaves g c =
-    leaves_written (g.W.Write.contents c.args.writer.now) (g.W.Write.contents c.write.new.writer) c.explain_stop.new.self.said c.write.new.self.said (report_of c.args.self.now.said)
+    let passed : c.from_residual-in_err-write.result ≡ Err (Program c.in_err-write.field-0.0) = search rules in
+    let failed : c.from_residual-in_err-write.result ≡ Err (Program CannotWrite) = passed ∙ ap (λ (f : ProgramFault). Err (Program f)) c.in_err-write.ensures.err in
+    leaves_cut (c.from_residual-in_err-write.result ≡ Err (Program CannotWrite)) (g.W.Write.contents c.args.writer.now) (g.W.Write.contents c.write.new.writer) c.explain_stop.new.self.said c.write.new.self.said (report_of c.args.self.now.said) failed
     (c.explain_stop.ensures.said ∙ ap report_of c.add.ensures.said) c.write.ensures.some c.write.ensures.emptied c.write.ensures.status
 
 pub returns-in_err-save-clause-leaves : goal.returns-in_err-save-clause-leaves
 returns-in_err-save-clause-leaves g c =
-    rw c.save.ensures.said (leaves_written (g.W.Write.contents c.args.writer.now) (g.W.Write.contents c.write.new.writer) c.explain_stop.new.self.said c.write.new.self.said (report_of c.args.self.now.said)
-    (c.explain_stop.ensures.said ∙ ap report_of c.add.ensures.said) c.write.ensures.some c.write.ensures.emptied c.write.ensures.status)
+    rw c.save.ensures.said (leaves_written _ (g.W.Write.contents c.args.writer.now) (g.W.Write.contents c.write.new.writer) c.explain_stop.new.self.said c.write.new.self.said (report_of c.args.self.now.said)
+    (c.explain_stop.ensures.said ∙ ap report_of c.add.ensures.said) c.in_ok-write.ensures.writes.0 c.write.ensures.emptied c.write.ensures.status)
 
 pub returns-in_err-asked-clause-leaves : goal.returns-in_err-asked-clause-leaves
 returns-in_err-asked-clause-leaves g c =
-    rw c.save.ensures.said (leaves_written (g.W.Write.contents c.args.writer.now) (g.W.Write.contents c.write.new.writer) c.explain_stop.new.self.said c.write.new.self.said (report_of c.args.self.now.said)
-    (c.explain_stop.ensures.said ∙ ap report_of c.add.ensures.said) c.write.ensures.some c.write.ensures.emptied c.write.ensures.status)
+    rw c.save.ensures.said (leaves_written _ (g.W.Write.contents c.args.writer.now) (g.W.Write.contents c.write.new.writer) c.explain_stop.new.self.said c.write.new.self.said (report_of c.args.self.now.said)
+    (c.explain_stop.ensures.said ∙ ap report_of c.add.ensures.said) c.in_ok-write.ensures.writes.0 c.write.ensures.emptied c.write.ensures.status)
 
 pub returns-clause-leaves : goal.returns-clause-leaves
 returns-clause-leaves g c =
-    rw c.save.ensures.said (leaves_written (g.W.Write.contents c.args.writer.now) (g.W.Write.contents c.write.new.writer) c.explain_stop.new.self.said c.write.new.self.said (report_of c.args.self.now.said)
-    (c.explain_stop.ensures.said ∙ ap report_of c.add.ensures.said) c.write.ensures.some c.write.ensures.emptied c.write.ensures.status)
+    rw c.save.ensures.said (leaves_written _ (g.W.Write.contents c.args.writer.now) (g.W.Write.contents c.write.new.writer) c.explain_stop.new.self.said c.write.new.self.said (report_of c.args.self.now.said)
+    (c.explain_stop.ensures.said ∙ ap report_of c.add.ensures.said) c.in_ok-write.ensures.writes.0 c.write.ensures.emptied c.write.ensures.status)
 
 pub returns-in_err-asked-clause-keeps : goal.returns-in_err-asked-clause-keeps
 returns-in_err-asked-clause-keeps g c = λ settled.
@@ -92,7 +97,7 @@ returns-in_err-save-clause-kept g c = λ lines key start old acts changes kept e
           (state-stands-written g.H.NodeHash.digest_of g.V.VufCheck.accepted g.S.Verifier.verified lines key start old after c.add.new.self.state out out' client monitors said (subst (λ (t : List ℕ). Appends out out' t) same (c.in_ok-write.ensures.writes.0)) (c.in_ok-add.ensures.stands lines key start old acts said changes (enough some))) in
           let up-to = subst (λ (state : Option State). IfSome state (λ s. IsUpTo client s.epoch)) (sym still) c.in_ok-add.ensures.up_to in
           let saved = c.save.ensures.kept lines key start old acts up-to stood in
-          state-kept g.H.NodeHash.digest_of g.V.VufCheck.accepted g.S.Verifier.verified lines key start old (λ (done : List Act). g.K.Keeper.has c.save.new.keeper (done ++ acts)) c.save.new.self.state out' (standing client monitors []) saved
+          saved.0
     ]
 
 pub returns-in_err-asked-clause-kept : goal.returns-in_err-asked-clause-kept
@@ -114,7 +119,7 @@ returns-in_err-asked-clause-kept g c = λ lines key start old acts changes kept 
           (state-stands-written g.H.NodeHash.digest_of g.V.VufCheck.accepted g.S.Verifier.verified lines key start old after c.add.new.self.state out out' client monitors said (subst (λ (t : List ℕ). Appends out out' t) same (c.in_ok-write.ensures.writes.0)) (c.in_ok-add.ensures.stands lines key start old acts said changes (enough some))) in
           let up-to = subst (λ (state : Option State). IfSome state (λ s. IsUpTo client s.epoch)) (sym still) c.in_ok-add.ensures.up_to in
           let saved = c.save.ensures.kept lines key start old acts up-to stood in
-          state-kept g.H.NodeHash.digest_of g.V.VufCheck.accepted g.S.Verifier.verified lines key start old (λ (done : List Act). g.K.Keeper.has c.save.new.keeper (done ++ acts)) c.save.new.self.state out' (standing client monitors []) saved
+          saved.0
     ]
 
 pub returns-clause-kept : goal.returns-clause-kept
@@ -136,12 +141,11 @@ returns-clause-kept g c = λ lines key start old acts changes kept enough.
           (state-stands-written g.H.NodeHash.digest_of g.V.VufCheck.accepted g.S.Verifier.verified lines key start old after c.add.new.self.state out out' client monitors said (subst (λ (t : List ℕ). Appends out out' t) same (c.in_ok-write.ensures.writes.0)) (c.in_ok-add.ensures.stands lines key start old acts said changes (enough some))) in
           let up-to = subst (λ (state : Option State). IfSome state (λ s. IsUpTo client s.epoch)) (sym still) c.in_ok-add.ensures.up_to in
           let saved = c.save.ensures.kept lines key start old acts up-to stood in
-          state-kept g.H.NodeHash.digest_of g.V.VufCheck.accepted g.S.Verifier.verified lines key start old (λ (done : List Act). g.K.Keeper.has c.save.new.keeper (done ++ acts)) c.save.new.self.state out' (standing client monitors []) saved
+          saved.0
     ]
 
 pub returns-clause-stands : goal.returns-clause-stands
 returns-clause-stands g c = λ lines key start old acts changes stands.
-    let kept = state-kept g.H.NodeHash.digest_of g.V.VufCheck.accepted g.S.Verifier.verified lines key start old (λ (done : List Act). g.K.Keeper.has c.args.keeper.now (done ++ acts)) c.args.self.now.state (g.W.Write.contents c.args.writer.now) (standing c.args.asker.now.client c.args.asker.now.monitors.items c.args.self.now.said.text.items) stands in
     let client = c.args.asker.now.client in
     let monitors = c.args.asker.now.monitors.items in
     let out = g.W.Write.contents c.args.writer.now in
@@ -150,10 +154,12 @@ returns-clause-stands g c = λ lines key start old acts changes stands.
     let after : List Act → Type 0 = λ done. g.K.Keeper.has c.add.new.keeper (done ++ acts) in
     let still : c.write.new.self.state ≡ c.add.new.self.state = c.write.ensures.still ∙ c.explain_stop.ensures.still in
     let same : c.explain_stop.new.self.said.text.items ≡ said = ap (λ (r : Report). r.lines) (c.explain_stop.ensures.said ∙ ap report_of c.add.ensures.said) in
-    let written = subst (λ (state : Option State). StateIsKept g.H.NodeHash.digest_of g.V.VufCheck.accepted g.S.Verifier.verified lines key start old after state out') (sym still)
-    (state-written g.H.NodeHash.digest_of g.V.VufCheck.accepted g.S.Verifier.verified lines key start old after c.add.new.self.state out out' c.explain_stop.new.self.said.text.items c.write.ensures.some (c.add.ensures.kept lines key start old acts changes kept)) in
     let stood = subst (λ (state : Option State). StateStands g.H.NodeHash.digest_of g.V.VufCheck.accepted g.S.Verifier.verified lines key start old after state out' (standing client monitors [])) (sym still)
     (state-stands-written g.H.NodeHash.digest_of g.V.VufCheck.accepted g.S.Verifier.verified lines key start old after c.add.new.self.state out out' client monitors said (subst (λ (t : List ℕ). Appends out out' t) same (c.in_ok-write.ensures.writes.0)) (c.in_ok-add.ensures.stands lines key start old acts said changes stands)) in
     let up-to = subst (λ (state : Option State). IfSome state (λ s. IsUpTo client s.epoch)) (sym still) c.in_ok-add.ensures.up_to in
     let saved = c.save.ensures.kept lines key start old acts up-to stood in
-    saved
+    ok_have c.save.result c.in_ok-save.was saved.1
+
+pub returns-in_err-told-clause-kept : goal.returns-in_err-told-clause-kept
+returns-in_err-told-clause-kept g c = λ lines key start old acts changes kept enough.
+    saved-kept g.H.NodeHash.digest_of g.V.VufCheck.accepted g.S.Verifier.verified lines key start old (λ (done : List Act). g.K.Keeper.has c.args.keeper.now (done ++ acts)) c.args.self.now.state (g.W.Write.contents c.args.writer.now) kept

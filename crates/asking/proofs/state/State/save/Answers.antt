@@ -1,6 +1,8 @@
-use Rattle.std.proofs.Common.{◌∙◌, [], ◌++◌, List, refl}
+use Rattle.std.proofs.Common.{◌∙◌, ℕ, [], ◌++◌, List, ap, refl, rules}
 use Rattle.textio.specs.Lines.{lines_of}
+use Rattle.memory.specs.Texts.{items_text}
 use Rattle.memory.specs.declared.kind.Kind.TheVariants.{Alarms}
+use Rattle.memory.proofs.Learned.{text_grows}
 use Rattle.asking.specs.Saves.{Act}
 use Rattle.asking.specs.Standing.{standing}
 use Rattle.asking.proofs.AskedOwn.{lines-promises, some-lines-promises}
@@ -24,10 +26,18 @@ returns-clause-learns g c =
 pub returns-in_err-learn_told-clause-kept : goal.returns-in_err-learn_told-clause-kept
 returns-in_err-learn_told-clause-kept g c = λ lines key start old acts up-to stands.
     let known = c.args.self.now.memory in
-    let same = some-lines-marks Alarms (lines_of c.args.told.now) known c.learn_told.new.self c.in_err-learn_told.ensures.err in
-    stands-same g.H.NodeHash.digest_of g.V.VufCheck.accepted g.S.Verifier.verified lines key start old (λ (done : List Act). g.K.Keeper.has c.args.keeper.now (done ++ acts)) c.args.self.now.epoch known
-    (g.W.Write.contents c.args.writer.now) (standing c.args.asker.now.client c.args.asker.now.monitors.items []) stands c.learn_told.new.self same (same-marks known c.learn_told.new.self same)
-    (unchanged-own lines start.known known c.learn_told.new.self (some-lines-promises Alarms (lines_of c.args.told.now) known c.learn_told.new.self c.in_err-learn_told.ensures.err))
+    let middle = c.learn_told.new.self in
+    let monitors = c.args.asker.now.monitors.items in
+    let out = g.W.Write.contents c.args.writer.now in
+    let now = standing c.args.asker.now.client monitors [] in
+    let before : List Act → Type 0 = λ done. g.K.Keeper.has c.args.keeper.now (done ++ acts) in
+    let (alarms, taken) = c.in_err-learn_told.ensures.some in
+    let same = some-lines-marks Alarms (lines_of c.args.told.now) known middle c.in_err-learn_told.ensures.err in (
+      alarms,
+      stands-same g.H.NodeHash.digest_of g.V.VufCheck.accepted g.S.Verifier.verified lines key start old before c.args.self.now.epoch known [] out now stands middle alarms taken same (same-marks known middle same)
+          (unchanged-own lines start.known known middle (some-lines-promises Alarms (lines_of c.args.told.now) known middle c.in_err-learn_told.ensures.err)),
+      search rules,
+    )
 
 pub returns-in_err-learn_marks-clause-kept : goal.returns-in_err-learn_marks-clause-kept
 returns-in_err-learn_marks-clause-kept g c = λ lines key start old acts up-to stands.
@@ -35,12 +45,19 @@ returns-in_err-learn_marks-clause-kept g c = λ lines key start old acts up-to s
     let middle = c.learn_told.new.self in
     let monitors = c.args.asker.now.monitors.items in
     let out = g.W.Write.contents c.args.writer.now in
-    let (alarms, tells, grown) = c.in_ok-learn_told.ensures.ok in
-    let same = lines-stay Alarms (lines_of c.args.told.now) known middle alarms tells in
+    let now = standing c.args.asker.now.client monitors [] in
     let before : List Act → Type 0 = λ done. g.K.Keeper.has c.args.keeper.now (done ++ acts) in
+    let (told, tells, grown) = c.in_ok-learn_told.ensures.ok in
+    let (alarms, taken, first-lines) = c.in_ok-learn_told.ensures.takes in
+    let same = lines-stay Alarms (lines_of c.args.told.now) known middle told tells in
+    let promises = lines-promises Alarms (lines_of c.args.told.now) known middle told tells in
     let (done, news, among, each) = c.in_err-learn_marks.ensures.some in
-    stands-so g.H.NodeHash.digest_of g.V.VufCheck.accepted g.S.Verifier.verified lines key start old before c.args.self.now.epoch c.learn_marks.new.self.epoch c.learn_marks.new.self.memory c.learn_marks.new.self.memory out (standing c.args.asker.now.client monitors []) c.learn_marks.ensures.same.0 refl
-    (stands-saved g.H.NodeHash.digest_of g.V.VufCheck.accepted g.S.Verifier.verified lines key start old before c.args.self.now.epoch known middle c.learn_marks.new.self.memory out c.args.asker.now.client monitors done news stands up-to same (lines-promises Alarms (lines_of c.args.told.now) known middle alarms tells) among each)
+    let (marks, moved) = c.in_err-learn_marks.ensures.taken in (
+      alarms ++ marks,
+      stands-so g.H.NodeHash.digest_of g.V.VufCheck.accepted g.S.Verifier.verified lines key start old before c.args.self.now.epoch c.learn_marks.new.self.epoch c.learn_marks.new.self.memory c.learn_marks.new.self.memory (alarms ++ marks) out now c.learn_marks.ensures.same.0 refl
+          (stands-saved g.H.NodeHash.digest_of g.V.VufCheck.accepted g.S.Verifier.verified lines key start old before c.args.self.now.epoch known middle c.learn_marks.new.self.memory out c.args.asker.now.client monitors done news alarms marks stands up-to same promises among each taken moved),
+      search rules,
+    )
 
 pub returns-in_err-hand_on-clause-kept : goal.returns-in_err-hand_on-clause-kept
 returns-in_err-hand_on-clause-kept g c = λ lines key start old acts up-to stands.
@@ -48,15 +65,20 @@ returns-in_err-hand_on-clause-kept g c = λ lines key start old acts up-to stand
     let middle = c.learn_told.new.self in
     let monitors = c.args.asker.now.monitors.items in
     let out = g.W.Write.contents c.args.writer.now in
-    let (alarms, tells, grown) = c.in_ok-learn_told.ensures.ok in
-    let same = lines-stay Alarms (lines_of c.args.told.now) known middle alarms tells in
+    let now = standing c.args.asker.now.client monitors [] in
     let before : List Act → Type 0 = λ done. g.K.Keeper.has c.args.keeper.now (done ++ acts) in
+    let (told, tells, grown) = c.in_ok-learn_told.ensures.ok in
+    let (alarms, taken, first-lines) = c.in_ok-learn_told.ensures.takes in
+    let same = lines-stay Alarms (lines_of c.args.told.now) known middle told tells in
+    let promises = lines-promises Alarms (lines_of c.args.told.now) known middle told tells in
     let (some, news, may, each, longer) = c.in_ok-learn_marks.ensures.learns in
+    let (marks, moved, last-lines) = c.in_ok-learn_marks.ensures.takes in
     let among = may-among c.args.asker.now.client.chain c.args.self.now.head c.args.self.now.monitors monitors some may in
-    let moved = stands-saved g.H.NodeHash.digest_of g.V.VufCheck.accepted g.S.Verifier.verified lines key start old before c.args.self.now.epoch known middle c.learn_marks.new.self.memory out c.args.asker.now.client monitors some news stands up-to same (lines-promises Alarms (lines_of c.args.told.now) known middle alarms tells) among each in
-    let handed = stands-on g.H.NodeHash.digest_of g.V.VufCheck.accepted g.S.Verifier.verified lines key start old before (λ (done : List Act). g.K.Keeper.has c.hand_on.new.keeper (done ++ acts)) c.args.self.now.epoch c.hand_on.new.self.epoch c.learn_marks.new.self.memory c.hand_on.new.self.memory out (standing c.args.asker.now.client monitors [])
-    (c.hand_on.ensures.same.1 ∙ c.learn_marks.ensures.same.0) c.hand_on.ensures.same.0 (λ done has. c.hand_on.ensures.hands (done ++ acts) has) moved in
-    handed
+    let stood = stands-saved g.H.NodeHash.digest_of g.V.VufCheck.accepted g.S.Verifier.verified lines key start old before c.args.self.now.epoch known middle c.learn_marks.new.self.memory out c.args.asker.now.client monitors some news alarms marks stands up-to same promises among each taken moved in
+    let whole = c.deref.ensures.value ∙ text_grows [] c.learn_told.new.lines.items c.learn_marks.new.lines.items alarms marks (first-lines ∙ ap (λ (t : List ℕ). t ++ items_text alarms) c.new-lines.ensures.items) last-lines in
+    let handed = stands-on g.H.NodeHash.digest_of g.V.VufCheck.accepted g.S.Verifier.verified lines key start old before (λ (done : List Act). g.K.Keeper.has c.hand_on.new.keeper (done ++ acts)) c.args.self.now.epoch c.hand_on.new.self.epoch c.learn_marks.new.self.memory c.hand_on.new.self.memory (alarms ++ marks) c.deref.result.now out now
+    (c.hand_on.ensures.same.1 ∙ c.learn_marks.ensures.same.0) c.hand_on.ensures.same.0 whole (λ done has. c.hand_on.ensures.hands (done ++ acts) has) stood in
+    ([], handed, search rules)
 
 pub returns-in_err-note_tested-clause-kept : goal.returns-in_err-note_tested-clause-kept
 returns-in_err-note_tested-clause-kept g c = λ lines key start old acts up-to stands.
@@ -64,16 +86,22 @@ returns-in_err-note_tested-clause-kept g c = λ lines key start old acts up-to s
     let middle = c.learn_told.new.self in
     let monitors = c.args.asker.now.monitors.items in
     let out = g.W.Write.contents c.args.writer.now in
-    let (alarms, tells, grown) = c.in_ok-learn_told.ensures.ok in
-    let same = lines-stay Alarms (lines_of c.args.told.now) known middle alarms tells in
+    let now = standing c.args.asker.now.client monitors [] in
     let before : List Act → Type 0 = λ done. g.K.Keeper.has c.args.keeper.now (done ++ acts) in
+    let (told, tells, grown) = c.in_ok-learn_told.ensures.ok in
+    let (alarms, taken, first-lines) = c.in_ok-learn_told.ensures.takes in
+    let same = lines-stay Alarms (lines_of c.args.told.now) known middle told tells in
+    let promises = lines-promises Alarms (lines_of c.args.told.now) known middle told tells in
     let (some, news, may, each, longer) = c.in_ok-learn_marks.ensures.learns in
+    let (marks, moved, last-lines) = c.in_ok-learn_marks.ensures.takes in
     let among = may-among c.args.asker.now.client.chain c.args.self.now.head c.args.self.now.monitors monitors some may in
-    let moved = stands-saved g.H.NodeHash.digest_of g.V.VufCheck.accepted g.S.Verifier.verified lines key start old before c.args.self.now.epoch known middle c.learn_marks.new.self.memory out c.args.asker.now.client monitors some news stands up-to same (lines-promises Alarms (lines_of c.args.told.now) known middle alarms tells) among each in
-    let handed = stands-on g.H.NodeHash.digest_of g.V.VufCheck.accepted g.S.Verifier.verified lines key start old before (λ (done : List Act). g.K.Keeper.has c.hand_on.new.keeper (done ++ acts)) c.args.self.now.epoch c.hand_on.new.self.epoch c.learn_marks.new.self.memory c.hand_on.new.self.memory out (standing c.args.asker.now.client monitors [])
-    (c.hand_on.ensures.same.1 ∙ c.learn_marks.ensures.same.0) c.hand_on.ensures.same.0 (λ done has. c.hand_on.ensures.hands (done ++ acts) has) moved in
-    stands-so g.H.NodeHash.digest_of g.V.VufCheck.accepted g.S.Verifier.verified lines key start old (λ (done : List Act). g.K.Keeper.has c.hand_on.new.keeper (done ++ acts)) c.hand_on.new.self.epoch c.note_tested.new.self.epoch c.hand_on.new.self.memory c.note_tested.new.self.memory out (standing c.args.asker.now.client monitors [])
-    c.note_tested.ensures.same.1 c.note_tested.ensures.same.0 handed
+    let stood = stands-saved g.H.NodeHash.digest_of g.V.VufCheck.accepted g.S.Verifier.verified lines key start old before c.args.self.now.epoch known middle c.learn_marks.new.self.memory out c.args.asker.now.client monitors some news alarms marks stands up-to same promises among each taken moved in
+    let whole = c.deref.ensures.value ∙ text_grows [] c.learn_told.new.lines.items c.learn_marks.new.lines.items alarms marks (first-lines ∙ ap (λ (t : List ℕ). t ++ items_text alarms) c.new-lines.ensures.items) last-lines in
+    let handed = stands-on g.H.NodeHash.digest_of g.V.VufCheck.accepted g.S.Verifier.verified lines key start old before (λ (done : List Act). g.K.Keeper.has c.hand_on.new.keeper (done ++ acts)) c.args.self.now.epoch c.hand_on.new.self.epoch c.learn_marks.new.self.memory c.hand_on.new.self.memory (alarms ++ marks) c.deref.result.now out now
+    (c.hand_on.ensures.same.1 ∙ c.learn_marks.ensures.same.0) c.hand_on.ensures.same.0 whole (λ done has. c.hand_on.ensures.hands (done ++ acts) has) stood in
+    let noted = stands-so g.H.NodeHash.digest_of g.V.VufCheck.accepted g.S.Verifier.verified lines key start old (λ (done : List Act). g.K.Keeper.has c.hand_on.new.keeper (done ++ acts)) c.hand_on.new.self.epoch c.note_tested.new.self.epoch c.hand_on.new.self.memory c.note_tested.new.self.memory [] out now
+    c.note_tested.ensures.same.1 c.note_tested.ensures.same.0 handed in
+    ([], noted, search rules)
 
 pub returns-clause-kept : goal.returns-clause-kept
 returns-clause-kept g c = λ lines key start old acts up-to stands.
@@ -81,13 +109,19 @@ returns-clause-kept g c = λ lines key start old acts up-to stands.
     let middle = c.learn_told.new.self in
     let monitors = c.args.asker.now.monitors.items in
     let out = g.W.Write.contents c.args.writer.now in
-    let (alarms, tells, grown) = c.in_ok-learn_told.ensures.ok in
-    let same = lines-stay Alarms (lines_of c.args.told.now) known middle alarms tells in
+    let now = standing c.args.asker.now.client monitors [] in
     let before : List Act → Type 0 = λ done. g.K.Keeper.has c.args.keeper.now (done ++ acts) in
+    let (told, tells, grown) = c.in_ok-learn_told.ensures.ok in
+    let (alarms, taken, first-lines) = c.in_ok-learn_told.ensures.takes in
+    let same = lines-stay Alarms (lines_of c.args.told.now) known middle told tells in
+    let promises = lines-promises Alarms (lines_of c.args.told.now) known middle told tells in
     let (some, news, may, each, longer) = c.in_ok-learn_marks.ensures.learns in
+    let (marks, moved, last-lines) = c.in_ok-learn_marks.ensures.takes in
     let among = may-among c.args.asker.now.client.chain c.args.self.now.head c.args.self.now.monitors monitors some may in
-    let moved = stands-saved g.H.NodeHash.digest_of g.V.VufCheck.accepted g.S.Verifier.verified lines key start old before c.args.self.now.epoch known middle c.learn_marks.new.self.memory out c.args.asker.now.client monitors some news stands up-to same (lines-promises Alarms (lines_of c.args.told.now) known middle alarms tells) among each in
-    let handed = stands-on g.H.NodeHash.digest_of g.V.VufCheck.accepted g.S.Verifier.verified lines key start old before (λ (done : List Act). g.K.Keeper.has c.hand_on.new.keeper (done ++ acts)) c.args.self.now.epoch c.hand_on.new.self.epoch c.learn_marks.new.self.memory c.hand_on.new.self.memory out (standing c.args.asker.now.client monitors [])
-    (c.hand_on.ensures.same.1 ∙ c.learn_marks.ensures.same.0) c.hand_on.ensures.same.0 (λ done has. c.hand_on.ensures.hands (done ++ acts) has) moved in
-    stands-so g.H.NodeHash.digest_of g.V.VufCheck.accepted g.S.Verifier.verified lines key start old (λ (done : List Act). g.K.Keeper.has c.hand_on.new.keeper (done ++ acts)) c.hand_on.new.self.epoch c.note_tested.new.self.epoch c.hand_on.new.self.memory c.note_tested.new.self.memory out (standing c.args.asker.now.client monitors [])
-    c.note_tested.ensures.same.1 c.note_tested.ensures.same.0 handed
+    let stood = stands-saved g.H.NodeHash.digest_of g.V.VufCheck.accepted g.S.Verifier.verified lines key start old before c.args.self.now.epoch known middle c.learn_marks.new.self.memory out c.args.asker.now.client monitors some news alarms marks stands up-to same promises among each taken moved in
+    let whole = c.deref.ensures.value ∙ text_grows [] c.learn_told.new.lines.items c.learn_marks.new.lines.items alarms marks (first-lines ∙ ap (λ (t : List ℕ). t ++ items_text alarms) c.new-lines.ensures.items) last-lines in
+    let handed = stands-on g.H.NodeHash.digest_of g.V.VufCheck.accepted g.S.Verifier.verified lines key start old before (λ (done : List Act). g.K.Keeper.has c.hand_on.new.keeper (done ++ acts)) c.args.self.now.epoch c.hand_on.new.self.epoch c.learn_marks.new.self.memory c.hand_on.new.self.memory (alarms ++ marks) c.deref.result.now out now
+    (c.hand_on.ensures.same.1 ∙ c.learn_marks.ensures.same.0) c.hand_on.ensures.same.0 whole (λ done has. c.hand_on.ensures.hands (done ++ acts) has) stood in
+    let noted = stands-so g.H.NodeHash.digest_of g.V.VufCheck.accepted g.S.Verifier.verified lines key start old (λ (done : List Act). g.K.Keeper.has c.hand_on.new.keeper (done ++ acts)) c.hand_on.new.self.epoch c.note_tested.new.self.epoch c.hand_on.new.self.memory c.note_tested.new.self.memory [] out now
+    c.note_tested.ensures.same.1 c.note_tested.ensures.same.0 handed in
+    ([], noted, refl)
