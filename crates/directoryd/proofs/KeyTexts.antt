@@ -1,11 +1,10 @@
 -- What the text of the file of keys gives, where there may be none.
-use Rattle.std.proofs.Common.{◌≡◌, [], ◌∷◌, Option, None, Some, Err, refl}
-use Rattle.std.specs.Prelude.{IsSome}
+use Rattle.std.proofs.Common.{◌≡◌, [], ◌∷◌, Option, None, Some, refl}
 use Rattle.clap.specs.Words.{Text}
-use Rattle.textio.specs.declared.program_fault.ProgramFault.{ProgramFault}
 use Rattle.server.specs.DirectoryOptions.{DirectoryOptions}
 use Rattle.asking.specs.AskOptions.{AskOptions}
-use Rattle.directoryd.specs.KeyFiles.{ask_with, directory_with, option_or, text_or, HasNoKeys, IsKeysFault, IsKeysText, Uses}
+use Rattle.directoryd.specs.KeyFiles.{ask_with, directory_with, option_or, provided, text_or, IsKeysText, Uses}
+use Rattle.directoryd.specs.declared.keys.KeysKind.TheVariants.{Public, Secret}
 
 text_stays : (given : Text) → text_or given None ≡ given
 text_stays [] = refl
@@ -28,16 +27,18 @@ directory_stays asked = λ i. record asked {
 ask_stays : (asked : AskOptions) → ask_with [] asked ≡ asked
 ask_stays asked = λ i. record asked { signing_key = text_stays asked.signing_key i; token = option_stays asked.token i }
 
+provided_stays : (asked : AskOptions) → provided [] asked ≡ asked
+provided_stays asked = λ i. record asked { signing_key = text_stays asked.signing_key i }
+
 -- so the options with the text are those that are used
-pub directory_used : (keys : Option Text) (file : Text) (asked : DirectoryOptions) → IsKeysText keys file → Uses directory_with keys asked (directory_with file asked)
+pub directory_used : (keys : Option Text) (file : Text) (asked : DirectoryOptions) → IsKeysText Secret keys file → Uses Secret directory_with keys asked (directory_with file asked)
 directory_used None file asked is = rw is (directory_stays asked)
-directory_used (Some path) file asked is = (file, is, refl)
+directory_used (Some path) file asked is = (file, is.0, is.1, refl)
 
-pub ask_used : (keys : Option Text) (file : Text) (asked : AskOptions) → IsKeysText keys file → Uses ask_with keys asked (ask_with file asked)
+pub ask_used : (keys : Option Text) (file : Text) (asked : AskOptions) → IsKeysText Secret keys file → Uses Secret ask_with keys asked (ask_with file asked)
 ask_used None file asked is = rw is (ask_stays asked)
-ask_used (Some path) file asked is = (file, is, refl)
+ask_used (Some path) file asked is = (file, is.0, is.1, refl)
 
--- a file that is not read
-pub no_keys : (A : Type 0) (keys : Option Text) (fault : ProgramFault) → IsSome keys → IsKeysFault fault → HasNoKeys {A = A} keys (Err fault)
-no_keys A (Some path) fault some is = (path, fault, refl, refl, is)
-no_keys A None fault some is = absurd cc
+pub provided_used : (keys : Option Text) (file : Text) (asked : AskOptions) → IsKeysText Public keys file → Uses Public provided keys asked (provided file asked)
+provided_used None file asked is = rw is (provided_stays asked)
+provided_used (Some path) file asked is = (file, is.0, is.1, refl)

@@ -1,16 +1,21 @@
--- Keys that stand in a file. A line gives the option that it names a value. No clause knows which bytes the file of a
--- path has: it speaks of the faults, and of the text of some file.
-use Rattle.std.specs.Prelude.{◌≡◌, ◌⊎◌, ◌==◌, ◌&&◌, ℕ, Bool, true, List, [], ◌∷◌, All, Option, None, Some, Result, Err, IsUtf8, codes, is_some, if◌then◌else◌, unwrap_or}
+-- Keys that stand in a file. A line gives the option that it names a value. A file has the provider's public keys alone,
+-- or keys of which some are secret. No clause knows which bytes the file of a path has: it speaks of the faults, and of the
+-- text of some file.
+use Rattle.std.specs.Prelude.{◌≡◌, ◌⊎◌, ◌==◌, ◌&&◌, ◌||◌, ◌++◌, ℕ, Bool, true, List, [], ◌∷◌, All, Option, None, Some, Result, Err, IsUtf8, codes, is_some, if◌then◌else◌, unwrap_or}
 use Rattle.std.specs.List.{after_first, before_first}
+use Rattle.std.specs.Io.KnownBytes.{Appends, Keeps}
 use Rattle.std.specs.Str.{bytes_eq}
 use Rattle.std.specs.Str.Lines.{lines}
 use Rattle.textio.specs.Digits.{hex32}
 use Rattle.textio.specs.declared.program_fault.ProgramFault.{ProgramFault}
-use Rattle.textio.specs.declared.program_fault.ProgramFault.TheVariants.{BadHex}
+use Rattle.textio.specs.declared.program_fault.ProgramFault.TheVariants.{BadHex, CannotWrite}
 use Rattle.textio.specs.Faults.{IsDeviceFault}
+use Rattle.textio.specs.Output.{WritesBeginning}
 use Rattle.clap.specs.Words.{Text}
 use Rattle.server.specs.DirectoryOptions.{DirectoryOptions}
 use Rattle.asking.specs.AskOptions.{AskOptions}
+use Rattle.directoryd.specs.declared.keys.KeysKind.{KeysKind}
+use Rattle.directoryd.specs.declared.keys.KeysKind.TheVariants.{Public, Secret}
 
 -- what stands before the first space of a line, the name of an option
 abbrev pub name_in : Text → Text
@@ -46,14 +51,50 @@ HasKeyLines text = All (λ line. is_key_line line ≡ true) (lines text)
 abbrev pub IsKeysFile : List ℕ → Type 0
 IsKeysFile bytes = IsUtf8 bytes × HasKeyLines bytes
 
--- the text of the file of keys, where there is one; else no text
-abbrev pub IsKeysText : Option Text → Text → Type 0
-IsKeysText None text = text ≡ []
-IsKeysText (Some path) text = IsKeysFile text
+-- a text gives the provider's public key
+abbrev pub has_provider : Text → Bool
+has_provider text = is_some (key_in text (codes "provider"))
+
+-- a text gives a secret key
+abbrev pub has_secrets : Text → Bool
+has_secrets text = ((is_some (key_in text (codes "sign-key")) || is_some (key_in text (codes "vuf-key"))) || is_some (key_in text (codes "salt-key"))) || is_some (key_in text (codes "token"))
+
+-- what is said of a text that is not of the kind that is wanted
+abbrev pub complaint : KeysKind → Text → Option Text
+complaint Public text = if has_secrets text then Some (codes "has secret keys") else (if has_provider text then None else Some (codes "has no public key"))
+complaint Secret text = if has_secrets text then None else (if has_provider text then Some (codes "has public keys alone") else None)
+
+-- the text of the file of keys of this kind, where there is one; else no text
+abbrev pub IsKeysText : KeysKind → Option Text → Text → Type 0
+IsKeysText kind None text = text ≡ []
+IsKeysText kind (Some path) text = IsKeysFile text × (complaint kind text ≡ None)
+
+-- the option that a file of this kind is given to, as a line about it begins
+abbrev pub option_of : KeysKind → Text
+option_of Public = codes "provider: "
+option_of Secret = codes "keys: "
+
+-- the line about the file of a path of which something is said
+abbrev pub complaint_line : KeysKind → Text → Text → List ℕ
+complaint_line kind path what = option_of kind ++ path ++ codes ": " ++ what ++ codes "\n"
 
 -- the file cannot be read, or is no file of keys
 abbrev pub IsKeysFault : ProgramFault → Type 0
 IsKeysFault fault = (fault ≡ BadHex) ⊎ IsDeviceFault fault
+
+-- A line is written to the errors, and this is the fault behind it; or less of the line if a write failed.
+abbrev pub TellsLine : List ℕ → ProgramFault → Option (List ℕ) → Option (List ℕ) → Type 0
+TellsLine line fault err err-new = ((fault ≡ BadHex) × Appends err err-new line) ⊎ ((fault ≡ CannotWrite) × WritesBeginning err err-new line)
+
+-- The file of a path is not taken: it cannot be read, or is no file of keys; or it is not of this kind, as a line says.
+abbrev pub RefusesFile : KeysKind → Text → ProgramFault → Option (List ℕ) → Option (List ℕ) → Type 0
+RefusesFile kind path fault err err-new = (IsKeysFault fault × Keeps err err-new)
+    ⊎ ((text what : Text) × IsKeysFile text × (complaint kind text ≡ Some what) × TellsLine (complaint_line kind path what) fault err err-new)
+
+-- so for a path that may be there
+abbrev pub RefusesKeys : KeysKind → Option Text → ProgramFault → Option (List ℕ) → Option (List ℕ) → Type 0
+RefusesKeys kind None fault err err-new = ⊥
+RefusesKeys kind (Some path) fault err err-new = RefusesFile kind path fault err err-new
 
 -- An option wins over the file, unless its text is empty: then it counts as not given, if the file has it.
 abbrev pub text_or : Text → Option Text → Text
@@ -86,11 +127,15 @@ ask_with file asked = record {
   words = asked.words;
 }
 
--- without a file the options are those that were asked; with one, the text of some file of keys is put to them
-abbrev pub Uses : {A : Type 0} → (Text → A → A) → Option Text → A → A → Type 0
-Uses with_text None asked used = used ≡ asked
-Uses with_text (Some path) asked used = (file : Text) × IsKeysFile file × (used ≡ with_text file asked)
+-- the public key in a provider's file, put to what is asked of a directory
+abbrev pub provided : Text → AskOptions → AskOptions
+provided file asked = record asked { signing_key = text_or asked.signing_key (key_in file (codes "provider")) }
 
--- a file of keys is not read
-abbrev pub HasNoKeys : {A : Type 0} → Option Text → Result A ProgramFault → Type 0
-HasNoKeys keys outcome = (path : Text) × (fault : ProgramFault) × (keys ≡ Some path) × (outcome ≡ Err fault) × IsKeysFault fault
+-- without a file the options are those that were asked; with one, the text of some file of keys of this kind is put to them
+abbrev pub Uses : {A : Type 0} → KeysKind → (Text → A → A) → Option Text → A → A → Type 0
+Uses kind with_text None asked used = used ≡ asked
+Uses kind with_text (Some path) asked used = (file : Text) × IsKeysFile file × (complaint kind file ≡ None) × (used ≡ with_text file asked)
+
+-- a file of keys is not taken, and this is what the errors get
+abbrev pub HasNoKeys : {A : Type 0} → KeysKind → Option Text → Option (List ℕ) → Option (List ℕ) → Result A ProgramFault → Type 0
+HasNoKeys kind keys err err-new outcome = (fault : ProgramFault) × (outcome ≡ Err fault) × RefusesKeys kind keys fault err err-new

@@ -3,3 +3,4 @@ pub mod KeyFiles
 pub mod Orders
 pub mod Programs
 pub mod Tables
+pub mod TextNames

@@ -12,13 +12,28 @@ use Rattle.items.specs.TreeOptions.{TreeOptions, tree_values}
 use Rattle.server.specs.ConnectionOptions.{ConnectionOptions, connections_of}
 use Rattle.server.specs.DirectoryOptions.{DirectoryOptions, directory_values}
 use Rattle.asking.specs.AskOptions.{AskOptions, ask_values}
+use Rattle.directoryd.specs.declared.order.subcommands.AskTexts.{AskTexts}
 use Rattle.directoryd.specs.declared.order.subcommands.Order.{Order}
 use Rattle.directoryd.specs.declared.order.subcommands.Order.TheVariants.{Root, Prove, Audit, Judge, Play, Serve, Listen, Ask}
 use Rattle.directoryd.specs.CommandLine.{directory_app, greatest, IsHashNames}
 
+-- from where the texts of questions come: a file of the provider's public keys, and one of keys of which some are
+-- secret; and whether the name among the words is text
+pub record AskTextValues : Type 0 where
+  pub provider : Option Text
+  pub keys : Option Text
+  pub is_text : Bool
+
+abbrev pub texts_of : AskTexts → AskTextValues
+texts_of texts = record {
+  provider = option_map (λ path. path.now) texts.provider;
+  keys = option_map (λ path. path.now) texts.keys;
+  is_text = texts.is_text;
+}
+
 -- what is ordered: a root; the path of the index that a text gives; an audit under the key that a text
 -- gives; the verdict, under such a key, on the file of this name; a script; a directory for one session; one for
--- so many connections, at the address that a text gives; or questions. The last three may have a file of keys
+-- so many connections, at the address that a text gives; or questions. The last three may have files of keys
 pub data Task : Type 0 where
   the_root : TreeOptions → Task
   the_path : Text → TreeOptions → Task
@@ -27,7 +42,7 @@ pub data Task : Type 0 where
   the_script : Task
   the_session : DirectoryOptions → Option Text → Task
   the_connections : DirectoryOptions → ConnectionOptions → Option Text → Task
-  the_questions : AskOptions → Option Text → Task
+  the_questions : AskOptions → AskTextValues → Task
 
 abbrev pub values_in : Order → Task
 values_in (Root order) = the_root (tree_values order)
@@ -37,7 +52,7 @@ values_in (Judge order) = the_verdict order.signing_key.now order.file.now
 values_in Play = the_script
 values_in (Serve order keys) = the_session (directory_values order) (option_map (λ path. path.now) keys)
 values_in (Listen order keys) = the_connections (directory_values order.directory) (connections_of order) (option_map (λ path. path.now) keys)
-values_in (Ask order keys) = the_questions (ask_values order) (option_map (λ path. path.now) keys)
+values_in (Ask order texts) = the_questions (ask_values order) (texts_of texts)
 
 -- the hash function of a name: the sum, or else SHA-256
 abbrev pub hash_named : Option Text → HashChoice
@@ -84,11 +99,19 @@ connections_in rows = record {
 -- the values of what is asked of a directory
 abbrev pub asking_in : List Row → AskOptions
 asking_in rows = record {
-  signing_key = text_in (codes "provider") rows;
+  signing_key = [];
   token = first_of (codes "token") rows;
   state = first_of (codes "state") rows;
   address = text_in (codes "address") rows;
   words = first_of (codes "command") rows ∷ first_of (codes "first") rows ∷ first_of (codes "second") rows ∷ [];
+}
+
+-- from where the texts of what is asked come
+abbrev pub texts_in : List Row → AskTextValues
+texts_in rows = record {
+  provider = first_of (codes "provider") rows;
+  keys = first_of (codes "keys") rows;
+  is_text = flag_in (codes "text") rows;
 }
 
 -- what a subcommand orders by its name: a path, an audit, a verdict, a script, a session, connections,
@@ -102,7 +125,7 @@ task_in name rows =
     else (if bytes_eq name (codes "serve") then the_session (directory_in rows) (first_of (codes "keys") rows)
     else (if bytes_eq name (codes "listen")
     then the_connections (directory_in rows) (connections_in rows) (first_of (codes "keys") rows)
-    else (if bytes_eq name (codes "ask") then the_questions (asking_in rows) (first_of (codes "keys") rows)
+    else (if bytes_eq name (codes "ask") then the_questions (asking_in rows) (texts_in rows)
     else the_root (asked_in rows)))))))
 
 -- what the words order: the values that clap's function of the words gives to the options

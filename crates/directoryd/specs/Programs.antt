@@ -1,5 +1,5 @@
 -- What the programs do, and how the process ends.
-use Rattle.std.specs.Prelude.{◌≡◌, ◌⊎◌, ◌↔◌, ℕ, zero, suc, List, Bool, true, false, Option, None, Result, Ok, Err, IfErr, IfOk, OnErr, Vec, String, map, string_bytes, codes, ⊤}
+use Rattle.std.specs.Prelude.{◌≡◌, ◌⊎◌, ◌↔◌, ◌&&◌, ℕ, zero, suc, List, Bool, true, false, Option, None, Result, Ok, Err, IfErr, IfOk, OnErr, Vec, String, map, string_bytes, codes, ⊤}
 use Rattle.std.specs.IoError.{error_kind}
 use Rattle.std.specs.declared.io.Error.{Error as IoError}
 use Rattle.std.specs.declared.io.ErrorKind.TheVariants as io
@@ -25,8 +25,10 @@ use Rattle.server.specs.Programs.{DirectoryServes}
 use Rattle.directoryd.specs.declared.ending.Ending.{Ending}
 use Rattle.directoryd.specs.declared.refusing.TheConstants.{WRONG_WORDS}
 use Rattle.directoryd.specs.CommandLine.{status_of, RefusesWords}
-use Rattle.directoryd.specs.Orders.{IsTask, Task, the_root, the_path, the_audit, the_verdict, the_script, the_session, the_connections, the_questions}
-use Rattle.directoryd.specs.KeyFiles.{ask_with, directory_with, HasNoKeys, Uses}
+use Rattle.directoryd.specs.Orders.{AskTextValues, IsTask, Task, the_root, the_path, the_audit, the_verdict, the_script, the_session, the_connections, the_questions}
+use Rattle.directoryd.specs.KeyFiles.{ask_with, directory_with, provided, HasNoKeys, Uses}
+use Rattle.directoryd.specs.TextNames.{lacks_command, texted}
+use Rattle.directoryd.specs.declared.keys.KeysKind.TheVariants.{Public, Secret}
 use Rattle.server.specs.ConnectionOptions.{ConnectionOptions}
 use Rattle.server.specs.DirectoryOptions.{DirectoryOptions}
 use Rattle.asking.specs.AskOptions.{AskOptions, ask_keys_of}
@@ -58,26 +60,64 @@ abbrev pub verdict_outcome : Result Verdict ProgramFault → Result ℕ ProgramF
 verdict_outcome (Ok verdict) = Ok (verdict_status verdict)
 verdict_outcome (Err fault) = Err fault
 
--- a session is served with the keys that are used, or they are not read
+-- memory ran out, and nothing is written
+abbrev pub WantsMemory : Option (List ℕ) → Option (List ℕ) → Option (List ℕ) → Option (List ℕ) → Result ℕ ProgramFault → Type 0
+WantsMemory out out-new err err-new outcome = (outcome ≡ Err OutOfMemory) × Keeps out out-new × Keeps err err-new
+
+-- a text is written whole, and this status returned; or less of it if a write failed, or nothing if
+-- memory ran out
+abbrev pub Prints : ℕ → List ℕ → Option (List ℕ) → Option (List ℕ) → Result ℕ ProgramFault → Type 0
+Prints status text old new (Ok given) = (given ≡ status) × Appends old new text
+Prints status text old new (Err CannotWrite) = WritesBeginning old new text
+Prints status text old new (Err OutOfMemory) = Keeps old new
+Prints status text old new (Err BadHex) = ⊥
+Prints status text old new (Err (BadItem line)) = ⊥
+Prints status text old new (Err (IndexRepeated line)) = ⊥
+Prints status text old new (Err (NotACommand line)) = ⊥
+Prints status text old new (Err NotEvidence) = ⊥
+Prints status text old new (Err BadRecord) = ⊥
+Prints status text old new (Err OtherKeys) = ⊥
+Prints status text old new (Err CannotRead) = ⊥
+Prints status text old new (Err CannotListen) = ⊥
+
+-- a session is served with the keys that are used, or they are not taken
 abbrev pub ServesKeyed : DirectoryOptions → Option Text → Option (List ℕ) → Option (List ℕ) → Option (List ℕ) → Option (List ℕ) → Option (List ℕ) → Result (Unit {0}) ProgramFault → Type 0
 ServesKeyed asked keys input out out-new err err-new result =
-    (HasNoKeys keys result × Keeps out out-new × Keeps err err-new)
-    ⊎ ((used : DirectoryOptions) × (left : Option (List ℕ)) × Uses directory_with keys asked used × DirectoryServes used input out err result left out-new err-new)
+    (HasNoKeys Secret keys err err-new result × Keeps out out-new)
+    ⊎ ((used : DirectoryOptions) × (left : Option (List ℕ)) × Uses Secret directory_with keys asked used × DirectoryServes used input out err result left out-new err-new)
 
 -- connections are answered with them, as ordered
 abbrev pub ListensKeyed : DirectoryOptions → ConnectionOptions → Option Text → Option (List ℕ) → Option (List ℕ) → Result (Unit {0}) ProgramFault → Type 0
 ListensKeyed asked taken keys err err-new result =
-    (HasNoKeys keys result × Keeps err err-new)
-    ⊎ ((used : DirectoryOptions) × Uses directory_with keys asked used × ((result ≡ Err BadHex) ↔ (keys_of used ≡ None)) × ListenTells used taken err result err-new)
+    HasNoKeys Secret keys err err-new result
+    ⊎ ((used : DirectoryOptions) × Uses Secret directory_with keys asked used × ((result ≡ Err BadHex) ↔ (keys_of used ≡ None)) × ListenTells used taken err result err-new)
 
--- a directory is asked with them: a text that is no key is a fault before all else
-abbrev pub AsksKeyed : AskOptions → Option Text → Option (List ℕ) → Option (List ℕ) → Option (List ℕ) → Option (List ℕ) → Option (List ℕ) → Result ℕ ProgramFault → Type 0
-AsksKeyed asked keys input out out-new err err-new outcome =
-    (HasNoKeys keys outcome × Keeps out out-new × Keeps err err-new)
-    ⊎ ((used : AskOptions) × Uses ask_with keys asked used
+-- the line about a name that is to be text where the lines of the input are asked
+abbrev pub no_command : List ℕ
+no_command = codes "error: '--text' is for a COMMAND of the words; names in the lines of the input are hexadecimal digits\n"
+
+-- a directory is asked with the keys that are used, or they are not taken: a text that is no key is a fault before all else
+abbrev pub AsksFrom : AskOptions → AskTextValues → Option (List ℕ) → Option (List ℕ) → Option (List ℕ) → Option (List ℕ) → Option (List ℕ) → Result ℕ ProgramFault → Type 0
+AsksFrom asked texts input out out-new err err-new outcome =
+    (HasNoKeys Public texts.provider err err-new outcome × Keeps out out-new)
+    ⊎ ((HasNoKeys Secret texts.keys err err-new outcome × Keeps out out-new)
+    ⊎ ((public used : AskOptions) × Uses Public provided texts.provider asked public × Uses Secret ask_with texts.keys public used
     × ((outcome ≡ Err BadHex) ↔ (ask_keys_of used ≡ None)) × (outcome ≡ Err BadHex → Keeps out out-new × Keeps err err-new)
     × IfErr outcome (λ fault. (fault ≡ BadHex) ⊎ IsRunFault used input fault) × Grows out out-new
-    × IfOk outcome (λ status. AsksOverSocket used input status out out-new) × OnErr outcome (FailsOverSocket used input out out-new))
+    × IfOk outcome (λ status. AsksOverSocket used input status out out-new) × OnErr outcome (FailsOverSocket used input out out-new)))
+
+-- a line says that the lines of the input have no text
+abbrev pub RefusesLines : Option (List ℕ) → Option (List ℕ) → Option (List ℕ) → Option (List ℕ) → Result ℕ ProgramFault → Type 0
+RefusesLines out out-new err err-new outcome = Keeps out out-new × Prints WRONG_WORDS no_command err err-new outcome
+
+-- so with a name that is text, if it is among the words; or names of the lines of the input are to be text
+abbrev pub AsksIf : Bool → AskOptions → AskTextValues → Option (List ℕ) → Option (List ℕ) → Option (List ℕ) → Option (List ℕ) → Option (List ℕ) → Result ℕ ProgramFault → Type 0
+AsksIf true asked texts input out out-new err err-new outcome = RefusesLines out out-new err err-new outcome
+AsksIf false asked texts input out out-new err err-new outcome =
+    WantsMemory out out-new err err-new outcome ⊎ AsksFrom (texted texts.is_text asked) texts input out out-new err err-new outcome
+
+abbrev pub AsksKeyed : AskOptions → AskTextValues → Option (List ℕ) → Option (List ℕ) → Option (List ℕ) → Option (List ℕ) → Option (List ℕ) → Result ℕ ProgramFault → Type 0
+AsksKeyed asked texts = AsksIf (texts.is_text && lacks_command asked.words) asked texts
 
 -- What is ordered is done: a root is written, or the path of an index; an input is audited; a file is judged;
 -- a script is played; a directory begins, or goes on from its journal, and serves one session; one serves
@@ -96,33 +136,13 @@ Obeys (the_session asked keys) input out out-new err err-new outcome = IsZero ou
     × ServesKeyed asked keys input out out-new err err-new (without_status outcome)
 Obeys (the_connections asked taken keys) input out out-new err err-new outcome = IsZero outcome × Keeps out out-new
     × ListensKeyed asked taken keys err err-new (without_status outcome)
-Obeys (the_questions asked keys) input out out-new err err-new outcome = AsksKeyed asked keys input out out-new err err-new outcome
-
--- a text is written whole, and this status returned; or less of it if a write failed, or nothing if
--- memory ran out
-abbrev pub Prints : ℕ → List ℕ → Option (List ℕ) → Option (List ℕ) → Result ℕ ProgramFault → Type 0
-Prints status text old new (Ok given) = (given ≡ status) × Appends old new text
-Prints status text old new (Err CannotWrite) = WritesBeginning old new text
-Prints status text old new (Err OutOfMemory) = Keeps old new
-Prints status text old new (Err BadHex) = ⊥
-Prints status text old new (Err (BadItem line)) = ⊥
-Prints status text old new (Err (IndexRepeated line)) = ⊥
-Prints status text old new (Err (NotACommand line)) = ⊥
-Prints status text old new (Err NotEvidence) = ⊥
-Prints status text old new (Err BadRecord) = ⊥
-Prints status text old new (Err OtherKeys) = ⊥
-Prints status text old new (Err CannotRead) = ⊥
-Prints status text old new (Err CannotListen) = ⊥
+Obeys (the_questions asked texts) input out out-new err err-new outcome = AsksKeyed asked texts input out out-new err err-new outcome
 
 -- Words that order nothing are answered by a text of clap's, on the output with status 0, on the errors
 -- with any other. The other stream stays.
 abbrev pub ShowsText : ℕ → Option (List ℕ) → Option (List ℕ) → Option (List ℕ) → Option (List ℕ) → Result ℕ ProgramFault → Type 0
 ShowsText zero out out-new err err-new outcome = ((text : List ℕ) × Prints 0 text out out-new outcome) × Keeps err err-new
 ShowsText (suc n) out out-new err err-new outcome = Keeps out out-new × ((text : List ℕ) × Prints (suc n) text err err-new outcome)
-
--- memory ran out, and nothing is written
-abbrev pub WantsMemory : Option (List ℕ) → Option (List ℕ) → Option (List ℕ) → Option (List ℕ) → Result ℕ ProgramFault → Type 0
-WantsMemory out out-new err err-new outcome = (outcome ≡ Err OutOfMemory) × Keeps out out-new × Keeps err err-new
 
 -- what the words order is done
 abbrev pub DoesOrder : List Text → Option (List ℕ) → Option (List ℕ) → Option (List ℕ) → Option (List ℕ) → Option (List ℕ) → Result ℕ ProgramFault → Type 0

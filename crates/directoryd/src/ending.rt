@@ -84,7 +84,7 @@ where
         Order::Listen(order, keys) => {
             done(listen_keyed(alloc, system, order, keys, reader, errors))
         }
-        Order::Ask(order, keys) => ask_keyed(alloc, system, order, keys, reader, writer, errors),
+        Order::Ask(order, texts) => ask_keyed(alloc, system, order, texts, reader, writer, errors),
     }
 }
 

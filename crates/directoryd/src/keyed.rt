@@ -3,9 +3,13 @@ ghost use Rattle.std.specs.Prelude.{option_map};
 ghost use Rattle.asking.specs.AskOptions.{ask_values};
 ghost use Rattle.server.specs.ConnectionOptions.{connections_of};
 ghost use Rattle.server.specs.DirectoryOptions.{directory_values};
-ghost use Rattle.directoryd.specs.Programs.{AsksKeyed, ListensKeyed, ServesKeyed};
+ghost use Rattle.directoryd.specs.Orders.{texts_of};
+ghost use Rattle.directoryd.specs.Programs.{AsksFrom, AsksKeyed, ListensKeyed, ServesKeyed};
 
-use crate::keys::{ask_with, directory_with, keys_at, listen_with};
+use crate::keys::{KeysKind, ask_with, directory_with, keys_at, listen_with, provided};
+use crate::naming::{digits_of, with_digits};
+use crate::order::AskTexts;
+use crate::refusing::refuse_lines;
 use crate::{ask, listen, serve_directory};
 use asking::AskOrder;
 use server::{DirectoryOrder, ListenOrder};
@@ -34,7 +38,7 @@ where
     ensures { ServesKeyed (directory_values order.entry) (option_map (λ path. path.now) keys.entry) (R.remaining reader.old) (W.contents writer.old) (W.contents writer.new)
         (E.contents errors.old) (E.contents errors.new) result }
 {
-    match keys_at(alloc, files, keys) {
+    match keys_at(alloc, files, KeysKind::Secret, keys, errors) {
         Ok(file) => {
             let order = directory_with(order, file.as_str());
             serve_directory(alloc, files, order, reader, writer, errors)
@@ -58,7 +62,7 @@ where
     E: Write,
     ensures { ListensKeyed (directory_values order.entry.directory) (connections_of order.entry) (option_map (λ path. path.now) keys.entry) (E.contents errors.old) (E.contents errors.new) result }
 {
-    match keys_at(alloc, system, keys) {
+    match keys_at(alloc, system, KeysKind::Secret, keys, errors) {
         Ok(file) => {
             let order = listen_with(order, file.as_str());
             listen(alloc, system, order, input, errors)
@@ -67,25 +71,60 @@ where
     }
 }
 
-/// Asks a directory that listens.
+/// Asks a directory that listens. A name that is text has to be among the words.
 pub(crate) fn ask_keyed<N, R, W, E>(
     alloc: Global,
     system: &N,
     order: AskOrder<'_>,
-    keys: Option<&str>,
+    texts: AskTexts<'_>,
     reader: &mut R,
     writer: &mut W,
     errors: &mut E,
 ) -> Result<u8, ProgramFault>
 where
-    N: Net<Listener = TcpListener, Stream = TcpStream> + Files<File = File>,
+    N: Net<Listener = TcpListener, Stream = TcpStream> + Clock + Files<File = File>,
     R: BufRead,
     W: Write,
     E: Write,
-    ensures { AsksKeyed (ask_values order.entry) (option_map (λ path. path.now) keys.entry) (R.remaining reader.old) (W.contents writer.old) (W.contents writer.new)
+    ensures { AsksKeyed (ask_values order.entry) (texts_of texts.entry) (R.remaining reader.old) (W.contents writer.old) (W.contents writer.new)
         (E.contents errors.old) (E.contents errors.new) result }
 {
-    match keys_at(alloc, system, keys) {
+    if texts.is_text && order.command.is_none() {
+        return refuse_lines(errors);
+    }
+    match digits_of(alloc, &order, texts.is_text) {
+        Ok(digits) => {
+            let order = with_digits(order, &digits);
+            ask_from(alloc, system, order, texts, reader, writer, errors)
+        }
+        Err(_) => Err(ProgramFault::OutOfMemory),
+    }
+}
+
+/// Asks a directory with the keys of the files.
+fn ask_from<N, R, W, E>(
+    alloc: Global,
+    system: &N,
+    order: AskOrder<'_>,
+    texts: AskTexts<'_>,
+    reader: &mut R,
+    writer: &mut W,
+    errors: &mut E,
+) -> Result<u8, ProgramFault>
+where
+    N: Net<Listener = TcpListener, Stream = TcpStream> + Clock + Files<File = File>,
+    R: BufRead,
+    W: Write,
+    E: Write,
+    ensures { AsksFrom (ask_values order.entry) (texts_of texts.entry) (R.remaining reader.old) (W.contents writer.old) (W.contents writer.new)
+        (E.contents errors.old) (E.contents errors.new) result }
+{
+    let public = match keys_at(alloc, system, KeysKind::Public, texts.provider, errors) {
+        Ok(file) => file,
+        Err(fault) => return Err(fault),
+    };
+    let order = provided(order, public.as_str());
+    match keys_at(alloc, system, KeysKind::Secret, texts.keys, errors) {
         Ok(file) => {
             let order = ask_with(order, file.as_str());
             ask(alloc, system, order, reader, writer, errors)

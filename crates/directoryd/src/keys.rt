@@ -1,17 +1,40 @@
 // Keys that stand in a file, where other users of the machine do not see them. A line is an option's name, a
 // space and 64 hexadecimal digits; of a name that stands there twice, the first counts. An option on the command
 // line wins over the file, unless it is empty. Contracts do not know which bytes a file has.
-ghost use Rattle.std.specs.Prelude.{◌≡◌, ◌⊎◌, Decides, IfErr, IfOk, IsSome, MatchOption, MatchResult, false, option_map, string_bytes, true};
+ghost use Rattle.std.specs.Prelude.{◌≡◌, ◌⊎◌, Decides, IfErr, IfOk, MatchOption, MatchResult, OnOk, Some, false, option_map, string_bytes, true};
+ghost use Rattle.std.specs.Io.KnownBytes.{Keeps};
 ghost use Rattle.asking.specs.AskOptions.{ask_values};
 ghost use Rattle.server.specs.DirectoryOptions.{directory_values};
-ghost use Rattle.directoryd.specs.KeyFiles.{HasKeyLines, IsKeysFault, IsKeysFile, IsKeysText, ask_with, directory_with, gives, is_key_line, key_in, name_in, option_or, text_or, value_in};
+ghost use Rattle.directoryd.specs.KeyFiles.{HasKeyLines, IsKeysFault, IsKeysFile, IsKeysText, RefusesFile, RefusesKeys, TellsLine, ask_with, complaint, complaint_line, directory_with, gives, has_secrets, is_key_line, key_in, name_in, option_of, option_or, provided, text_or, value_in};
 ghost use Rattle.server.specs.ConnectionOptions.{connections_of};
 
 use asking::AskOrder;
 use server::{DirectoryOrder, ListenOrder};
-use std::alloc::Global;
+use std::alloc::{AllocError, Global};
 use std::fs::Files;
-use textio::{ProgramFault, file_bytes, hex32};
+use std::io::Write;
+use textio::{ProgramFault, file_bytes, hex32, write_text};
+
+/// Which keys a file has to have.
+#[derive(Clone, Copy)]
+pub(crate) enum KeysKind {
+    /// The provider's public keys alone: everybody may read them.
+    Public,
+    /// Keys of which some are secret.
+    Secret,
+}
+
+impl KeysKind {
+    /// The option that a file of this kind is given to, as a line about it begins.
+    fn option(self) -> &'static str
+        ensures { result.now ≡ option_of self }
+    {
+        match self {
+            KeysKind::Public => "provider: ",
+            KeysKind::Secret => "keys: ",
+        }
+    }
+}
 
 /// The name and the digits of a line that is a name, a space and 64 hexadecimal digits.
 fn key_line(line: &str) -> Option<(&str, &str)>
@@ -63,25 +86,121 @@ fn keys_text(alloc: Global, bytes: &[u8]) -> Result<String, ProgramFault>
     }
 }
 
-/// The text of the file of this path, or no text if there is none.
+/// The text of the file of this path.
 ///
 /// # Errors
 ///
 /// `CannotRead` and `OutOfMemory`; `BadHex` if a line is not an option's name, a space and 64 hexadecimal
 /// digits.
-pub(crate) fn keys_at<F: Files>(
+fn text_at<F: Files>(alloc: Global, files: &F, path: &str) -> Result<String, ProgramFault>
+    ensures { MatchResult result (λ text. IsKeysFile (string_bytes text)) IsKeysFault }
+{
+    match file_bytes(alloc, files, path) {
+        Ok(bytes) => keys_text(alloc, &bytes),
+        Err(fault) => Err(fault),
+    }
+}
+
+/// Whether a text gives a secret key.
+fn has_secrets(file: &str) -> bool
+    ensures { result ≡ has_secrets file.now }
+{
+    key_in(file, "sign-key").is_some()
+        || key_in(file, "vuf-key").is_some()
+        || key_in(file, "salt-key").is_some()
+        || key_in(file, "token").is_some()
+}
+
+/// What is said of a text that is not of the kind that is wanted.
+fn complaint(kind: KeysKind, file: &str) -> Option<&'static str>
+    ensures { option_map (λ what. what.now) result ≡ complaint kind file.now }
+{
+    let has_secrets = has_secrets(file);
+    let has_provider = key_in(file, "provider").is_some();
+    match kind {
+        KeysKind::Public if has_secrets => Some("has secret keys"),
+        KeysKind::Public if !has_provider => Some("has no public key"),
+        KeysKind::Secret if has_provider && !has_secrets => Some("has public keys alone"),
+        _ => None,
+    }
+}
+
+/// The line about the file of a path.
+fn complaint_line(
+    alloc: Global,
+    kind: KeysKind,
+    path: &str,
+    what: &str,
+) -> Result<Vec<u8>, AllocError>
+    ensures { IfOk result (λ line. line.items ≡ complaint_line kind path.now what.now) }
+{
+    let mut line = Vec::from_slice(alloc, kind.option().as_bytes())?;
+    line.extend_from_slice(path.as_bytes())?;
+    line.extend_from_slice(b": ")?;
+    line.extend_from_slice(what.as_bytes())?;
+    line.push(b'\n')?;
+    Ok(line)
+}
+
+/// Says what is wrong with the file of a path. Returns the fault that is told behind it.
+fn complain<E: Write>(
+    alloc: Global,
+    kind: KeysKind,
+    path: &str,
+    what: &str,
+    errors: &mut E,
+) -> ProgramFault
+    ensures { ((result ≡ ProgramFault.OutOfMemory) × Keeps (E.contents errors.old) (E.contents errors.new))
+        ⊎ TellsLine (complaint_line kind path.now what.now) result (E.contents errors.old) (E.contents errors.new) }
+{
+    match complaint_line(alloc, kind, path, what) {
+        Ok(line) => match write_text(errors, &line) {
+            Ok(()) => ProgramFault::BadHex,
+            Err(_) => ProgramFault::CannotWrite,
+        },
+        Err(_) => ProgramFault::OutOfMemory,
+    }
+}
+
+/// The text of the file of this path, if it is of this kind.
+fn text_of_kind<F: Files, E: Write>(
     alloc: Global,
     files: &F,
-    path: Option<&str>,
+    kind: KeysKind,
+    path: &str,
+    errors: &mut E,
 ) -> Result<String, ProgramFault>
-    ensures ok { IfOk result (λ text. IsKeysText (option_map (λ path. path.now) path.entry) (string_bytes text)) }
-    ensures err { IfErr result (λ fault. IsSome (option_map (λ path. path.now) path.entry) × IsKeysFault fault) }
+    ensures ok { IfOk result (λ text. IsKeysText kind (Some path.now) (string_bytes text)) }
+    ensures still { OnOk result (errors.new ≡ errors.old) }
+    ensures err { IfErr result (λ fault. RefusesFile kind path.now fault (E.contents errors.old) (E.contents errors.new)) }
+{
+    let text = text_at(alloc, files, path)?;
+    match complaint(kind, text.as_str()) {
+        Some(what) => Err(complain(alloc, kind, path, what, errors)),
+        None => Ok(text),
+    }
+}
+
+/// The text of the file of this path, or no text if there is none. A line says what is wrong with a file that is not of
+/// this kind.
+///
+/// # Errors
+///
+/// `CannotRead` and `OutOfMemory`; `BadHex` if a line is not an option's name, a space and 64 hexadecimal
+/// digits, or the file is not of this kind; `CannotWrite`.
+pub(crate) fn keys_at<F: Files, E: Write>(
+    alloc: Global,
+    files: &F,
+    kind: KeysKind,
+    path: Option<&str>,
+    errors: &mut E,
+) -> Result<String, ProgramFault>
+    ensures ok { IfOk result (λ text. IsKeysText kind (option_map (λ path. path.now) path.entry) (string_bytes text)) }
+    ensures still { OnOk result (errors.new ≡ errors.old) }
+    ensures err { IfErr result (λ fault. RefusesKeys kind (option_map (λ path. path.now) path.entry) fault (E.contents errors.old) (E.contents errors.new)) }
 {
     match path {
-        Some(path) => match file_bytes(alloc, files, path) {
-            Ok(bytes) => keys_text(alloc, &bytes),
-            Err(fault) => Err(fault),
-        },
+        Some(path) => text_of_kind(alloc, files, kind, path, errors),
         None => Ok(String::new(alloc)),
     }
 }
@@ -151,7 +270,17 @@ pub(crate) fn listen_with<'a>(order: ListenOrder<'a>, file: &'a str) -> ListenOr
     }
 }
 
-/// The same of what is asked of a directory.
+/// What is asked of a directory, with the public key from a provider's file.
+pub(crate) fn provided<'a>(order: AskOrder<'a>, file: &'a str) -> AskOrder<'a>
+    ensures { ask_values result ≡ provided file.now (ask_values order.entry) }
+{
+    AskOrder {
+        signing_key: text_or(order.signing_key, file, "provider"),
+        ..order
+    }
+}
+
+/// The same with the keys that were not given from a file.
 pub(crate) fn ask_with<'a>(order: AskOrder<'a>, file: &'a str) -> AskOrder<'a>
     ensures { ask_values result ≡ ask_with file.now (ask_values order.entry) }
 {

@@ -5,6 +5,7 @@
 mod ending;
 mod keyed;
 mod keys;
+mod naming;
 mod order;
 mod refusing;
 mod streams;
@@ -13,7 +14,7 @@ pub use asking::ask;
 pub use audits::{audit, evidence_json, judge_at, judge_file, read_evidence};
 pub use ending::{Ending, end};
 pub use items::{prove, root};
-pub use order::{Order, order};
+pub use order::{AskTexts, Order, order};
 pub use play::play;
 pub use server::{listen, serve, serve_directory};
 use std::env;

@@ -9,7 +9,7 @@ ghost use Rattle.directoryd.specs.Tables.{app_in, apps_in, rule_in};
 ghost use Rattle.items.specs.TreeOptions.{tree_values};
 ghost use Rattle.server.specs.DirectoryOptions.{directory_values};
 ghost use Rattle.asking.specs.AskOptions.{ask_values};
-ghost use Rattle.directoryd.specs.Orders.{asked_in, asking_in, connections_in, directory_in, flag_in, hash_named, number_from, task_in, text_in, the_connections, values_in, IsTask};
+ghost use Rattle.directoryd.specs.Orders.{asked_in, asking_in, connections_in, directory_in, flag_in, hash_named, number_from, task_in, text_in, texts_in, texts_of, the_connections, values_in, IsTask};
 
 mod subcommands;
 mod tables;
@@ -23,7 +23,7 @@ use server::{DirectoryOrder, ListenOrder};
 use std::alloc::{AllocError, Global};
 use std::convert::AsStr;
 use std::num::NonZeroU64;
-pub use subcommands::Order;
+pub use subcommands::{AskTexts, Order};
 use tables::{Argument, Kind, SUBCOMMANDS, Subcommand};
 
 /// What `--version` prints behind the program's name: its version, and the kit that it was last proved with.
@@ -40,7 +40,7 @@ nobody yet.
 
 Status 0: done, or help or the version was asked for. Status 1: a fault, which is one line on standard
 error; or `ask` was refused something. Status 2: the command line is wrong. Status 3: `judge` printed
-`no evidence`, or a monitor of `ask` gave an alarm.
+`no evidence`; or `ask` caught the provider, or found that a name is not as expected.
 
 `directoryd COMMAND --help` shows the options of a command, and an example. In the repository, README.md
 says what this is, docs/OPERATING.md how to run a directory, and docs/FORMATS.md what each byte means.
@@ -211,13 +211,24 @@ fn ask_order<'a>(found: &ArgMatches<'a>) -> AskOrder<'a>
     ensures { ask_values result ≡ asking_in (rows_of (found_of found.now)) }
 {
     AskOrder {
-        signing_key: text(found, "provider"),
+        signing_key: "",
         token: found.get_str("token"),
         state: found.get_str("state"),
         address: text(found, "address"),
         command: found.get_str("command"),
         first: found.get_str("first"),
         second: found.get_str("second"),
+    }
+}
+
+/// From where the texts of what is asked come, as a subcommand has it.
+fn ask_texts<'a>(found: &ArgMatches<'a>) -> AskTexts<'a>
+    ensures { texts_of result ≡ texts_in (rows_of (found_of found.now)) }
+{
+    AskTexts {
+        provider: found.get_str("provider"),
+        keys: found.get_str("keys"),
+        is_text: flag(found, "text"),
     }
 }
 
@@ -240,7 +251,7 @@ fn named_order<'a>(name: &str, found: &ArgMatches<'a>) -> Order<'a>
         "play" => Order::Play,
         "serve" => Order::Serve(directory_order(found), found.get_str("keys")),
         "listen" => listen_order(found),
-        "ask" => Order::Ask(ask_order(found), found.get_str("keys")),
+        "ask" => Order::Ask(ask_order(found), ask_texts(found)),
         _ => Order::Root(root_order(found)),
     }
 }

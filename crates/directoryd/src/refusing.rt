@@ -3,7 +3,7 @@ ghost use Rattle.std.specs.IoError.{error_kind};
 ghost use Rattle.clap.specs.Words.{kind_of};
 ghost use Rattle.clap.specs.declared.error.kind.ErrorKind.TheVariants.{OutOfMemory};
 ghost use Rattle.directoryd.specs.CommandLine.{status_of};
-ghost use Rattle.directoryd.specs.Programs.{no_text, Prints, ShowsText};
+ghost use Rattle.directoryd.specs.Programs.{no_command, no_text, Prints, ShowsText};
 ghost use Rattle.directoryd.specs.declared.refusing.TheConstants.{WRONG_WORDS};
 
 use clap::Error;
@@ -17,6 +17,10 @@ const WRONG_WORDS: u8 = 2;
 
 /// The line about words that are not UTF-8.
 static NO_TEXT: &[u8] = b"error: invalid UTF-8 was detected in one or more arguments\n";
+
+/// The line about a name that is to be text where the lines of the input are asked.
+static NO_COMMAND: &[u8] =
+    b"error: '--text' is for a COMMAND of the words; names in the lines of the input are hexadecimal digits\n";
 
 /// Writes a text whole, and returns this status.
 fn print<W: Write>(writer: &mut W, text: &[u8], status: u8) -> Result<u8, ProgramFault>
@@ -74,4 +78,15 @@ pub fn refuse_bytes<E: Write>(error: &io::Error, errors: &mut E) -> Result<u8, P
         return Err(ProgramFault::OutOfMemory);
     }
     print(errors, NO_TEXT, WRONG_WORDS)
+}
+
+/// Says that the lines of the input have no text.
+///
+/// # Errors
+///
+/// `CannotWrite`.
+pub(crate) fn refuse_lines<E: Write>(errors: &mut E) -> Result<u8, ProgramFault>
+    ensures { Prints WRONG_WORDS no_command (E.contents errors.old) (E.contents errors.new) result }
+{
+    print(errors, NO_COMMAND, WRONG_WORDS)
 }

@@ -16,6 +16,17 @@ pub enum Order<'a> {
     Serve(DirectoryOrder<'a>, Option<&'a str>),
     /// One for connections, and the file of its keys.
     Listen(ListenOrder<'a>, Option<&'a str>),
-    /// Questions to a directory that listens, and the file of the keys.
-    Ask(AskOrder<'a>, Option<&'a str>),
+    /// Questions to a directory that listens, and from where their texts come.
+    Ask(AskOrder<'a>, AskTexts<'a>),
+}
+
+/// From where the texts of questions come.
+#[derive(Clone, Copy, Debug)]
+pub struct AskTexts<'a> {
+    /// The path of the file of the provider's public keys.
+    pub provider: Option<&'a str>,
+    /// The path of a file of keys of which some are secret.
+    pub keys: Option<&'a str>,
+    /// Whether the name among the words is text, and not in hexadecimal digits.
+    pub is_text: bool,
 }

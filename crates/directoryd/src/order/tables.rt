@@ -121,13 +121,21 @@ checks each reply as a client, and prints the line that `play` prints:
     register NAME KEY, change NAME KEY, promise NAME, lookup NAME EPOCH, history FROM COUNT, head,
     close EPOCH, rotate EPOCH NONCE, watch NAME KEY
 
-`close` and `rotate` are the operator's, who gives --token. What is refused is also told on standard error,
-with status 1. An alarm of `watch` is status 3. FILE has the client's chain, one signed root a line, which
-`audit` reads too, and FILE.kept what is remembered beside it; without them the client begins at the
+NAME and KEY are hexadecimal digits, here and in what is printed: alice is 616c696365. With --text, NAME of the
+words is text, and KEY still digits. Lines of standard input have no text: --text without words is refused.
+
+--provider is all that a user needs: a file with the line `provider` and 64 hexadecimal digits, and no secret
+key. `close` and `rotate` are the operator's, who gives --keys, a file with `provider` and `token`, or --token.
+
+What is refused is also told on standard error. FILE of --state has the client's chain, one signed root a line,
+which `audit` reads too, and FILE.kept what is remembered beside it; without them the client begins at the
 directory's latest root. Evidence and alarms of earlier runs are told again; the words `settle NAME` drop the
 alarms of a name from FILE.kept, and ask ADDR nothing.
 
-Example: directoryd ask --provider $SIGN --state roots.txt 127.0.0.1:7000 lookup 616c696365 0";
+Status 3: the provider was caught, by evidence or a promise that was not kept, or a name is not as expected.
+Status 1: nothing can be said today, since something was refused, or no reply came.
+
+Example: directoryd ask --provider provider.txt --state roots.txt --text 127.0.0.1:7000 lookup alice 0";
 
 /// The most connections that `--sessions` allows at once: what `listen` can hold.
 const MOST_SESSIONS: u64 = MAX_SESSIONS as u64;
@@ -184,7 +192,7 @@ const TOKEN: Argument = Argument {
 const KEYS: Argument = Argument {
     name: "keys",
     value: "FILE",
-    help: "A file of keys: lines of an option's name, a space and its 64 hexadecimal digits",
+    help: "A file of secret keys: lines of an option's name, a space and its 64 hexadecimal digits",
     kind: Kind::Text,
 };
 
@@ -311,8 +319,8 @@ pub(super) static SUBCOMMANDS: [Subcommand; 8] = [
         arguments: &[
             Argument {
                 name: "provider",
-                value: "HEX",
-                help: "The provider's public key, 64 hexadecimal digits",
+                value: "FILE",
+                help: "The file of the provider's public keys, which everybody may read",
                 kind: Kind::Text,
             },
             Argument {
@@ -327,6 +335,12 @@ pub(super) static SUBCOMMANDS: [Subcommand; 8] = [
                 value: "FILE",
                 help: "The file of the client's chain [default: none]",
                 kind: Kind::Text,
+            },
+            Argument {
+                name: "text",
+                value: "",
+                help: "Take NAME of the words as text, such as alice",
+                kind: Kind::Flag,
             },
             Argument {
                 name: "address",

@@ -12,9 +12,9 @@ returns c =
     let first : option_map (λ s. s.now) c.get_str-4.result ≡ first_of (codes "first") (rows_of found) = c.get_str-4.ensures ∙ first_value-rows found (codes "first") in
     let second : option_map (λ s. s.now) c.get_str-5.result ≡ first_of (codes "second") (rows_of found) = c.get_str-5.ensures ∙ first_value-rows found (codes "second") in
     λ i. record {
-      signing_key = c.text.ensures i;
+      signing_key = [];
       token = token i;
       state = state i;
-      address = c.text-2.ensures i;
+      address = c.text.ensures i;
       words = command i ∷ first i ∷ second i ∷ [];
     }

@@ -46,6 +46,4 @@ returns-in-ask c =
     let serve : bytes_eq c.args.name.now (codes "serve") ≡ false = search rules in
     let listen : bytes_eq c.args.name.now (codes "listen") ≡ false = search rules in
     let ask : bytes_eq c.args.name.now (codes "ask") ≡ true = search rules in
-    let found = found_of c.args.found.now in
-    let keys : option_map (λ s. s.now) c.get_str-in-ask.result ≡ first_of (codes "keys") (rows_of found) = c.get_str-in-ask.ensures ∙ first_value-rows found (codes "keys") in
-    rw (prove, audit, judge, play, serve, listen, ask) (λ i. the_questions (c.ask_order.ensures i) (keys i))
+    rw (prove, audit, judge, play, serve, listen, ask) (λ i. the_questions (c.ask_order.ensures i) (c.ask_texts.ensures i))
