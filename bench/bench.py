@@ -1400,10 +1400,11 @@ def play(folder):
     table("directoryd play, seconds", head, [row])
 
 
-def asked(port, first, count, state=None, **more):
-    """The seconds of a run of `ask` for each of so many registrations, with a state in this file, if one is given."""
+def asked(port, provider, first, count, state=None, **more):
+    """The seconds of a run of `ask` for each of so many registrations, with the keys in a provider's file and a state in
+    another, if one is given."""
     script = "".join(f"register {number:08x} 6b31\n" for number in range(first, first + count)).encode()
-    words = [DIRECTORYD, "ask", "--provider", SERVE_KEYS["sign-key"] * 32, *(["--state", state] if state else []), f"127.0.0.1:{port}"]
+    words = [DIRECTORYD, "ask", "--provider", provider, *(["--state", state] if state else []), f"127.0.0.1:{port}"]
     begun = time.perf_counter()
     run = subprocess.run(words, input=script, capture_output=True, env={**os.environ, **more})
     taken = time.perf_counter() - begun
@@ -1412,20 +1413,23 @@ def asked(port, first, count, state=None, **more):
     return taken / count
 
 
-def ask_row(port, folder, first, count):
+def ask_row(port, provider, folder, first, count):
     ways = {"none": [], "free": [], "synced": []}
     for turn in range(ASKED_RUNS):
         for way, times in ways.items():
             state = None if way == "none" else f"{folder}/{way} {count} {turn}"
             free = {"LD_PRELOAD": os.path.abspath(FREE_SYNCS), "FREE_SYNCS": "1"} if way == "free" else {}
-            times.append(asked(port, first, count, state, **free))
+            times.append(asked(port, provider, first, count, state, **free))
             first += count
     none, free, synced = (Spread(times) for times in ways.values())
     row = [f"{count:,}", *none.cells(1e6, 1), *free.cells(1e6, 1), f"{free.least / none.least:.2f}"]
     return [*row, *synced.cells(1e6, 1)], first
 
 
-def ask(_folder):
+def ask(folder):
+    provider = f"{folder}/provider"
+    with open(provider, "w", encoding="ascii") as file:
+        file.write(f"provider {SERVE_KEYS['sign-key'] * 32}\n")
     words = [word for key, value in SERVE_KEYS.items() for word in (f"--{key}", value * 32)]
     server = subprocess.Popen([DIRECTORYD, "listen", *words, "127.0.0.1:0"], stderr=subprocess.PIPE)
     port = server.stderr.readline().rpartition(b":")[2].decode().strip()
@@ -1433,7 +1437,7 @@ def ask(_folder):
     try:
         with tempfile.TemporaryDirectory(dir=".") as disk:
             for count in ASKED:
-                row, first = ask_row(port, disk, first, count)
+                row, first = ask_row(port, provider, disk, first, count)
                 rows.append(row)
     finally:
         server.kill()

@@ -10,6 +10,7 @@ A provider has a call `frame`, which returns the next frame, or None, for the by
 
 import contextlib
 from dataclasses import dataclass, replace
+from itertools import pairwise
 from typing import NamedTuple
 
 from formats import (
@@ -36,6 +37,7 @@ from formats import (
     SignedPromise,
     SignedRoot,
     evidence_json,
+    linked,
     lines_of,
     read_response,
     request_frame,
@@ -161,8 +163,8 @@ def watched_to(monitor):
 
 
 class Told:
-    """The lines that a run prints, its words on standard error and its status; and which of the lines are alarms and
-    evidence."""
+    """The lines that a run prints, its words on standard error and its status: 3 where the provider is caught, or a name
+    is not as expected, and 1 where nothing can be said. And which of the lines are alarms and evidence."""
 
     def __init__(self):
         self.text, self.words, self.status = [], [], 0
@@ -182,6 +184,7 @@ class Told:
     def tell_evidence(self, evidence):
         self.text.append(evidence_json(evidence))
         self.evidence.append(self.text[-1])
+        self.status = 3
 
     def tell_step(self, name, epoch, step):
         self.text.append(step_line(name.hex(), epoch, step))
@@ -193,7 +196,7 @@ class Told:
         """Tells the evidence of earlier runs."""
         for line in memory.evidence:
             self.text.append(line)
-            self.explain(f"state: {path}.kept", "evidence of an earlier run")
+            self.explain(f"state: {path}.kept", "evidence of an earlier run", 3)
 
     def raise_again(self, alarms):
         """Tells alarms of earlier runs."""
@@ -233,7 +236,7 @@ def answers(request, kind, value, head):
 
 
 def epoch_of(value):
-    """The epoch that a response is of, or 0 for a list."""
+    """The epoch that a response is of, of a list that of the last root, or 0 if there is none."""
     match value:
         case SignedPromise():
             return value.promise.epoch
@@ -241,6 +244,8 @@ def epoch_of(value):
             return value.body.epoch
         case SignedRoot():
             return value.epoch
+        case [*_, last]:
+            return last.epoch
     return 0
 
 
@@ -318,6 +323,7 @@ class Followed(Told):
             case _:
                 for root in value:
                     self.placed(root)
+                self.compare(value, before, *request[1:])
         return response_line(kind, value)
 
     def place(self, root, least):
@@ -327,6 +333,25 @@ class Followed(Told):
             raise RootRefusal(NOT_LATER)
         if place != KNOWN:
             raise RootRefusal(BAD_LINK)
+
+    def compare(self, roots, before, start, count):
+        """Refuses roots that are not those of the chain: from its first on each of its roots, in order, up to the count, or
+        at least to its head of the epoch `before`; and ahead of them those that come before its first."""
+        chain = self.client.chain
+        own = [root for root in roots if root.epoch >= chain.first().epoch]
+        older = roots[: len(roots) - len(own)]
+        wanted = [root for root in chain.roots if root.epoch >= start][: count - len(older)]
+        is_own = [root.body for root in own] == [root.body for root in wanted[: len(own)]]
+        is_short = any(root.epoch <= before for root in wanted[len(own) :])
+        if not is_own or is_short or not self.are_older(older, start, chain.first() if own else None):
+            raise ReplyRefused(25)
+
+    def are_older(self, older, start, first):
+        """Whether these are all roots from an epoch on, one after another, up to the chain's first if there is one."""
+        line = older if first is None else [*older, first]
+        if not all(linked(self.client.digest, *pair) for pair in pairwise(line)):
+            return False
+        return not line or start > line[0].epoch or line[0].body.previous_epoch < max(start, 1)
 
     def placed(self, root):
         place = self.client.chain.place(root)
@@ -428,6 +453,8 @@ class Asked(Followed):
             self.follow()
         try:
             line = self.check(request, before, kind, value, body)
+        except ReplyRefused as refusal:
+            return self.refuse("reply", refusal)
         except Refusal as refusal:
             return self.refuse(REFUSED_THINGS[kind], refusal)
         if is_told:
@@ -477,6 +504,7 @@ class Asked(Followed):
         mark = self.found.marks.get(name)
         first = self.client.head() if mark is None else self.client.chain.after(mark.epoch)
         if first is None:
+            self.text.append(f"watched {name.hex()} {mark.epoch}")
             return
         self.monitors.append(self.monitor(first, name, key or None))
         self.steps(self.monitors[-1])

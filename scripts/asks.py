@@ -5,10 +5,12 @@ files of the state, the words and the status with what a model of the client com
     scripts/asks.py PROGRAM [--drawn N] [--lies N] [--seed N]
 
 The scripts are those of `play` without its lines about other sessions, and N drawn ones (40 unless given), asked of
-`directoryd listen`: what they print is the text of `play`. Then come N times (400 unless given) some runs over one
-state, of a directory that may lie: it alters or cuts a reply, answers with what was right earlier, signs another
+`directoryd listen`: what they print is the text of `play`. As many honest directories follow, whose epochs end at any
+time: none of their lists of roots may be refused. Then come N times (400 unless given) some runs over one state, of a
+directory that may lie: it alters or cuts a reply, answers with what was right earlier, leaves roots out, signs another
 history, breaks its promises, or lets others change keys. The runs that are stored have to end as it says here too. One
-more directory is silent. The last line is `N passed, M failed`, and the status is 0 where none failed.
+more directory is silent, and one takes no connection: each is given up after a minute. The last line is
+`N passed, M failed`, and the status is 0 where none failed.
 """
 
 import argparse
@@ -22,6 +24,7 @@ import subprocess
 import sys
 import tempfile
 import threading
+import time
 
 sys.dont_write_bytecode = True
 
@@ -34,6 +37,11 @@ from liars import *
 from sessions import *
 
 SECONDS = 60
+
+# A user's file: the provider's public keys.
+FILES = tempfile.TemporaryDirectory()
+PROVIDER_FILE = f"{FILES.name}/provider"
+pathlib.Path(PROVIDER_FILE).write_text(f"provider {PROVIDER.hex()}\n")
 
 # Runs ---------------------------------------------------------------------------------------------------------
 
@@ -57,7 +65,7 @@ def answering(provider):
 
 def asking(program, state, address, *words):
     """The words of a run over a state."""
-    return [program, "ask", "--provider", PROVIDER.hex(), "--state", state, address, *words]
+    return [program, "ask", "--provider", PROVIDER_FILE, "--state", state, address, *words]
 
 
 def ran(program, provider, script, state, words=(), **how):
@@ -151,7 +159,7 @@ def honest(program, drawn, seed):
         script = b"".join(line + b"\n" for line in lines_of(script) if not is_of_other_sessions(line))
         lines, stop = sessions.played(script)
         server, address = listening(program)
-        order = [program, "ask", "--provider", PROVIDER.hex(), address]
+        order = [program, "ask", "--provider", PROVIDER_FILE, address]
         run = subprocess.run(order, input=script, capture_output=True, timeout=120)
         server.wait(60)
         fault = run.stderr.decode().splitlines()[-1:] if stop is not None else []
@@ -170,7 +178,8 @@ def drawn_line(rng, epoch):
     name, key = rng.choice(NAMES), rng.choice(KEYS)
     return rng.choice([
         f"register {name} {key}", f"register {name} {key}", f"change {name} {key}", f"promise {name}",
-        f"lookup {name} {rng.choice([0, 0, 1, epoch])}", "head", f"history {rng.choice([0, 1, epoch])} 64",
+        f"lookup {name} {rng.choice([0, 0, 1, epoch])}", "head",
+        f"history {rng.choice([0, 1, 2, epoch // 2, epoch])} {rng.choice([1, 2, 64])}",
         f"close {epoch}", f"close {epoch}", f"rotate {epoch} {'05' * 32}", f"watch {name} {key}", f"watch {name} -",
     ])
 
@@ -213,12 +222,34 @@ def run_of_words(line):
     return line.encode(), line.split(" ")
 
 
+def roots_line(rng):
+    """What somebody does who mostly asks for roots."""
+    history = f"history {rng.randrange(9)} {rng.choice([1, 2, 3, 64])}"
+    return rng.choice([history, history, "lookup 61 0", "close 8", "close 9", "watch 61 -"])
+
+
+def honest_roots(program, drawn, seed):
+    """Roots that a directory sends are not refused, whenever its epochs end and its client begins."""
+    for each in range(seed, seed + drawn):
+        rng = random.Random(each)
+        lines = [roots_line(rng) for _ in range(6)]
+        epochs, other = rng.randrange(5), rng.randrange(2**32)
+        yield difference(f"honest roots {each}", program, lambda: begun(epochs, closed_around(1, other)), [run_of_lines(*lines)])
+        provider = Provider(begun(epochs, closed_around(1, other)))
+        provider.begin()
+        model = Asked(provider)
+        model.run(run_of_lines(*lines)[0])
+        refused = [line for line in model.text if line.startswith("client refuses")]
+        yield f"honest roots {each}: {refused}" if refused else None
+
+
 def lying(program, lies, seed):
     for each in range(seed, seed + lies):
         rng = random.Random(each)
         runs, lie = drawn_runs(rng), rng.choice(LIES)
         first, place, other = rng.randrange(1, 4), rng.choice([rng.randrange(1, 12), rng.randrange(1, 4)]), rng.randrange(2**32)
-        yield difference(f"{lie.__name__} {each}", program, lambda: from_run(first, lie(place, other)), runs)
+        epochs = rng.choice([0, 0, 2])
+        yield difference(f"{lie.__name__} {each}", program, lambda: begun(epochs, from_run(first, lie(place, other))), runs)
 
 
 # Stored runs ----------------------------------------------------------------------------------------------------
@@ -323,15 +354,76 @@ def nothing_is_kept(provider, _request, reply):
     return reply
 
 
-def root_2(key):
-    """The root of epoch 2 of a directory that was given this key for the name."""
+def roots_of(key):
+    """The roots of epochs 2 and 3 of a directory that was given this key for the name."""
     directory = keyed_directory(1, ZERO32, SIGNING_KEY, VUF_KEY, SALT_KEY)
     directory.register(b"a", key)
-    return directory.close(2)
+    return directory.close(2), directory.close(3)
+
+
+def root_2(key):
+    return roots_of(key)[0]
+
+
+def forked_3():
+    """The evidence of an epoch 3 with two roots."""
+    second, third = roots_of(b"k1")
+    return evidence_json(RootEvidence(FORK, third, root_behind(second)))
 
 
 def list_is_forked_and_older(provider, _request, _reply):
     return frame(ROOTS, write_list([root_2(EVIL), provider.hub.directory.pages[0].root]))
+
+
+def list_is_forked(_provider, _request, _reply):
+    return frame(ROOTS, write_list([root_2(EVIL)]))
+
+
+def list_is_of_others(_provider, _request, _reply):
+    return frame(ROOTS, write_list([roots_of(EVIL)[1]]))
+
+
+def list_is_altered(_provider, _request, reply):
+    """The last root has a bad signature."""
+    return flipped(reply, len(reply) - 1)
+
+
+def nothing_comes(provider, _request, _reply):
+    provider.is_cut = True
+    return b""
+
+
+def roots_are(change):
+    """A list of roots, changed so."""
+    return lambda _provider, _request, reply: with_roots(reply, change)
+
+
+def first_is_of_another(_provider, _request, reply):
+    """The first root of a list is that of a directory that began under another nonce."""
+    other = keyed_directory(1, bytes([7]) * 32, SIGNING_KEY, VUF_KEY, SALT_KEY).head()
+    return with_roots(reply, lambda roots: [other, *roots[1:]])
+
+
+def root_is_behind(_provider, _request, reply):
+    """A list of roots has one more, which the directory has not."""
+    return with_roots(reply, lambda roots: [*roots, root_behind(roots[-1])])
+
+
+def root_is_forked(provider, request, reply):
+    """A list of roots has one more, and then an epoch ends with another root."""
+    forked = root_is_behind(provider, request, reply)
+    close(provider)
+    return forked
+
+
+def from_epoch(epoch, act):
+    """This is done where roots are asked for from an epoch on."""
+    return lambda provider, request, reply: act(provider, request, reply) if words_of(request)[0] == epoch else reply
+
+
+def epochs_ended(epochs, *cases):
+    """Some epochs end before the first run."""
+    return lambda: begun(epochs, lies(*cases)())
 
 
 def promise_and_root():
@@ -344,13 +436,19 @@ def promise_and_root():
 
 BEGUN_LINES = "register 61 6b31", "close 2", "watch 61 6b31"
 BEGUN = run_of_lines(*BEGUN_LINES)
+BEGUN_LATER = run_of_lines("close 5", "close 6")
+THREE_ROOTS = [run_of_lines("close 2", "close 3"), run_of_words("history 1 64")]
+ALL_ROOTS = [BEGUN_LATER, run_of_words("history 1 64")]
 WATCH, SETTLE = run_of_words("watch 61 6b31"), run_of_words("settle 61")
 REPLY_25 = "client refuses reply 25: the reply is not to what was asked"
+OTHER_ROOTS = Ending(["client refuses reply 25"], 1, [REPLY_25])
 ROOT_3 = "client refuses root 3: the epoch is not above that of the head of the chain"
+ROOT_2 = "client refuses root 2: the signature does not verify"
 ROOT_21 = "client refuses root 21: the root contradicts the chain"
 NO_MEMORY = "refused 14: out of memory"
 ALARM, EARLIER_ALARM = "alarm 61 3 6576", "watching 61 at epoch 3: alarm of an earlier run"
 FORKED = evidence_json(RootEvidence(FORK, root_2(b"k1"), root_2(EVIL)))
+LINKED = evidence_json(RootEvidence(LINK, root_2(b"k1"), roots_of(EVIL)[1]))
 EARLIER_EVIDENCE = "state: FILE.kept: evidence of an earlier run"
 
 # Of a name: what the directory does, the runs over one state, and how the last of them ends.
@@ -411,7 +509,7 @@ STORED_LIES = {
     "a change of this run": (
         lies(),
         [BEGUN, run_of_lines("change 61 6b32", "watch 61 6b31", "close 3", "watch 61 6b31")],
-        Ending(["promise 2", "root 3 after 2", "kept 61 3"], 0, []),
+        Ending(["promise 2", "watched 61 2", "root 3 after 2", "kept 61 3"], 0, []),
     ),
     "a change of this run from behind the first root": (
         lies(),
@@ -455,22 +553,71 @@ STORED_LIES = {
         [run_of_lines("register 61 6b31", "close 2"), run_of_words("lookup 61 0")],
         Ending(["present 3 6b31"], 0, []),
     ),
-    # 5. Each run sees where the directory's head stands.
+    # 5. Roots that are asked for are those of the chain.
+    "roots in the middle are left out": (
+        lies((2, "history", roots_are(lambda roots: roots[:1] + roots[2:]))),
+        THREE_ROOTS,
+        OTHER_ROOTS,
+    ),
+    "the first roots are left out": (lies((2, "history", roots_are(lambda roots: roots[1:]))), THREE_ROOTS, OTHER_ROOTS),
+    "the last roots are left out": (lies((2, "history", roots_are(lambda roots: roots[:-1]))), THREE_ROOTS, OTHER_ROOTS),
+    "all roots are left out": (lies((2, "history", roots_are(lambda _: []))), THREE_ROOTS, OTHER_ROOTS),
+    "roots backwards": (lies((2, "history", roots_are(lambda roots: roots[::-1]))), THREE_ROOTS, OTHER_ROOTS),
+    "a root twice": (lies((2, "history", roots_are(lambda roots: [*roots, roots[-1]]))), THREE_ROOTS, OTHER_ROOTS),
+    "another root of an epoch of the chain": (
+        lies((2, "history", roots_are(lambda roots: [roots[0], root_2(EVIL)]))),
+        [BEGUN, run_of_words("history 1 64")],
+        Ending([FORKED, "client refuses root 21"], 3, [ROOT_21]),
+    ),
+    "another root of an epoch that the chain gets": (
+        lies((2, "history", from_epoch(1, root_is_forked))),
+        [BEGUN, run_of_words("history 1 64")],
+        Ending([forked_3(), "client refuses root 21"], 3, [ROOT_21]),
+    ),
+    "a root that the chain does not get": (
+        lies((2, "history", from_epoch(1, root_is_behind))), THREE_ROOTS, OTHER_ROOTS,
+    ),
+    "older roots": (
+        epochs_ended(3),
+        [BEGUN_LATER, run_of_words("history 0 5")],
+        Ending(["roots 1 2 3 4 5"], 0, []),
+    ),
+    "some of the older roots": (
+        epochs_ended(3),
+        [BEGUN_LATER, run_of_words("history 2 1")],
+        Ending(["roots 2"], 0, []),
+    ),
+    "older roots that do not link": (epochs_ended(3, (2, "history", first_is_of_another)), ALL_ROOTS, OTHER_ROOTS),
+    "older roots that are left out": (
+        epochs_ended(3, (2, "history", roots_are(lambda roots: roots[3:]))), ALL_ROOTS, OTHER_ROOTS,
+    ),
+    "the last of the older roots is left out": (
+        epochs_ended(3, (2, "history", roots_are(lambda roots: roots[:2] + roots[3:]))), ALL_ROOTS, OTHER_ROOTS,
+    ),
+    "older roots alone": (
+        epochs_ended(3, (2, "history", roots_are(lambda roots: roots[:2]))), ALL_ROOTS, OTHER_ROOTS,
+    ),
+    "epochs that end around roots": (
+        lies((2, "history", from_epoch(2, epochs_end))),
+        [BEGUN, run_of_words("history 2 64")],
+        Ending(["roots 2 3"], 0, []),
+    ),
+    # 6. Each run sees where the directory's head stands.
     "a directory that went back": (
         lies((2, None, directory_goes_back(1))),
         [run_of_lines("register 61 6b31", "close 2", "close 3", "watch 61 6b31"), WATCH],
-        Ending([FORKED, "client refuses root 21"], 1, [ROOT_21]),
+        Ending([FORKED, "client refuses root 21", "watched 61 3"], 3, [ROOT_21]),
     ),
     "a directory that went back to a known root": (
         lies((2, None, directory_goes_back(0))),
         [run_of_lines("register 61 6b31", "close 2", "close 3", "watch 61 6b31"), WATCH],
-        Ending(["client refuses root 3"], 1, [ROOT_3]),
+        Ending(["client refuses root 3", "watched 61 3"], 1, [ROOT_3]),
     ),
-    # 6. Alarms are told until they are settled, and evidence for good.
+    # 7. Alarms are told until they are settled, and evidence for good.
     "an alarm that was told": (
         lies((2, None, key_is_robbed)),
         [BEGUN, run_of_lines("close 3", "watch 61 6b31"), WATCH],
-        Ending([ALARM], 3, [EARLIER_ALARM]),
+        Ending([ALARM, "watched 61 3"], 3, [EARLIER_ALARM]),
     ),
     "an alarm, and new epochs": (
         lies((2, None, key_is_robbed)),
@@ -485,17 +632,79 @@ STORED_LIES = {
     "an alarm that was settled": (
         lies((2, None, key_is_robbed)),
         [BEGUN, run_of_lines("close 3", "watch 61 6b31"), run_of_words("settle 62"), SETTLE, WATCH],
-        Ending([], 0, []),
+        Ending(["watched 61 3"], 0, []),
     ),
     "evidence that was told": (
         lies((2, None, directory_goes_back(1))),
         [run_of_lines("register 61 6b31", "close 2", "close 3", "watch 61 6b31"), WATCH, SETTLE],
-        Ending([FORKED, "settled 61 0"], 1, [EARLIER_EVIDENCE]),
+        Ending([FORKED, "settled 61 0"], 3, [EARLIER_EVIDENCE]),
     ),
     "a broken promise that was told": (
         lies((1, "register", nothing_is_kept)),
         [run_of_lines("register 61 6b31", "close 2"), SETTLE],
-        Ending([promise_and_root(), "settled 61 0"], 1, [EARLIER_EVIDENCE]),
+        Ending([promise_and_root(), "settled 61 0"], 3, [EARLIER_EVIDENCE]),
+    ),
+    # 7. A provider that is caught has status 3, whatever comes behind it, and nothing to say has status 1.
+    "a promise that was not kept": (
+        lies((1, "register", nothing_is_kept)),
+        [run_of_lines("register 61 6b31", "close 2")],
+        Ending(["promise 1", "root 2 after 1", promise_and_root()], 3, ["state: begins at epoch 1", "promise for 61: it was not kept"]),
+    ),
+    "evidence among roots that were asked for": (
+        lies((2, "history", list_is_forked)),
+        [BEGUN, run_of_words("history 2 64")],
+        Ending([FORKED, "client refuses root 21"], 3, [ROOT_21]),
+    ),
+    "evidence among new roots": (
+        lies((2, "history", list_is_of_others)),
+        [BEGUN, run_of_lines("close 3")],
+        Ending([LINKED, "client refuses root 21"], 3, [ROOT_21, "no root is taken after epoch 2"]),
+    ),
+    "evidence, and new roots that are refused": (
+        lies((2, None, directory_goes_back(1)), (2, "lookup", epochs_end), (2, "history", memory_runs_out)),
+        [BEGUN, run_of_words("lookup 61 0")],
+        Ending([FORKED, "client refuses root 21", "refused 14"], 3, [ROOT_21, NO_MEMORY, "no root is taken after epoch 2"]),
+    ),
+    "evidence, and no reply": (
+        lies((2, None, directory_goes_back(1)), (2, "lookup", nothing_comes)),
+        [BEGUN, run_of_words("lookup 61 0")],
+        Ending([FORKED, "client refuses root 21"], 3, [ROOT_21, "no reply"]),
+    ),
+    "evidence, and a line that is no command": (
+        lies((2, None, directory_goes_back(1))),
+        [BEGUN, run_of_lines("bogus")],
+        Ending([FORKED, "client refuses root 21"], 3, [ROOT_21, "line 1: not a command"]),
+    ),
+    "evidence that was told, and no reply": (
+        lies((2, None, directory_goes_back(1)), (3, None, nothing_comes)),
+        [BEGUN, WATCH, WATCH],
+        Ending([FORKED], 3, [EARLIER_EVIDENCE, "no reply"]),
+    ),
+    "no reply": (
+        lies((2, None, nothing_comes)),
+        [BEGUN, WATCH],
+        Ending([], 1, ["no reply"]),
+    ),
+    # 8. Each `watch` prints a line: where no epoch is new, up to which one was watched.
+    "no epoch that is new": (
+        lies(),
+        [BEGUN, WATCH, WATCH],
+        Ending(["watched 61 2"], 0, []),
+    ),
+    "no epoch that is new at first": (
+        lies(),
+        [BEGUN, run_of_lines("watch 61 6b31", "watch 61 6b31", "close 3", "watch 61 6b31", "watch 61 6b31")],
+        Ending(["watched 61 2", "watched 61 2", "root 3 after 2", "kept 61 3", "kept 61 3"], 0, []),
+    ),
+    "no proof of an epoch that is new": (
+        lies((2, "lookup", proof_is_altered_at(3)), (3, "lookup", memory_runs_out)),
+        [BEGUN, run_of_lines("close 3", "watch 61 6b31"), WATCH],
+        Ending(["refused 14"], 1, [NO_MEMORY]),
+    ),
+    "a root that is refused": (
+        lies((2, "history", list_is_altered)),
+        [BEGUN, run_of_lines("close 3")],
+        Ending(["client refuses root 2"], 1, [ROOT_2, "no root is taken after epoch 2"]),
     ),
 }
 
@@ -524,9 +733,27 @@ def silent(program):
     """A directory that takes a connection, and says nothing."""
     with socket.create_server(("127.0.0.1", 0)) as listener:
         address = "127.0.0.1:%d" % listener.getsockname()[1]
-        run = subprocess.run([program, "ask", "--provider", PROVIDER.hex(), address, "head"], capture_output=True, timeout=SECONDS + 30)
+        run = subprocess.run([program, "ask", "--provider", PROVIDER_FILE, address, "head"], capture_output=True, timeout=SECONDS + 30)
     got = run.stdout, run.stderr, run.returncode
     return None if got == (b"", b"no reply\n", 1) else f"a silent directory: {got}"
+
+
+def unanswered(program):
+    """A listener whose queue is full, so that nobody's connection comes about. It takes a minute."""
+    with contextlib.ExitStack() as stack:
+        listener = stack.enter_context(socket.create_server(("127.0.0.1", 0), backlog=0))
+        for _ in range(8):
+            waiting = stack.enter_context(socket.socket())
+            waiting.setblocking(False)
+            waiting.connect_ex(listener.getsockname())
+        address = "127.0.0.1:%d" % listener.getsockname()[1]
+        begun = time.monotonic()
+        run = subprocess.run([program, "ask", "--provider", PROVIDER_FILE, address, "head"], capture_output=True, timeout=SECONDS + 30)
+        taken = time.monotonic() - begun
+    got = run.stdout, run.stderr, run.returncode
+    if got != (b"", b"cannot connect\n", 1):
+        return f"a queue that is full: {got}"
+    return None if SECONDS - 1 <= taken <= SECONDS + 10 else f"a queue that is full: given up after {taken:.0f} seconds"
 
 
 def last_of(program, runs):
@@ -536,7 +763,7 @@ def last_of(program, runs):
     with tempfile.TemporaryDirectory() as folder, open("/dev/full", "wb") as full:
         for script, has_state, is_written in runs:
             state = ["--state", f"{folder}/state"] if has_state else []
-            order = [program, "ask", "--provider", PROVIDER.hex(), *state, address]
+            order = [program, "ask", "--provider", PROVIDER_FILE, *state, address]
             output = subprocess.PIPE if is_written else full
             run = subprocess.run(order, input=script, stdout=output, stderr=subprocess.PIPE, timeout=60)
     server.wait(60)
@@ -577,7 +804,7 @@ def line_by_line(program):
     """Each line is asked, and what is told of it written, before the next one is read."""
     server, address = listening(program)
     pipes = {"stdin": subprocess.PIPE, "stdout": subprocess.PIPE}
-    run = subprocess.Popen([program, "ask", "--provider", PROVIDER.hex(), address], bufsize=0, **pipes)
+    run = subprocess.Popen([program, "ask", "--provider", PROVIDER_FILE, address], bufsize=0, **pipes)
     timer = threading.Timer(60, run.kill)
     timer.start()
     got = []
@@ -596,9 +823,11 @@ def input_of_others(program):
     """Where words are asked, or a key is bad, the input is not read: it has no end here."""
     server, address = listening(program)
     reader, writer = os.pipe()
+    bad = f"{FILES.name}/bad"
+    pathlib.Path(bad).write_text("provider 0g\n")
     got = []
-    for key in (PROVIDER.hex(), "0g"):
-        order = [program, "ask", "--provider", key, address, "head"]
+    for keys in (PROVIDER_FILE, bad):
+        order = [program, "ask", "--provider", keys, address, "head"]
         run = subprocess.run(order, stdin=reader, capture_output=True, timeout=60)
         got.append((run.stdout, run.stderr, run.returncode))
     server.wait(60)
@@ -614,7 +843,19 @@ def evidence_unwritten(program):
         for (script, words), how in ((BEGUN, {}), (WATCH, {"stdout": full}), (SETTLE, {})):
             provider.begin()
             got = ran(program, provider, b"" if words else script, f"{folder}/state", words, **how)
-    return None if got[::2] == ([FORKED, "settled 61 0"], 1) else f"evidence that was not written: {got}"
+    return None if got[::2] == ([FORKED, "settled 61 0"], 3) else f"evidence that was not written: {got}"
+
+
+def evidence_and_fault(program):
+    """The status of evidence stays if its line cannot be written, also where a name is settled."""
+    provider, got = Provider(lies((2, None, directory_goes_back(1)))()), []
+    with tempfile.TemporaryDirectory() as folder, open("/dev/full", "wb") as full:
+        for (script, words), how in ((BEGUN, {}), *[(run, {"stdout": full}) for run in (WATCH, SETTLE, WATCH)]):
+            provider.begin()
+            _, said, status = ran(program, provider, b"" if words else script, f"{folder}/state", words, **how)
+            got.append((said[-1], status))
+    wanted = [("state: begins at epoch 1", 0), *[("cannot write", 3)] * 3]
+    return None if got == wanted else f"evidence and a fault: {got}"
 
 
 def older_form(program):
@@ -645,6 +886,27 @@ def settled_alone(program):
     return None if got == (b"settled 61 1\n", b"", 0) else f"settle without a directory: {got}"
 
 
+# Words with a name that is text, and what they print.
+WITH_TEXT = [
+    (("register", "alice", "6b31"), b"promise 1\n"), (("promise", "alice"), b"promise 1\n"), (("close", "2"), b"root 2 after 1\n"),
+    (("lookup", "alice", "0"), b"present 2 6b31\n"), (("watch", "alice", "6b31"), b"kept 616c696365 2\n"),
+    (("change", "alice", "6b32"), b"promise 2\n"), (("rotate", "3", "05" * 32), b"root 3 after 2\n"), (("head",), b"root 3 after 2\n"),
+    (("history", "1", "2"), b"roots 1 2\n"), (("lookup", "616c696365", "0"), b"absent 3\n"),
+    (("register", "Zo\u00eb 1", "6b"), b"promise 3\n"), (("settle", "alice"), b"settled 616c696365 0\n"),
+]
+
+
+def names_as_text(program):
+    """With `--text` the name behind the command is text, and nothing else."""
+    server, address = listening(program, len(WITH_TEXT) - 1)
+    with tempfile.TemporaryDirectory() as folder:
+        order = [program, "ask", "--provider", PROVIDER_FILE, "--state", f"{folder}/state", "--text", address]
+        got = [subprocess.run([*order, *words], capture_output=True, timeout=SECONDS).stdout for words, _ in WITH_TEXT]
+    server.wait(60)
+    wanted = [printed for _, printed in WITH_TEXT]
+    return None if got == wanted else f"names as text: wanted {wanted}, got {got}"
+
+
 BAD_SETTLES = ["settle"], ["settle", "6"], ["settle", "0g"], ["settle", "-"], ["settle", "61" * 256], ["settle", "61", "61"]
 
 
@@ -656,7 +918,7 @@ def settled_badly(program):
         provider.begin()
         state = ["--state", f"{folder}/state"] if has_state else []
         with answering(provider) as address:
-            order = [program, "ask", "--provider", PROVIDER.hex(), *state, address, *words]
+            order = [program, "ask", "--provider", PROVIDER_FILE, *state, address, *words]
             run = subprocess.run(order, input=script, capture_output=True, timeout=SECONDS)
         return run.stdout, run.stderr.splitlines()[-1:], run.returncode
 
@@ -673,7 +935,7 @@ def settled_badly(program):
 
 OTHERS = (
     changed_by_another, alarm_unwritten, change_unwritten, alarm_and_fault, line_by_line, input_of_others,
-    evidence_unwritten, older_form, settled_alone, settled_badly,
+    evidence_unwritten, evidence_and_fault, older_form, settled_alone, settled_badly, names_as_text,
 )
 
 
@@ -685,10 +947,13 @@ def main():
     words = parser.parse_args()
     program = os.path.abspath(words.program)
     waited = []
-    thread = threading.Thread(target=lambda: waited.append(silent(program)))
-    thread.start()
-    found = [*honest(program, words.drawn, words.seed), *lying(program, words.lies, words.seed), *stored_lies(program)]
-    thread.join()
+    threads = [threading.Thread(target=lambda run=run: waited.append(run(program))) for run in (silent, unanswered)]
+    for thread in threads:
+        thread.start()
+    found = [*honest(program, words.drawn, words.seed), *honest_roots(program, words.drawn, words.seed)]
+    found += [*lying(program, words.lies, words.seed), *stored_lies(program)]
+    for thread in threads:
+        thread.join()
     waited += [run(program) for run in OTHERS]
     failures = [difference for difference in [*found, *waited] if difference is not None]
     for difference in failures[:20]:

@@ -13,6 +13,7 @@ import random
 from dataclasses import replace
 
 from formats import (
+    MAX_ROOTS,
     PROMISE,
     REFUSED,
     REQUEST_KINDS,
@@ -21,10 +22,12 @@ from formats import (
     ZERO32,
     Feed,
     SignedPromise,
+    SignedRoot,
     frame,
     read_request,
     read_response,
     response_frame,
+    sha256,
     split_frames,
     u32,
     write_list,
@@ -235,6 +238,48 @@ def with_older(provider, request, reply, at, rng=None):
     return frame(ROOTS, write_list([*roots[:at], rng.choice(older) if rng else older[0], *roots[at:]]))
 
 
+def roots_altered(place, seed):
+    """From this reply on, a list of roots often lacks some, is turned round, or has a root of another history."""
+    rng = random.Random(seed)
+
+    def lie(provider, request, reply):
+        if provider.count < place or not is_of(request, "history") or rng.randrange(3) == 0:
+            return reply
+        return with_roots(reply, rng.choice([
+            lambda _: [],
+            lambda roots: roots[rng.randrange(2) :],
+            lambda roots: roots[: rng.randrange(len(roots) + 1)],
+            lambda roots: [root for root in roots if rng.randrange(4)],
+            lambda roots: roots[::-1],
+            lambda roots: rng.sample(roots, len(roots)),
+            lambda roots: [*roots, *roots[-1:]],
+            lambda roots: [*roots, root_behind(roots[-1] if roots else provider.hub.directory.head())],
+            lambda roots: with_other(roots, rng.randrange(len(roots) or 1)),
+        ]))
+
+    return lie
+
+
+def with_roots(reply, change):
+    """The reply with other roots, if it is a list of roots."""
+    [(kind, body)], _, _ = split_frames(reply)
+    if kind != ROOTS:
+        return reply
+    return frame(ROOTS, write_list(change(read_response(kind, body))[:MAX_ROOTS]))
+
+
+def root_behind(last):
+    """A root that may follow this one, under another nonce than the directory's next one."""
+    names = {"previous_epoch": last.epoch, "previous_hash": sha256(last.body.write())}
+    return SignedRoot.signed(replace(last.body, epoch=last.epoch + 1, nonce=OTHER_KEY, **names), SIGNING_KEY)
+
+
+def with_other(roots, at):
+    """Roots of which one has another nonce, and names the same root as before."""
+    others = [SignedRoot.signed(replace(root.body, nonce=OTHER_KEY), SIGNING_KEY) for root in roots[at : at + 1]]
+    return [*roots[:at], *others, *roots[at + 1 :]]
+
+
 # What other sessions and the directory do meanwhile ------------------------------------------------------------------
 
 
@@ -262,6 +307,21 @@ def closed_between(place, seed):
 
     def lie(provider, request, reply):
         if provider.count < place or not is_of(request, "lookup") or words_of(request)[0] != 0:
+            return reply
+        close(provider, rng.randrange(3))
+        reply = provider.hub.bytes(0, request)
+        close(provider, rng.randrange(3))
+        return reply
+
+    return lie
+
+
+def closed_around(place, seed):
+    """From this reply on, epochs end now and then before and behind any reply."""
+    rng = random.Random(seed)
+
+    def lie(provider, request, reply):
+        if provider.count < place or rng.randrange(2) == 0:
             return reply
         close(provider, rng.randrange(3))
         reply = provider.hub.bytes(0, request)
@@ -381,6 +441,18 @@ def from_run(first, lie):
     return lie and (lambda provider, request, reply: reply if provider.runs < first else lie(provider, request, reply))
 
 
+def begun(epochs, lie):
+    """Some epochs end before the first reply of all. Then this is the lie, if there is one."""
+
+    def later(provider, request, reply):
+        if (provider.runs, provider.count) == (1, 1):
+            close(provider, epochs)
+            reply = provider.hub.bytes(0, request)
+        return reply if lie is None else lie(provider, request, reply)
+
+    return later
+
+
 def both(one, other):
     """A lie about what another one says, from the same reply on."""
 
@@ -394,7 +466,7 @@ def both(one, other):
 
 LIES = [
     nothing, altered, altered, altered, cut, bad_length, replayed, forked, forgetful,
-    promised_before, promised_twice, older_head, older_head, older_among, closed_between, gone_back, robbed, held_up, out_of_memory,
-    *[both(robbed, other) for other in (altered, older_head, older_among, closed_between, gone_back, held_up, out_of_memory)],
+    promised_before, promised_twice, older_head, older_head, older_among, roots_altered, roots_altered, closed_between, gone_back, robbed, held_up, out_of_memory,
+    *[both(robbed, other) for other in (altered, older_head, older_among, roots_altered, closed_between, gone_back, held_up, out_of_memory)],
     *[both(held_up, other) for other in (promised_before, promised_twice, forgetful, forked, older_among)],
 ]

@@ -660,7 +660,7 @@ def ordered(program, library):
         ("a registration", b"register 61 6b31\n", ["sync FOLDER", *keeps, "print"]),
         ("two lines", b"register 62 6b31\nlookup 61 0\nregister 63 6b31\n", [*keeps, "print", "print", *keeps, "print"]),
         ("a watch", b"watch 61 -\n", [*keeps, *marks, *anew]),
-        ("no more to watch", b"watch 61 -\nhead\n", ["print"]),
+        ("no more to watch", b"watch 61 -\nhead\n", ["print", "print"]),
         ("a closing", b"close 2\n", [*adds, "print", *anew]),
         ("a change and a closing", b"change 61 6b32\nclose 3\nchange 62 6b32\n", [*keeps, "print", *adds, "print", *keeps, "print"]),
         ("two names", b"watch 61 6b31\nwatch 62 6b31\n", [*marks, *keeps, *marks, *anew]),

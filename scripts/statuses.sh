@@ -150,8 +150,12 @@ helps listen --help -- "--count <N>" "How many connections are answered; 0 for n
     "--idle <SECONDS>" "After how many idle seconds a connection is closed; 0 for never [default: 60]" \
     "--until-eof" "Take the end of standard input as an order to stop" \
     "<ADDR>" "The address to listen on"
-helps ask --help -- "Usage: directoryd ask [OPTIONS] <ADDR> [COMMAND] [WORD] [WORD]" "--provider <HEX>" "--token <HEX>" \
-    "--keys <FILE>" "--state <FILE>" "register NAME KEY" "Example: directoryd ask "
+helps ask --help -- "Usage: directoryd ask [OPTIONS] <ADDR> [COMMAND] [WORD] [WORD]" "--provider <FILE>" "--token <HEX>" \
+    "The file of the provider's public keys, which everybody may read" "A file of secret keys: lines of " \
+    "--keys <FILE>" "--state <FILE>" "register NAME KEY" "--text " "Take NAME of the words as text, such as alice" \
+    "NAME and KEY are hexadecimal digits, here and in what is printed" "--text without words is refused" \
+    "Status 3: the provider was caught" "Status 1: nothing can be said today" \
+    "Example: directoryd ask "
 given "" root --help
 cp "$folder/out" "$folder/help"
 given "" root -h
@@ -215,8 +219,8 @@ done
 refused "unexpected argument '--count' found" serve $keys --count 1
 refused "unexpected argument 'here:1' found" serve $keys here:1
 refused "the following required arguments were not provided:" listen $keys
-refused "the following required arguments were not provided:" ask --provider $ones
-refused "unexpected argument 'more' found" ask --provider $ones here:1 lookup 61 0 more
+refused "the following required arguments were not provided:" ask --provider file
+refused "unexpected argument 'more' found" ask --provider file here:1 lookup 61 0 more
 refused "unexpected argument '--journal' found" ask --journal file here:1
 refused "unexpected argument 'here:2' found" listen $keys here:1 here:2
 refused "invalid value 'few' for '--count <N>': invalid digit found in string" listen $keys --count few here:1
@@ -286,7 +290,7 @@ given "" ask --keys "$folder/some" nowhere
 ends 1 "" "bad hex"
 given "" serve --keys "$folder/some" --token=
 ends 1 "" "bad hex"
-given "" ask --keys "$folder/keys" --provider= --token= nowhere
+given "" ask --keys "$folder/keys" --token= nowhere
 ends 1 "" "cannot connect"
 for line in "token $zeros " "token ${zeros%0}" "token  $zeros" "token" "" "token-$zeros"; do
     { cat "$folder/keys"; echo "$line"; } >"$folder/others"
@@ -295,18 +299,57 @@ for line in "token $zeros " "token ${zeros%0}" "token  $zeros" "token" "" "token
     given "" ask --keys "$folder/others" nowhere
     ends 1 "" "bad hex"
 done
-for words in "serve $keys --keys $folder/none" "ask --provider $ones --keys $folder nowhere"; do
+echo "provider $ones" >"$folder/public"
+for words in "serve $keys --keys $folder/none" "ask --provider $folder/public --keys $folder nowhere" \
+    "ask --provider $folder/none nowhere" "ask --provider $ones nowhere" "ask --provider= nowhere"; do
     given "" $words
     ends 1 "" "cannot read"
 done
-given "" ask --provider 00 nowhere
-ends 1 "" "bad hex"
-given "" ask --provider $ones --token 00 nowhere
+given "" ask --provider "$folder/public" --token 00 nowhere
 ends 1 "" "bad hex"
 for address in nowhere 127.0.0.1:1; do
-    given "" ask --keys "$folder/keys" $address head
+    for words in "--keys $folder/keys" "--provider $folder/public" "--provider $folder/public --keys $folder/some"; do
+        given "" ask $words $address head
+        ends 1 "" "cannot connect"
+    done
+done
+
+# A file of the wrong kind: with secret keys where the public ones are wanted, with none of these, and the other way
+# round. The first of two files counts.
+echo "nonce $zeros" >"$folder/neither"
+for key in sign-key vuf-key salt-key token; do
+    { cat "$folder/public"; echo "$key $zeros"; } >"$folder/secret"
+    given "" ask --provider "$folder/secret" --keys "$folder/public" nowhere head
+    ends 1 "" "provider: $folder/secret: has secret keys
+bad hex"
+    given "" ask --keys "$folder/secret" nowhere head
     ends 1 "" "cannot connect"
 done
+for file in neither /dev/null; do
+    [ $file != neither ] || file=$folder/neither
+    given "" ask --provider "$file" --token $zeros nowhere head
+    ends 1 "" "provider: $file: has no public key
+bad hex"
+done
+for words in "serve $keys" "listen $keys nowhere" "ask --provider $folder/public nowhere head"; do
+    given "" $words --keys "$folder/public"
+    ends 1 "" "keys: $folder/public: has public keys alone
+bad hex"
+done
+given "" serve $keys --keys "$folder/neither"
+ends 0 "" ""
+{ cat "$folder/public"; echo "nonce"; } >"$folder/others"
+given "" ask --provider "$folder/others" nowhere head
+ends 1 "" "bad hex"
+
+# `--text` is for words.
+given "head\n" ask --provider "$folder/secret" --text nowhere
+ends 2 "" "error: '--text' is for a COMMAND of the words; names in the lines of the input are hexadecimal digits"
+given "" ask --provider "$folder/public" --text nowhere watch alice -
+ends 1 "" "cannot connect"
+refused "the argument '--text' cannot be used multiple times" ask --text --text nowhere
+refused "unexpected value 'alice' for '--text' found; no more were expected" ask --text=alice nowhere
+refused "unexpected argument '--text' found" listen $keys --text nowhere
 begins 0000000000000005 --epoch +5
 begins 0000000000000005 --epoch 005 --nonce $ones
 begins 0000000000000005 --epoch=+05
@@ -391,6 +434,10 @@ full err root
 ends 1 "" ""
 full err root --nonce 00
 ends 1 "" ""
+for words in "ask --text nowhere" "ask --provider $folder/secret nowhere" "ask --keys $folder/public nowhere"; do
+    full err $words
+    ends 1 "" ""
+done
 if [ $is_limited = yes ]; then
     python3 -c 'for k in range(200000): print(f"{k:064x} {0:064x}")' >"$folder/items"
     for words in root "prove --index $zeros"; do
@@ -457,6 +504,15 @@ for kind in fork link skip broken-promise; do
     given "" judge --key $ones "$folder/false.json"
     ends 3 "no evidence" ""
 done
+
+# `ask` tells evidence of an earlier run again, also where nothing is asked.
+sed 's/.*"first": *"\([0-9a-f]*\)".*/\1/' "$folder/fork.json" >"$folder/state"
+cp "$folder/fork.json" "$folder/state.kept"
+given "" ask --provider "$folder/public" --state "$folder/state" nowhere settle 61
+ends 3 "$(<"$folder/fork.json")
+settled 61 0" "state: $folder/state.kept: evidence of an earlier run"
+given "" ask --provider "$folder/public" --state "$folder/state" nowhere head
+ends 1 "" "cannot connect"
 
 # Other spellings of one file: spelled SCRIPT, where SCRIPT changes the parts, a dict.
 spelled() {

@@ -205,7 +205,7 @@ def subcommands(folder, address):
     yield "serve", *KEYS, "--journal", journal
     yield "serve", *KEYS, "--keys", f"{folder}/none"
     yield "listen", *KEYS, "--journal", journal, address
-    yield "ask", "--provider", zeros, "--state", f"{folder}/state", address, "head"
+    yield "ask", "--provider", f"{folder}/none", "--state", f"{folder}/state", address, "head"
 
 
 def without_null(program, library):
