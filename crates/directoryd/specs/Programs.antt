@@ -1,5 +1,5 @@
 -- What the programs do, and how the process ends.
-use Rattle.std.specs.Prelude.{◌≡◌, ◌⊎◌, ◌↔◌, ◌&&◌, ℕ, zero, suc, List, Bool, true, false, Option, None, Result, Ok, Err, IfErr, IfOk, OnErr, Vec, String, map, string_bytes, codes, ⊤}
+use Rattle.std.specs.Prelude.{◌≡◌, ◌⊎◌, ◌↔◌, ◌&&◌, ℕ, zero, suc, List, Bool, true, false, Option, None, Result, Ok, Err, IfErr, IfOk, Vec, String, map, string_bytes, codes, ⊤}
 use Rattle.std.specs.IoError.{error_kind}
 use Rattle.std.specs.declared.io.Error.{Error as IoError}
 use Rattle.std.specs.declared.io.ErrorKind.TheVariants as io
@@ -104,7 +104,7 @@ AsksFrom asked texts input out out-new err err-new outcome =
     ⊎ ((public used : AskOptions) × Uses Public provided texts.provider asked public × Uses Secret ask_with texts.keys public used
     × ((outcome ≡ Err BadHex) ↔ (ask_keys_of used ≡ None)) × (outcome ≡ Err BadHex → Keeps out out-new × Keeps err err-new)
     × IfErr outcome (λ fault. (fault ≡ BadHex) ⊎ IsRunFault used input fault) × Grows out out-new
-    × IfOk outcome (λ status. AsksOverSocket used input status out out-new) × OnErr outcome (FailsOverSocket used input out out-new)))
+    × IfOk outcome (λ status. AsksOverSocket used input status out out-new) × IfErr outcome (λ fault. FailsOverSocket used input fault out out-new)))
 
 -- a line says that the lines of the input have no text
 abbrev pub RefusesLines : Option (List ℕ) → Option (List ℕ) → Option (List ℕ) → Option (List ℕ) → Result ℕ ProgramFault → Type 0
