@@ -2,6 +2,7 @@
 use Rattle.std.proofs.Common.{◌≡◌, ◌≢◌, ◌∙◌, ◌<◌, ◌≤◌, ℕ, true, List, [], ◌∷◌, ◌++◌, Bor, Option, None, Some, Result, Ok, Err, ap, option_map, append-nil, append_assoc, inl, inr, refl, rules, subst, sym}
 use Rattle.std.specs.Prelude.{IfErr, IfOk, IfSome, OnErr, OnOk}
 use Rattle.std.proofs.KnownBytes.{Appends-nil, Appends-trans, Keeps-refl}
+use Rattle.std.specs.declared.net.tcp.TcpStream.{TcpStream}
 use Rattle.nodehash.specs.Sha256.{sha256}
 use Rattle.vrfiface.specs.StandIns.{KeyedAccepts}
 use Rattle.sigiface.specs.StandIn.{KeyedVerifies}
@@ -24,13 +25,11 @@ use Rattle.asking.specs.declared.asker.Asker.{Asker}
 use Rattle.memory.specs.declared.mark.Mark.{Mark}
 use Rattle.asking.specs.declared.order.AskOrder.{AskOrder}
 use Rattle.asking.specs.declared.run.RunEnd.{RunEnd}
-use Rattle.asking.specs.declared.run.RunEnd.TheVariants.{Whole, Stopped, Unwritten, Stale}
+use Rattle.asking.specs.declared.run.RunEnd.TheVariants.{Whole, Stopped, Unwritten}
 use Rattle.asking.specs.declared.said.Said.{Said}
 use Rattle.asking.specs.AskOptions.{AskOptions, ask_keys_of, ask_values}
 use Rattle.asking.specs.Asking.{AsksDirectory, AsksSome, FindsSome, StopsAsking}
-use Rattle.asking.specs.Lateness.{stale_line}
-use Rattle.asking.specs.declared.connecting.Connection.{Connection}
-use Rattle.asking.specs.Ending.{AsksAs, AsksNext, AsksOverSocket, AsksPart, AsksSomeLine, BeginsNone, DoesSome, end_status, EndsEarly, EndsStale, EndsWith, FailsAs, FailsOverSocket, FailsWith, HoldsBack, PreparesSome, RunEndsAt, RunsAs, RunsLate, stopped_status, TakesSomeNew, WritesUnless}
+use Rattle.asking.specs.Ending.{AsksNext, AsksOverSocket, AsksPart, AsksSomeLine, BeginsNone, DoesSome, end_status, EndsEarly, EndsWith, FailsAs, FailsOverSocket, FailsWith, HoldsBack, PreparesSome, RunEndsAt, RunsAs, stopped_status, TakesSomeNew, WritesUnless}
 use Rattle.asking.specs.Exchanges.{ExchangesFrames}
 use Rattle.asking.specs.Following.{StopsAfter, TakesSome}
 use Rattle.asking.specs.Joining.{own_for, BeginsSome, BeginsWatch}
@@ -331,7 +330,7 @@ module _ (hash : List ℕ → List ℕ) (accepted verified : List ℕ → List �
     ends-with background input start old told now (inl (reached, some, is, same)) = inl (reached, some_prepares_with background start reached some, is, same)
     ends-with background input start old told now (inr (ready, next, prepares, asks)) = inr (ready, next, writes_with background start old next ready prepares, asks)
 
-    abbrev whole-with : (stream stream' : T) (input old new : Option (List ℕ)) (status : ℕ)
+    whole-with : (stream stream' : T) (input old new : Option (List ℕ)) (status : ℕ)
         → RunsWhole hash accepted verified exchanged key token options NoState stream stream' input status old new → RunsWhole hash accepted verified exchanged key token options None' stream stream' input status old new
     whole-with stream stream' input old new status run = record {
       background = run.background;
@@ -351,63 +350,44 @@ module _ (hash : List ℕ → List ℕ) (accepted verified : List ℕ → List �
     early-with Before After stream input old leads (told, now, holds, inl none) = (told, now, leads told now holds, inl none)
     early-with Before After stream input old leads (told, now, holds, inr (background, start, begun, at)) = (told, now, leads told now holds, inr (background, start, begun-with background stream start begun, ends-with background input start old told now at))
 
-    late-with : (stream stream' : T) (input old new : Option (List ℕ)) (Holds : ℕ → ℕ → Type 0) (status : ℕ)
-        → RunsLate hash accepted verified exchanged key token options NoState stream stream' input Holds status old new → RunsLate hash accepted verified exchanged key token options None' stream stream' input Holds status old new
-    late-with stream stream' input old new Holds status (run, late) = (whole-with stream stream' input old new status run, late)
-
-    asks-with : (stream stream' : T) (input old new : Option (List ℕ)) (Holds : ℕ → ℕ → Type 0) (ended : RunEnd)
-        → AsksAs hash accepted verified exchanged key token options NoState stream stream' input Holds ended old new → AsksAs hash accepted verified exchanged key token options None' stream stream' input Holds ended old new
-    asks-with stream stream' input old new Holds (Whole status) run = late-with stream stream' input old new Holds status run
-    asks-with stream stream' input old new Holds (Stopped status) run =
+    pub runs_with : (stream stream' : T) (input old new : Option (List ℕ)) (ended : RunEnd)
+        → RunsAs hash accepted verified exchanged key token options NoState stream stream' input ended old new → RunsAs hash accepted verified exchanged key token options None' stream stream' input ended old new
+    runs_with stream stream' input old new (Whole status) run = whole-with stream stream' input old new status run
+    runs_with stream stream' input old new (Stopped status) run =
         early-with (λ told now. (status ≡ stopped_status told.status) × Appends now new told.lines) (λ told now. (status ≡ stopped_status told.status) × Appends now new told.lines) stream input old (λ told now holds. holds) run
-    asks-with stream stream' input old new Holds Unwritten run =
+    runs_with stream stream' input old new Unwritten run =
         early-with (λ told now. (3 ≤ told.status) × WritesSome now new told.lines) (λ told now. (3 ≤ told.status) × WritesSome now new told.lines) stream input old (λ told now holds. holds) run
-    asks-with stream stream' input old new Holds (Stale epoch) run = absurd run
 
     pub fails_with : (stream : T) (input : Option (List ℕ)) (fault : ProgramFault) (old new : Option (List ℕ))
         → FailsAs hash accepted verified exchanged key token options NoState stream input fault old new → FailsAs hash accepted verified exchanged key token options None' stream input fault old new
     fails_with stream input fault old new run =
         early-with (λ told now. (told.status < 3) × WritesUnless (fault ≡ CannotWrite) now new told.lines) (λ told now. (told.status < 3) × WritesUnless (fault ≡ CannotWrite) now new told.lines) stream input old (λ told now holds. holds) run
 
-    stale-with : (stream stream' : T) (input old : Option (List ℕ)) (epoch : ℕ) (Then : Option (List ℕ) → Type 0)
-        → EndsStale hash accepted verified exchanged key token options NoState stream stream' input epoch old Then → EndsStale hash accepted verified exchanged key token options None' stream stream' input epoch old Then
-    stale-with stream stream' input old epoch Then (stale, (now, holds, inl (ended, run))) = (stale, (now, holds, inl (ended, asks-with stream stream' input old now (λ after last. last ≡ epoch) ended run)))
-    stale-with stream stream' input old epoch Then (stale, (now, holds, inr (fault, run))) = (stale, (now, holds, inr (fault, fails_with stream input fault old now run)))
-
-    pub runs_with : (stream stream' : T) (input old new : Option (List ℕ)) (ended : RunEnd)
-        → RunsAs hash accepted verified exchanged key token options NoState stream stream' input ended old new → RunsAs hash accepted verified exchanged key token options None' stream stream' input ended old new
-    runs_with stream stream' input old new (Whole status) run = asks-with stream stream' input old new (λ after last. after < last) (Whole status) run
-    runs_with stream stream' input old new (Stopped status) run = asks-with stream stream' input old new (λ after last. after < last) (Stopped status) run
-    runs_with stream stream' input old new Unwritten (inl run) = inl (asks-with stream stream' input old new (λ after last. after < last) Unwritten run)
-    runs_with stream stream' input old new Unwritten (inr (epoch, run)) = inr (epoch, stale-with stream stream' input old epoch (λ now. WritesSome now new (stale_line epoch)) run)
-    runs_with stream stream' input old new (Stale epoch) run = stale-with stream stream' input old epoch (λ now. Appends now new (stale_line epoch)) run
-
     -- ---- the end
 
     module _ (outcome : Result (Unit {0}) RunFault) (result : Result RunEnd ProgramFault) (stream stream' : T) (input old new new' : Option (List ℕ)) (said : Said) (first : Report) (empty : first ≡ emptied 0) where
-      pub ends_so : (Holds : ℕ → ℕ → Type 0) → OnOk outcome (first ≡ emptied 0 → RunsLate hash accepted verified exchanged key token options NoState stream stream' input Holds said.status old new)
+      pub ends_so : OnOk outcome (first ≡ emptied 0 → RunsWhole hash accepted verified exchanged key token options NoState stream stream' input said.status old new)
           → OnErr outcome (first ≡ emptied 0 → EndsEarly hash accepted verified exchanged key token options NoState stream input old (HoldsBack (WriteFailed outcome) new said))
           → OnOk outcome ((result ≡ Ok (Whole said.status)) × (new' ≡ new)) → OnErr outcome (IfOk result (λ ended. EndsWith (WriteFailed outcome) said new new' ended))
-          → IfOk result (λ ended. AsksAs hash accepted verified exchanged key token options None' stream stream' input Holds ended old new')
-      ends_so Holds = by outcome result
+          → IfOk result (λ ended. RunsAs hash accepted verified exchanged key token options None' stream stream' input ended old new')
+      ends_so = by outcome result
         where
-          by : (outcome : Result (Unit {0}) RunFault) (result : Result RunEnd ProgramFault) → OnOk outcome (first ≡ emptied 0 → RunsLate hash accepted verified exchanged key token options NoState stream stream' input Holds said.status old new)
+          by : (outcome : Result (Unit {0}) RunFault) (result : Result RunEnd ProgramFault) → OnOk outcome (first ≡ emptied 0 → RunsWhole hash accepted verified exchanged key token options NoState stream stream' input said.status old new)
               → OnErr outcome (first ≡ emptied 0 → EndsEarly hash accepted verified exchanged key token options NoState stream input old (HoldsBack (WriteFailed outcome) new said))
               → OnOk outcome ((result ≡ Ok (Whole said.status)) × (new' ≡ new)) → OnErr outcome (IfOk result (λ ended. EndsWith (WriteFailed outcome) said new new' ended))
-              → IfOk result (λ ended. AsksAs hash accepted verified exchanged key token options None' stream stream' input Holds ended old new')
+              → IfOk result (λ ended. RunsAs hash accepted verified exchanged key token options None' stream stream' input ended old new')
           by (Err why) (Err given) whole early ends stops = tt
           by (Err why) (Ok (Whole status)) whole early ends stops = absurd stops
           by (Err why) (Ok (Stopped status)) whole early ends (is, well, wrote) =
               early-with (HoldsBack (WriteFailed (Err why)) new said) (λ told now. (status ≡ stopped_status told.status) × Appends now new' told.lines) stream input old
               (λ told now leaves. (is ∙ ap (λ (n : ℕ). stopped_status n) leaves.0, written_all (WriteFailed (Err why)) now new new' said told leaves well wrote)) (early empty)
-          by (Err why) (Ok (Stale epoch)) whole early ends stops = absurd stops
           by (Err why) (Ok Unwritten) whole early ends (high, wrote) =
               early-with (HoldsBack (WriteFailed (Err why)) new said) (λ told now. (3 ≤ told.status) × WritesSome now new' told.lines) stream input old
               (λ told now leaves. (subst (λ (n : ℕ). 3 ≤ n) leaves.0 high, written_then (WriteFailed (Err why)) now new new' said told leaves wrote)) (early empty)
           by (Ok done) result whole early (is, same) stops =
-              subst (λ (r : Result RunEnd ProgramFault). IfOk r (λ ended. AsksAs hash accepted verified exchanged key token options None' stream stream' input Holds ended old new')) (sym is) (
-              subst (λ (text : Option (List ℕ)). RunsLate hash accepted verified exchanged key token options None' stream stream' input Holds said.status old text) (sym same)
-              (late-with stream stream' input old new Holds said.status (whole empty)))
+              subst (λ (r : Result RunEnd ProgramFault). IfOk r (λ ended. RunsAs hash accepted verified exchanged key token options None' stream stream' input ended old new')) (sym is) (
+              subst (λ (text : Option (List ℕ)). RunsWhole hash accepted verified exchanged key token options None' stream stream' input said.status old text) (sym same)
+              (whole-with stream stream' input old new said.status (whole empty)))
 
       pub fails_so : OnErr outcome (first ≡ emptied 0 → EndsEarly hash accepted verified exchanged key token options NoState stream input old (HoldsBack (WriteFailed outcome) new said))
           → OnOk outcome ((result ≡ Ok (Whole said.status)) × (new' ≡ new)) → OnErr outcome (IfErr result (λ given. FailsWith (WriteFailed outcome) said new new' given))
@@ -428,11 +408,11 @@ module _ (hash : List ℕ → List ℕ) (accepted verified : List ℕ → List �
 
 -- ---- a socket
 
-pub over_socket : (order : AskOrder) (key token : List ℕ) (socket socket' : Connection) (input old new : Option (List ℕ)) (ended : RunEnd) → ask_keys_of (ask_values order) ≡ Some (key, token)
-    → RunsAs sha256 KeyedAccepts KeyedVerifies (ExchangesFrames {T = Connection} (λ _. None) (λ _. None)) key token (ask_values order) (order.state ≡ None) socket socket' input ended old new
+pub over_socket : (order : AskOrder) (key token : List ℕ) (socket socket' : TcpStream) (input old new : Option (List ℕ)) (ended : RunEnd) → ask_keys_of (ask_values order) ≡ Some (key, token)
+    → RunsAs sha256 KeyedAccepts KeyedVerifies (ExchangesFrames {T = TcpStream} (λ _. None) (λ _. None)) key token (ask_values order) (order.state ≡ None) socket socket' input ended old new
     → AsksOverSocket (ask_values order) input (end_status ended) old new
 over_socket order key token socket socket' input old new ended are run =
-    inr (
+    inr (inr (
       key,
       token,
       are,
@@ -440,12 +420,12 @@ over_socket order key token socket socket' input old new ended are run =
       socket',
       ended,
       refl,
-      runs_with sha256 KeyedAccepts KeyedVerifies (ExchangesFrames {T = Connection} (λ _. None) (λ _. None)) key token (ask_values order) (order.state ≡ None) ((ask_values order).state ≡ None)
+      runs_with sha256 KeyedAccepts KeyedVerifies (ExchangesFrames {T = TcpStream} (λ _. None) (λ _. None)) key token (ask_values order) (order.state ≡ None) ((ask_values order).state ≡ None)
           (none_before (λ text. text.now) order.state) (λ none. ap (λ (state : Option (Bor (List ℕ))). option_map (λ text. text.now) state) none) socket socket' input old new ended run,
-    )
+    ))
 
-pub fails_over_socket : (order : AskOrder) (key token : List ℕ) (socket : Connection) (input : Option (List ℕ)) (fault : ProgramFault) (old new : Option (List ℕ)) → ask_keys_of (ask_values order) ≡ Some (key, token)
-    → FailsAs sha256 KeyedAccepts KeyedVerifies (ExchangesFrames {T = Connection} (λ _. None) (λ _. None)) key token (ask_values order) (order.state ≡ None) socket input fault old new
+pub fails_over_socket : (order : AskOrder) (key token : List ℕ) (socket : TcpStream) (input : Option (List ℕ)) (fault : ProgramFault) (old new : Option (List ℕ)) → ask_keys_of (ask_values order) ≡ Some (key, token)
+    → FailsAs sha256 KeyedAccepts KeyedVerifies (ExchangesFrames {T = TcpStream} (λ _. None) (λ _. None)) key token (ask_values order) (order.state ≡ None) socket input fault old new
     → FailsOverSocket (ask_values order) input fault old new
 fails_over_socket order key token socket input fault old new are run =
     inr (inr (
@@ -453,7 +433,7 @@ fails_over_socket order key token socket input fault old new are run =
       token,
       are,
       socket,
-      fails_with sha256 KeyedAccepts KeyedVerifies (ExchangesFrames {T = Connection} (λ _. None) (λ _. None)) key token (ask_values order) (order.state ≡ None) ((ask_values order).state ≡ None)
+      fails_with sha256 KeyedAccepts KeyedVerifies (ExchangesFrames {T = TcpStream} (λ _. None) (λ _. None)) key token (ask_values order) (order.state ≡ None) ((ask_values order).state ≡ None)
           (none_before (λ text. text.now) order.state) (λ none. ap (λ (state : Option (Bor (List ℕ))). option_map (λ text. text.now) state) none) socket input fault old new run,
     ))
 

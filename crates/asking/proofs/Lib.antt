@@ -15,7 +15,6 @@ pub mod Handed
 pub mod Heard
 pub mod HonestRoots
 pub mod Joined
-pub mod Late
 pub mod Left
 pub mod Listed
 pub mod Marks

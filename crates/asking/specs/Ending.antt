@@ -1,6 +1,7 @@
 -- How a run ends: whole, stopped, or with a fault.
-use Rattle.std.specs.Prelude.{◌≡◌, ◌⊎◌, ◌↔◌, ◌<◌, ◌≤◌, ℕ, List, [], ◌∷◌, ◌++◌, nat_lt, if◌then◌else◌, Option, Some, None, IfSome}
+use Rattle.std.specs.Prelude.{◌≡◌, ◌⊎◌, ◌<◌, ◌≤◌, ℕ, List, [], ◌∷◌, ◌++◌, nat_lt, if◌then◌else◌, Option, Some, None, IfSome}
 use Rattle.std.specs.Io.KnownBytes.{Appends, Keeps}
+use Rattle.std.specs.declared.net.tcp.TcpStream.{TcpStream}
 use Rattle.nodehash.specs.Sha256.{sha256}
 use Rattle.vrfiface.specs.StandIns.{KeyedAccepts}
 use Rattle.sigiface.specs.StandIn.{KeyedVerifies}
@@ -17,19 +18,13 @@ use Rattle.asking.specs.Asking.{AsksSome, FindsSome, StopsAsking}
 use Rattle.asking.specs.Exchanges.{ExchangesFrames}
 use Rattle.asking.specs.Following.{StopsAfter, TakesSome}
 use Rattle.asking.specs.Joining.{own_for, BeginsSome}
-use Rattle.asking.specs.Lateness.{stale_line, subject_in, IsLast, IsLimitOf, IsStale}
-use Rattle.asking.specs.Reports.{Report, report_of}
+use Rattle.asking.specs.Reports.{Report}
 use Rattle.asking.specs.Runs.{AsksLines, StartsRun, DoesLine, DoesLineNoting, emptied, Background, lines_asked, Prepares, RunsWhole, TakesNew, Writes}
 use Rattle.asking.specs.Scenes.{Scene, StopsAtHead}
 use Rattle.asking.specs.Settling.{IsSettling, Settles, SettlesPart}
-use Rattle.asking.specs.Standing.{IsFresh}
 use Rattle.asking.specs.Visiting.{TestsSome}
-use Rattle.asking.specs.declared.connecting.Connection.{Connection}
-use Rattle.asking.specs.declared.lateness.Subject.{Subject}
-use Rattle.asking.specs.declared.run.Run.{Run}
-use Rattle.memory.specs.declared.mark.Mark.{Mark}
 use Rattle.asking.specs.declared.run.RunEnd.{RunEnd}
-use Rattle.asking.specs.declared.run.RunEnd.TheVariants.{Whole, Stopped, Unwritten, Stale}
+use Rattle.asking.specs.declared.run.RunEnd.TheVariants.{Whole, Stopped, Unwritten}
 use Rattle.asking.specs.declared.said.Said.{Said}
 use Rattle.asking.specs.declared.said.TheConstants.{CAUGHT, REFUSED}
 
@@ -38,11 +33,6 @@ abbrev pub end_status : RunEnd → ℕ
 end_status (Whole status) = status
 end_status (Stopped status) = status
 end_status Unwritten = CAUGHT
-end_status (Stale epoch) = CAUGHT
-
--- a run of an order that begins
-abbrev pub IsNewFor : AskOptions → Run → Type 0
-IsNewFor options run = ((run.state ≡ None) ↔ (options.state ≡ None)) × IsFresh run.state × (report_of run.said ≡ emptied 0) × IsLimitOf options run.limit
 
 -- the status of a run that was stopped: that of evidence or an alarm, if some was told, or else that of a refusal
 abbrev pub stopped_status : ℕ → ℕ
@@ -65,7 +55,6 @@ abbrev pub EndsWith : Type 0 → Said → Option (List ℕ) → Option (List ℕ
 EndsWith Failed said old new (Whole status) = ⊥
 EndsWith Failed said old new (Stopped status) = (status ≡ stopped_status said.status) × (¬ Failed) × Appends old new said.text.items
 EndsWith Failed said old new Unwritten = (CAUGHT ≤ said.status) × WritesSome old new said.text.items
-EndsWith Failed said old new (Stale epoch) = ⊥
 
 -- and so does a fault at its end
 abbrev pub FailsWith : Type 0 → Said → Option (List ℕ) → Option (List ℕ) → ProgramFault → Type 0
@@ -146,59 +135,33 @@ module _ (hash : List ℕ → List ℕ) (accepted verified : List ℕ → List �
       × ((BeginsNone verified exchanged key stream (emptied 0) told × (now ≡ old))
       ⊎ ((background : Background) × (start : Scene T) × StartsRun hash accepted verified exchanged key token HasNoState stream background start × RunEndsAt background options HasNoState input start old told now))
 
-  -- the last epoch, where it is wanted, is known at the end of a run, and this holds of what it has to be above and of it
-  abbrev pub HasLast : AskOptions → List Mark → Scene T → (ℕ → ℕ → Type 0) → Type 0
-  HasLast options marks last Holds = (after : ℕ) → options.after ≡ Some after → (about : Subject) → subject_in options.words ≡ Some about
-      → (epoch : ℕ) × IsLast marks last.client last.monitors about epoch × Holds after epoch
-
-  -- a whole run, with such a last epoch at its end
-  abbrev pub RunsLate : List ℕ → List ℕ → AskOptions → Type 0 → T → T → Option (List ℕ) → (ℕ → ℕ → Type 0) → ℕ → Option (List ℕ) → Option (List ℕ) → Type 0
-  RunsLate key token options HasNoState stream stream' input Holds status old new =
-      (run : RunsWhole hash accepted verified exchanged key token options HasNoState stream stream' input status old new) × HasLast options run.background.marks run.last Holds
-
-  -- All was asked, or this was stopped: all that was told is then written, and the status is that of evidence or an alarm
-  -- exactly where some was told. Or a write failed, and some was told: a beginning is written. Of the last epoch of a whole
-  -- run something holds.
-  abbrev pub AsksAs : List ℕ → List ℕ → AskOptions → Type 0 → T → T → Option (List ℕ) → (ℕ → ℕ → Type 0) → RunEnd → Option (List ℕ) → Option (List ℕ) → Type 0
-  AsksAs key token options HasNoState stream stream' input Holds (Whole status) old new = RunsLate key token options HasNoState stream stream' input Holds status old new
-  AsksAs key token options HasNoState stream stream' input Holds (Stopped status) old new =
+  -- A run that is whole, or was stopped: all that was told is then written, and the status is that of evidence or an alarm
+  -- exactly where some was told. Or a write failed, and some was told: a beginning is written.
+  abbrev pub RunsAs : List ℕ → List ℕ → AskOptions → Type 0 → T → T → Option (List ℕ) → RunEnd → Option (List ℕ) → Option (List ℕ) → Type 0
+  RunsAs key token options HasNoState stream stream' input (Whole status) old new = RunsWhole hash accepted verified exchanged key token options HasNoState stream stream' input status old new
+  RunsAs key token options HasNoState stream stream' input (Stopped status) old new =
       EndsEarly key token options HasNoState stream input old (λ told now. (status ≡ stopped_status told.status) × Appends now new told.lines)
-  AsksAs key token options HasNoState stream stream' input Holds Unwritten old new =
+  RunsAs key token options HasNoState stream stream' input Unwritten old new =
       EndsEarly key token options HasNoState stream input old (λ told now. (CAUGHT ≤ told.status) × WritesSome now new told.lines)
-  AsksAs key token options HasNoState stream stream' input Holds (Stale epoch) old new = ⊥
 
   -- a run that ends with a fault: neither evidence nor an alarm was told, and all that was told is written unless a write failed
   abbrev pub FailsAs : List ℕ → List ℕ → AskOptions → Type 0 → T → Option (List ℕ) → ProgramFault → Option (List ℕ) → Option (List ℕ) → Type 0
   FailsAs key token options HasNoState stream input fault old new =
       EndsEarly key token options HasNoState stream input old (λ told now. (told.status < CAUGHT) × WritesUnless (fault ≡ CannotWrite) now new told.lines)
 
-  -- it is asked in one of these ways, with a last epoch that the order does not want, and this holds of what is written then
-  abbrev pub EndsStale : List ℕ → List ℕ → AskOptions → Type 0 → T → T → Option (List ℕ) → ℕ → Option (List ℕ) → (Option (List ℕ) → Type 0) → Type 0
-  EndsStale key token options HasNoState stream stream' input epoch old Then = IsStale options epoch × ((now : Option (List ℕ)) × Then now
-      × (((ended : RunEnd) × AsksAs key token options HasNoState stream stream' input (λ after last. last ≡ epoch) ended old now)
-      ⊎ ((fault : ProgramFault) × FailsAs key token options HasNoState stream input fault old now)))
-
-  -- A run that was asked so. Where the last epoch is wanted, it is above what the order says, or this is told behind all else,
-  -- wholly, or in part where a write failed.
-  abbrev pub RunsAs : List ℕ → List ℕ → AskOptions → Type 0 → T → T → Option (List ℕ) → RunEnd → Option (List ℕ) → Option (List ℕ) → Type 0
-  RunsAs key token options HasNoState stream stream' input (Whole status) old new = AsksAs key token options HasNoState stream stream' input (λ after last. after < last) (Whole status) old new
-  RunsAs key token options HasNoState stream stream' input (Stopped status) old new = AsksAs key token options HasNoState stream stream' input (λ after last. after < last) (Stopped status) old new
-  RunsAs key token options HasNoState stream stream' input Unwritten old new =
-      AsksAs key token options HasNoState stream stream' input (λ after last. after < last) Unwritten old new
-      ⊎ ((epoch : ℕ) × EndsStale key token options HasNoState stream stream' input epoch old (λ now. WritesSome now new (stale_line epoch)))
-  RunsAs key token options HasNoState stream stream' input (Stale epoch) old new = EndsStale key token options HasNoState stream stream' input epoch old (λ now. Appends now new (stale_line epoch))
-
--- A run over a connection, of which definitions know neither whether it came about, nor what it took or will give: a name is
--- settled, and nothing is asked; or the run is one for some frames that came.
+-- A run over a socket, of which definitions know neither what it took nor what it will give: nothing is written, as
+-- where no connection came about; or a name is settled, and nothing is asked; or the run is one for some frames that
+-- came.
 abbrev pub AsksOverSocket : AskOptions → Option (List ℕ) → ℕ → Option (List ℕ) → Option (List ℕ) → Type 0
-AsksOverSocket options input status old new = ((name : List ℕ) × IsSettling options name × Settles name status old new)
-    ⊎ ((key token : List ℕ) × (ask_keys_of options ≡ Some (key, token)) × (socket socket' : Connection) × (ended : RunEnd) × (status ≡ end_status ended)
-    × RunsAs sha256 KeyedAccepts KeyedVerifies (ExchangesFrames {T = Connection} (λ _. None) (λ _. None)) key token options (options.state ≡ None) socket socket' input ended old new)
+AsksOverSocket options input status old new = ((status ≡ REFUSED) × Keeps old new)
+    ⊎ (((name : List ℕ) × IsSettling options name × Settles name status old new)
+    ⊎ ((key token : List ℕ) × (ask_keys_of options ≡ Some (key, token)) × (socket socket' : TcpStream) × (ended : RunEnd) × (status ≡ end_status ended)
+    × RunsAs sha256 KeyedAccepts KeyedVerifies (ExchangesFrames {T = TcpStream} (λ _. None) (λ _. None)) key token options (options.state ≡ None) socket socket' input ended old new))
 
 -- one that ends with a fault: nothing is written, or some of what settling a name tells, or the run is one for some
 -- frames that came
 abbrev pub FailsOverSocket : AskOptions → Option (List ℕ) → ProgramFault → Option (List ℕ) → Option (List ℕ) → Type 0
 FailsOverSocket options input fault old new = Keeps old new
     ⊎ (((name : List ℕ) × IsSettling options name × SettlesPart name old new)
-    ⊎ ((key token : List ℕ) × (ask_keys_of options ≡ Some (key, token)) × (socket : Connection)
-    × FailsAs sha256 KeyedAccepts KeyedVerifies (ExchangesFrames {T = Connection} (λ _. None) (λ _. None)) key token options (options.state ≡ None) socket input fault old new))
+    ⊎ ((key token : List ℕ) × (ask_keys_of options ≡ Some (key, token)) × (socket : TcpStream)
+    × FailsAs sha256 KeyedAccepts KeyedVerifies (ExchangesFrames {T = TcpStream} (λ _. None) (λ _. None)) key token options (options.state ≡ None) socket input fault old new))

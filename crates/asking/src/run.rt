@@ -7,9 +7,8 @@ ghost use Rattle.textio.specs.declared.program_fault.ProgramFault.TheVariants.{C
 ghost use Rattle.play.specs.Scripts.{line_of, line_seen};
 ghost use Rattle.asking.specs.AskOptions.{ask_values};
 ghost use Rattle.asking.specs.Askers.{asker_changes};
-ghost use Rattle.asking.specs.Ending.{AsksPart, AsksSomeLine, BeginsNone, DoesSome, DoesSomeNoting, end_status, EndsEarly, EndsWith, FailsWith, HoldsBack, IsNewFor, PreparesSome, RunsLate, TakesSomeNew};
+ghost use Rattle.asking.specs.Ending.{AsksPart, AsksSomeLine, BeginsNone, DoesSome, DoesSomeNoting, end_status, EndsEarly, EndsWith, FailsWith, HoldsBack, PreparesSome, TakesSomeNew};
 ghost use Rattle.asking.specs.Exchanges.{ExchangesFrames};
-ghost use Rattle.asking.specs.Lateness.{Finds, HasNoted, IsLimitOf, IsSameLimit};
 ghost use Rattle.asking.specs.Keeping.{AddsTo, IsSettled, KeepsUp, SavesTo};
 ghost use Rattle.asking.specs.Recalled.{evidence_again};
 ghost use Rattle.asking.specs.Reports.{report_of, told_after, Report};
@@ -27,7 +26,6 @@ ghost use Rattle.memory.specs.Memories.{Memory};
 
 use crate::ask_fault::RunFault;
 use crate::keeper::Keeper;
-use crate::lateness::Limit;
 use crate::said::{CAUGHT, REFUSED};
 use crate::settling::tell_settled;
 use crate::state::State;
@@ -42,8 +40,8 @@ use std::io::{BufRead, Read, Write};
 use textio::{ProgramFault, write_text};
 use vrfiface::VufCheck;
 
-/// How a run ended, with its status: 3 if evidence or an alarm is told, also one of an earlier run, or the last epoch is not
-/// as late as it is wanted; else 1 if the directory or the client refused; else 0.
+/// How a run ended, with its status: 3 if evidence or an alarm is told, also one of an earlier run; else 1 if the
+/// directory or the client refused; else 0.
 #[derive(Clone, Copy, Debug, PartialEq, Eq)]
 pub enum RunEnd {
     /// All was asked.
@@ -51,11 +49,8 @@ pub enum RunEnd {
     /// No reply came, new roots were refused, or a fault followed evidence or an alarm. The status is 1, or 3 after evidence
     /// or an alarm.
     Stopped(u8),
-    /// A write failed, and evidence or an alarm had been found, or a last epoch that is not late enough, of which perhaps not
-    /// all is told. The status is 3.
+    /// A write failed, and evidence or an alarm had been found, of which perhaps not all is told. The status is 3.
     Unwritten,
-    /// The last epoch is this one, which is not as late as it is wanted. This is told behind all else. The status is 3.
-    Stale(u64),
 }
 
 impl RunEnd {
@@ -65,7 +60,7 @@ impl RunEnd {
     {
         match self {
             RunEnd::Whole(status) | RunEnd::Stopped(status) => status,
-            RunEnd::Unwritten | RunEnd::Stale(_) => CAUGHT,
+            RunEnd::Unwritten => CAUGHT,
         }
     }
 }
@@ -76,14 +71,10 @@ pub(crate) struct Run {
     alloc: Global,
     state: Option<State>,
     said: Said,
-    /// What its last epoch has to be above.
-    limit: Limit,
-    /// The words for a directory that does not answer.
-    silence: &'static [u8],
 }
 
 /// The line of the words.
-pub(crate) fn line_of_words(alloc: Global, order: AskOrder<'_>) -> Result<Vec<u8>, AllocError>
+fn line_of_words(alloc: Global, order: AskOrder<'_>) -> Result<Vec<u8>, AllocError>
     ensures { IfOk result (λ line. line.items ≡ words_line (ask_values order.entry).words) }
 {
     let mut line = Vec::new(alloc);
@@ -107,18 +98,12 @@ fn push_word(line: &mut Vec<u8>, word: Option<&str>) -> Result<(), AllocError>
 }
 
 impl Run {
-    /// A run that has a state, or none, with a limit, and with the words for a directory that does not answer.
-    pub(crate) fn new(
-        alloc: Global,
-        has_state: bool,
-        limit: Limit,
-        silence: &'static [u8],
-    ) -> Self
+    /// A run that has a state, or none.
+    pub(crate) fn new(alloc: Global, has_state: bool) -> Self
         ensures none { has_state ≡ false → result.state ≡ None }
         ensures some { result.state ≡ None → has_state ≡ false }
         ensures fresh { IsFresh result.state }
         ensures said { report_of result.said ≡ emptied 0 }
-        ensures limit { result.limit ≡ limit }
     {
         let state = if has_state {
             Some(State::new(alloc))
@@ -129,28 +114,7 @@ impl Run {
             alloc,
             state,
             said: Said::new(alloc),
-            limit,
-            silence,
         }
-    }
-
-    /// The run of an order.
-    pub(crate) fn of(
-        alloc: Global,
-        order: &AskOrder<'_>,
-        silence: &'static [u8],
-    ) -> Result<Self, AllocError>
-        ensures { IfOk result (IsNewFor (ask_values order.now)) }
-    {
-        let limit = Limit::of(alloc, order)?;
-        Ok(Run::new(alloc, order.state.is_some(), limit, silence))
-    }
-
-    /// The last epoch, if it is not as late as it is wanted.
-    pub(crate) fn stale(&self) -> Option<u64>
-        ensures { Finds (self.now).limit result }
-    {
-        self.limit.stale()
     }
 
     /// Ends a run with its status. That of evidence or an alarm stays, even if a fault follows.
@@ -165,7 +129,6 @@ impl Run {
         ensures failed { OnErr outcome (IfErr result (FailsWith (outcome ≡ Err (Program CannotWrite)) (self.old).said (W.contents writer.old) (W.contents writer.new))) }
         ensures gives { IfErr result (λ given. IsFaultOfSaving given ⊎ (outcome ≡ Err (Program given))) }
         ensures grows { Grows (W.contents writer.old) (W.contents writer.new) }
-        ensures limit { (self.new).limit ≡ (self.old).limit }
     {
         let fault = match outcome {
             Ok(()) => return Ok(RunEnd::Whole(self.said.status)),
@@ -198,7 +161,6 @@ impl Run {
         ensures unwritten { IfErr result (λ given. ((fault ≢ Program CannotWrite) × Appends (W.contents writer.old) (W.contents writer.new) (self.old).said.text.items) ⊎ (given ≡ CannotWrite)) }
         ensures gives { IfErr result (λ given. IsFaultOfSaving given ⊎ (fault ≡ Program given)) }
         ensures grows { Grows (W.contents writer.old) (W.contents writer.new) }
-        ensures limit { (self.new).limit ≡ (self.old).limit }
     {
         match fault {
             RunFault::Program(fault) => {
@@ -212,7 +174,7 @@ impl Run {
             RunFault::Ask(AskFault::Stopped) => self.write(writer, errors),
             RunFault::Ask(AskFault::NoReply) => {
                 // What was told is written even if memory runs out here.
-                let noted = self.said.words.extend_from_slice(self.silence);
+                let noted = self.said.words.extend_from_slice(b"no reply\n");
                 self.write(writer, errors)?;
                 noted?;
                 Ok(())
@@ -241,8 +203,8 @@ impl Run {
         H: NodeHash + Drop,
         V: VufCheck + Drop,
         S: Verifier + Drop,
-        ensures runs { OnOk result (report_of (self.old).said ≡ emptied 0 → IsLimitOf (ask_values order.entry) (self.old).limit → RunsLate H.digest_of V.accepted S.verified (ExchangesFrames T.contents T.remaining) keys.now.signing_key keys.now.token (ask_values order.entry)
-            ((self.old).state ≡ None) stream.old stream.new (R.remaining reader.old) (λ after last. (self.new).limit.last ≡ Some last) (self.new).said.status (W.contents writer.old) (W.contents writer.new)) }
+        ensures runs { OnOk result (report_of (self.old).said ≡ emptied 0 → RunsWhole H.digest_of V.accepted S.verified (ExchangesFrames T.contents T.remaining) keys.now.signing_key keys.now.token (ask_values order.entry)
+            ((self.old).state ≡ None) stream.old stream.new (R.remaining reader.old) (self.new).said.status (W.contents writer.old) (W.contents writer.new)) }
         ensures faults { IfErr result (StopsOr (IsFaultWith (¬ ((self.old).state ≡ None)) (AsksInput (ask_values order.entry).words)
             (λ number. IfSome (lines_asked (ask_values order.entry).words (R.remaining reader.old)) (λ lines. IsFirstUnasked 1 lines number)))) }
         ensures part { OnErr result (report_of (self.old).said ≡ emptied 0 → EndsEarly H.digest_of V.accepted S.verified (ExchangesFrames T.contents T.remaining) keys.now.signing_key keys.now.token (ask_values order.entry)
@@ -252,7 +214,6 @@ impl Run {
         ensures unread { ¬ AsksInput (ask_values order.entry).words → reader.new ≡ reader.old }
         ensures grows { Grows (W.contents writer.old) (W.contents writer.new) }
         ensures rises { (self.old).said.status ≤ (self.new).said.status }
-        ensures limit { IsSameLimit (self.old).limit (self.new).limit }
     {
         let asked = self.ask_all(keeper, stream, checks, keys, order, reader, writer, errors);
         self.leave(asked, keeper, writer)
@@ -279,8 +240,8 @@ impl Run {
         H: NodeHash + Drop,
         V: VufCheck + Drop,
         S: Verifier + Drop,
-        ensures runs { OnOk result (report_of (self.old).said ≡ emptied 0 → IsLimitOf (ask_values order.entry) (self.old).limit → RunsLate H.digest_of V.accepted S.verified (ExchangesFrames T.contents T.remaining) keys.now.signing_key keys.now.token (ask_values order.entry)
-            ((self.old).state ≡ None) stream.old stream.new (R.remaining reader.old) (λ after last. (self.new).limit.last ≡ Some last) (self.new).said.status (W.contents writer.old) (W.contents writer.new)) }
+        ensures runs { OnOk result (report_of (self.old).said ≡ emptied 0 → RunsWhole H.digest_of V.accepted S.verified (ExchangesFrames T.contents T.remaining) keys.now.signing_key keys.now.token (ask_values order.entry)
+            ((self.old).state ≡ None) stream.old stream.new (R.remaining reader.old) (self.new).said.status (W.contents writer.old) (W.contents writer.new)) }
         ensures faults { IfErr result (StopsOr (IsFaultWith (¬ ((self.old).state ≡ None)) (AsksInput (ask_values order.entry).words)
             (λ number. IfSome (lines_asked (ask_values order.entry).words (R.remaining reader.old)) (λ lines. IsFirstUnasked 1 lines number)))) }
         ensures part { report_of (self.old).said ≡ emptied 0 → EndsEarly H.digest_of V.accepted S.verified (ExchangesFrames T.contents T.remaining) keys.now.signing_key keys.now.token (ask_values order.entry)
@@ -290,7 +251,6 @@ impl Run {
         ensures unread { ¬ AsksInput (ask_values order.entry).words → reader.new ≡ reader.old }
         ensures grows { Grows (W.contents writer.old) (W.contents writer.new) }
         ensures rises { (self.old).said.status ≤ (self.new).said.status }
-        ensures limit { IsSameLimit (self.old).limit (self.new).limit }
     {
         let mut asker = self.begin(keeper, stream, checks, keys)?;
         self.prepare(&mut asker, keeper, stream, writer, errors)?;
@@ -315,7 +275,6 @@ impl Run {
         ensures err { IfErr result (λ fault. (asked ≡ Err fault) ⊎ ((asked ≡ Ok tt) × StopsOr IsFaultOfSaving fault)) }
         ensures said { (self.new).said ≡ (self.old).said }
         ensures hands { (acts : List Act) → K.has keeper.old acts → LeavesState (K.has keeper.new) acts (self.old).state (W.contents writer.now) }
-        ensures limit { (self.new).limit ≡ (self.old).limit }
     {
         let Some(state) = self.state.as_mut() else {
             return asked;
@@ -352,18 +311,13 @@ impl Run {
             → IsLeft H.digest_of V.accepted S.verified lines keys.now.signing_key old (λ done. K.has keeper.new (done ++ acts)) (self.new).state (Some old)) }
         ensures still { ((self.new).state ≡ None) ↔ ((self.old).state ≡ None) }
         ensures rises { (self.old).said.status ≤ (self.new).said.status }
-        ensures limit { IsSameLimit (self.old).limit (self.new).limit }
     {
         match self.load(keeper, checks, keys)? {
             Ok(asker) => {
-                self.limit.note(&asker);
                 self.tell_evidence(&asker.known)?;
                 Ok(asker)
             }
-            Err(unused) => {
-                self.limit.begin();
-                self.begin_at_head(stream, unused, keys)
-            }
+            Err(unused) => self.begin_at_head(stream, unused, keys),
         }
     }
 
@@ -372,7 +326,6 @@ impl Run {
         ensures tells { OnOk result (report_of (self.new).said ≡ told_after (report_of (self.old).said) (evidence_again known.now)) }
         ensures untold { OnErr result (report_of (self.new).said ≡ report_of (self.old).said) }
         ensures still { (self.new).state ≡ (self.old).state }
-        ensures limit { (self.new).limit ≡ (self.old).limit }
     {
         let now = evidence_said(self.alloc, known)?;
         self.said.join(now)
@@ -400,7 +353,6 @@ impl Run {
         ensures err { IfErr result IsFaultOfState }
         ensures still { ((self.new).state ≡ None) ↔ ((self.old).state ≡ None) }
         ensures said { report_of (self.new).said ≡ report_of (self.old).said }
-        ensures limit { (self.new).limit ≡ (self.old).limit }
     {
         match self.state.as_mut() {
             Some(state) => state.load(keeper, checks, keys.signing_key, keys.token, &mut self.said),
@@ -428,7 +380,6 @@ impl Run {
         ensures faults { IfErr result (StopsOr (λ fault. fault ≡ OutOfMemory)) }
         ensures still { (self.new).state ≡ (self.old).state }
         ensures rises { (self.old).said.status ≤ (self.new).said.status }
-        ensures limit { (self.new).limit ≡ (self.old).limit }
     {
         let said = &mut self.said;
         let asker = Asker::start_at_head(
@@ -473,8 +424,6 @@ impl Run {
         ensures faults { IfErr result (StopsOr IsFaultOfSaving) }
         ensures grows { Grows (W.contents writer.old) (W.contents writer.new) }
         ensures rises { (self.old).said.status ≤ (self.new).said.status }
-        ensures limit { IsSameLimit (self.old).limit (self.new).limit }
-        ensures notes { OnOk result (HasNoted asker.new (self.new).limit) }
     {
         let prepared = self.look_around(asker, stream);
         self.settle(asker, prepared, keeper, writer, errors)
@@ -499,7 +448,6 @@ impl Run {
         ensures still { (self.new).state ≡ (self.old).state }
         ensures changes { asker.new.changes ≡ asker.old.changes }
         ensures rises { (self.old).said.status ≤ (self.new).said.status }
-        ensures limit { (self.new).limit ≡ (self.old).limit }
     {
         self.take_new(asker, stream)?;
         asker.test_promises(stream, &mut self.said)
@@ -526,7 +474,6 @@ impl Run {
         ensures still { (self.new).state ≡ (self.old).state }
         ensures changes { asker.new.changes ≡ asker.old.changes }
         ensures rises { (self.old).said.status ≤ (self.new).said.status }
-        ensures limit { (self.new).limit ≡ (self.old).limit }
     {
         if self.state.is_none() {
             return asker.follow(stream, &mut self.said);
@@ -562,7 +509,6 @@ impl Run {
         ensures faults { IfErr result (StopsOr (IsFaultWith ⊥ ⊤ (λ number. IfSome (R.remaining reader.old) (λ input. IsFirstUnasked 1 (lines_of input) number)))) }
         ensures grows { Grows (W.contents writer.old) (W.contents writer.new) }
         ensures rises { (self.old).said.status ≤ (self.new).said.status }
-        ensures limit { IsSameLimit (self.old).limit (self.new).limit }
     {
         let mut line = Vec::new(self.alloc);
         // Every loop of Rattle has an end: this one's is past any input.
@@ -606,8 +552,6 @@ impl Run {
         ensures faults { IfErr result (StopsOr (λ fault. IsFaultOfSaving fault ⊎ ((fault ≡ NotACommand number) × CannotBeAsked (line_of line.now)))) }
         ensures grows { Grows (W.contents writer.old) (W.contents writer.new) }
         ensures rises { (self.old).said.status ≤ (self.new).said.status }
-        ensures limit { IsSameLimit (self.old).limit (self.new).limit }
-        ensures notes { OnOk result (HasNoted asker.new (self.new).limit) }
     {
         let not_a_command = Err(RunFault::Program(ProgramFault::NotACommand(number)));
         let Some(line) = read_line(self.alloc, line)? else {
@@ -650,8 +594,6 @@ impl Run {
         ensures faults { IfErr result (StopsOr IsFaultOfSaving) }
         ensures grows { Grows (W.contents writer.old) (W.contents writer.new) }
         ensures status { (self.new).said.status ≡ (self.old).said.status }
-        ensures limit { IsSameLimit (self.old).limit (self.new).limit }
-        ensures notes { OnOk result (HasNoted asker.now (self.new).limit) }
     {
         let told = Vec::from_slice(self.alloc, &self.said.text)?;
         self.add(asker, &told, keeper, writer)?;
@@ -666,7 +608,6 @@ impl Run {
     fn explain_stop(&mut self, head: u64, asked: &Result<(), AskFault>) -> Result<(), AllocError>
         ensures said { report_of (self.new).said ≡ report_of (self.old).said }
         ensures still { (self.new).state ≡ (self.old).state }
-        ensures limit { (self.new).limit ≡ (self.old).limit }
     {
         if *asked != Err(AskFault::Stopped) {
             return Ok(());
@@ -697,7 +638,6 @@ impl Run {
         ensures up_to { OnOk result (IfSome (self.new).state (λ state. IsUpTo asker.now.client state.epoch)) }
         ensures said { (self.new).said ≡ (self.old).said }
         ensures err { IfErr result IsFaultOfSaving }
-        ensures limit { (self.new).limit ≡ (self.old).limit }
     {
         match self.state.as_mut() {
             Some(state) => state.add(keeper, writer, asker, told),
@@ -705,8 +645,8 @@ impl Run {
         }
     }
 
-    /// Notes the last epoch, and adds the alarms and how far names were watched to the files of the state, if there is one,
-    /// once this is told. Where memory ran out in a question, an alarm may be untold, and nothing is noted or added.
+    /// Adds the alarms and how far names were watched to the files of the state, if there is one, once this is told. Where
+    /// memory ran out in a question, an alarm may be untold, and nothing is added.
     fn save<K, W, H, V, S>(
         &mut self,
         asker: &Asker<H, V, S>,
@@ -729,13 +669,10 @@ impl Run {
         ensures none { asked.now ≡ Err NoMemory → ((self.new).state ≡ (self.old).state) × (keeper.new ≡ keeper.old) }
         ensures said { (self.new).said ≡ (self.old).said }
         ensures err { IfErr result IsFaultOfSaving }
-        ensures limit { IsSameLimit (self.old).limit (self.new).limit }
-        ensures notes { asked.now ≢ Err NoMemory → HasNoted asker.now (self.new).limit }
     {
         if *asked == Err(AskFault::OutOfMemory) {
             return Ok(());
         }
-        self.limit.note(asker);
         match self.state.as_mut() {
             Some(state) => state.save(keeper, writer, asker, told),
             None => Ok(()),
@@ -840,7 +777,6 @@ impl Run {
         ensures status { (self.new).said.status ≡ (self.old).said.status }
         ensures err { IfErr result (λ fault. fault ≡ CannotWrite) }
         ensures grows { Grows (W.contents writer.old) (W.contents writer.new) }
-        ensures limit { (self.new).limit ≡ (self.old).limit }
     {
         let told = write_text(writer, &self.said.text);
         self.said.text.clear();

@@ -13,7 +13,7 @@ use Rattle.asking.proofs.Left.{asked_left, failed_left, faults_left, leaves_told
 use Rattle.asking.proofs.run.Run.ask.Goals as goal
 
 pub returns-clause-runs : goal.returns-clause-runs
-returns-clause-runs g c = asked_left _ c.ask_all-asked.result c.leave.result c.leave.ensures.ok (rw (← c.leave.ensures.said, ← c.leave.ensures.limit) at c.ask_all-asked.ensures.runs)
+returns-clause-runs g c = asked_left _ c.ask_all-asked.result c.leave.result c.leave.ensures.ok (rw (← c.leave.ensures.said) at c.ask_all-asked.ensures.runs)
 
 pub returns-clause-faults : goal.returns-clause-faults
 returns-clause-faults g c =

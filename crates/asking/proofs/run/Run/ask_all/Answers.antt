@@ -1,5 +1,5 @@
 use Rattle.std.proofs.Common.{◌≡◌, ◌⊎◌, ◌∷◌, [], Err, None, refl, rules}
-use Rattle.std.specs.Prelude.{List, ℕ, IfSome, Ok, Option, Some}
+use Rattle.std.specs.Prelude.{List, ℕ, IfSome, Ok, Option}
 use Rattle.textio.specs.declared.program_fault.ProgramFault.TheVariants.{CannotWrite, OutOfMemory}
 use Rattle.asking.specs.AskOptions.{ask_values}
 use Rattle.asking.specs.Ending.{AsksPart, HoldsBack}
@@ -11,8 +11,6 @@ use Rattle.asking.specs.Scenes.{scene}
 use Rattle.asking.specs.declared.ask_fault.RunFault.{RunFault}
 use Rattle.asking.proofs.Ended.{early_asking, early_none, early_preparing, leaves_with, line_not, part_once, some_prepares_with, writes_with}
 use Rattle.asking.proofs.Faulty.{beginning_with, grows_not, grows_on, input_fault, reads_input, saving_with, stops_more, words_fault}
-use Rattle.asking.specs.Lateness.{IsLimitOf}
-use Rattle.asking.proofs.Late.{late_lines, late_words, limit_trans, same_limit}
 use Rattle.asking.proofs.Ran.{asks_input, asks_words, begins_run, leads_once, ok_then, whole}
 use Rattle.std.proofs.Common.{◌∙◌, ◌++◌, ap, subst, sym}
 use Rattle.asking.specs.Runs.{Background}
@@ -38,16 +36,12 @@ returns-in-Some-clause-runs g c =
     (g.W.Write.contents c.prepare.new.writer) (g.W.Write.contents c.ask_line.new.writer) last} c.ask_line.result line once) in
     whole g.H.NodeHash.digest_of g.V.VufCheck.accepted g.S.Verifier.verified (ExchangesFrames g.T.Write.contents g.T.Read.remaining) c.args.keys.now.signing_key c.args.keys.now.token (ask_values c.args.order) (c.args.self.now.state ≡ None)
     c.ask_line.result (background_of c.in_ok-asker.asker) (background_of c.prepare.new.asker) c.args.stream.now start ready last (g.R.Read.remaining c.args.reader.now) (g.W.Write.contents c.args.writer.now)
-    (g.W.Write.contents c.prepare.new.writer) (g.W.Write.contents c.ask_line.new.writer) (report_of c.args.self.now.said) (IsLimitOf (ask_values c.args.order) c.args.self.now.limit) (λ after last. c.ask_line.new.self.limit.last ≡ Some last)
+    (g.W.Write.contents c.prepare.new.writer) (g.W.Write.contents c.ask_line.new.writer) (report_of c.args.self.now.said)
     (begins_run g.H.NodeHash.digest_of g.V.VufCheck.accepted g.S.Verifier.verified (ExchangesFrames g.T.Write.contents g.T.Read.remaining) c.args.keys.now.signing_key c.args.keys.now.token (c.args.self.now.state ≡ None) (background_of c.in_ok-asker.asker) c.args.stream.now start (report_of c.args.self.now.said)
     c.in_ok-asker.ensures.said c.in_ok-asker.ensures.begins c.in_ok-asker.ensures.knows)
     (writes_with g.H.NodeHash.digest_of g.V.VufCheck.accepted g.S.Verifier.verified (ExchangesFrames g.T.Write.contents g.T.Read.remaining) c.args.keys.now.signing_key c.args.keys.now.token (ask_values c.args.order)
     (c.begin.new.self.state ≡ None) (c.args.self.now.state ≡ None) c.begin.ensures.still.1 c.begin.ensures.still.0 (background_of c.in_ok-asker.asker) (scene c.in_ok-asker.asker c.begin.new.self.said c.begin.new.stream)
     (g.W.Write.contents c.args.writer.now) (g.W.Write.contents c.prepare.new.writer) (scene c.prepare.new.asker c.prepare.new.self.said c.prepare.new.stream) c.in_ok-prepare.ensures.prepares) c.in_ok-prepare.ensures.stays asks
-    (late_words g.H.NodeHash.digest_of g.V.VufCheck.accepted g.S.Verifier.verified (ExchangesFrames g.T.Write.contents g.T.Read.remaining) c.args.order (IsLimitOf (ask_values c.args.order) c.args.self.now.limit) c.ask_line.result c.ask_line.new.self.limit c.ask_line.new.asker c.ask_line.new.self.said c.ask_line.new.stream (background_of c.in_ok-asker.asker).marks
-    (ap (λ (b : Background). b.marks) (c.ask_line.ensures.stays ∙ c.in_ok-prepare.ensures.stays))
-    (λ is. same_limit (ask_values c.args.order) c.args.self.now.limit c.ask_line.new.self.limit (limit_trans c.args.self.now.limit c.prepare.new.self.limit c.ask_line.new.self.limit (limit_trans c.args.self.now.limit c.begin.new.self.limit c.prepare.new.self.limit c.begin.ensures.limit c.prepare.ensures.limit) c.ask_line.ensures.limit) is)
-    c.ask_line.ensures.notes)
 
 pub returns-clause-runs : goal.returns-clause-runs
 returns-clause-runs g c =
@@ -58,13 +52,12 @@ returns-clause-runs g c =
     (g.W.Write.contents c.prepare.new.writer) (g.W.Write.contents c.ask_lines.new.writer) last) c.ask_lines.result (g.R.Read.remaining c.args.reader.now) c.args.order c.in-None.is c.ask_lines.ensures.asks in
     whole g.H.NodeHash.digest_of g.V.VufCheck.accepted g.S.Verifier.verified (ExchangesFrames g.T.Write.contents g.T.Read.remaining) c.args.keys.now.signing_key c.args.keys.now.token (ask_values c.args.order) (c.args.self.now.state ≡ None)
     c.ask_lines.result (background_of c.in_ok-asker.asker) (background_of c.prepare.new.asker) c.args.stream.now start ready last (g.R.Read.remaining c.args.reader.now) (g.W.Write.contents c.args.writer.now)
-    (g.W.Write.contents c.prepare.new.writer) (g.W.Write.contents c.ask_lines.new.writer) (report_of c.args.self.now.said) (IsLimitOf (ask_values c.args.order) c.args.self.now.limit) (λ after last. c.ask_lines.new.self.limit.last ≡ Some last)
+    (g.W.Write.contents c.prepare.new.writer) (g.W.Write.contents c.ask_lines.new.writer) (report_of c.args.self.now.said)
     (begins_run g.H.NodeHash.digest_of g.V.VufCheck.accepted g.S.Verifier.verified (ExchangesFrames g.T.Write.contents g.T.Read.remaining) c.args.keys.now.signing_key c.args.keys.now.token (c.args.self.now.state ≡ None) (background_of c.in_ok-asker.asker) c.args.stream.now start (report_of c.args.self.now.said)
     c.in_ok-asker.ensures.said c.in_ok-asker.ensures.begins c.in_ok-asker.ensures.knows)
     (writes_with g.H.NodeHash.digest_of g.V.VufCheck.accepted g.S.Verifier.verified (ExchangesFrames g.T.Write.contents g.T.Read.remaining) c.args.keys.now.signing_key c.args.keys.now.token (ask_values c.args.order)
     (c.begin.new.self.state ≡ None) (c.args.self.now.state ≡ None) c.begin.ensures.still.1 c.begin.ensures.still.0 (background_of c.in_ok-asker.asker) (scene c.in_ok-asker.asker c.begin.new.self.said c.begin.new.stream)
     (g.W.Write.contents c.args.writer.now) (g.W.Write.contents c.prepare.new.writer) (scene c.prepare.new.asker c.prepare.new.self.said c.prepare.new.stream) c.in_ok-prepare.ensures.prepares) c.in_ok-prepare.ensures.stays asks
-    (late_lines g.H.NodeHash.digest_of g.V.VufCheck.accepted g.S.Verifier.verified (ExchangesFrames g.T.Write.contents g.T.Read.remaining) c.args.order (IsLimitOf (ask_values c.args.order) c.args.self.now.limit) c.ask_lines.result (background_of c.in_ok-asker.asker).marks last (λ after last'. c.ask_lines.new.self.limit.last ≡ Some last') c.in-None.is)
 
 pub returns-in_err-asker-clause-faults : goal.returns-in_err-asker-clause-faults
 returns-in_err-asker-clause-faults g c =

@@ -163,8 +163,3 @@ returns-clause-stands g c = λ lines key start old acts changes stands.
 pub returns-in_err-told-clause-kept : goal.returns-in_err-told-clause-kept
 returns-in_err-told-clause-kept g c = λ lines key start old acts changes kept enough.
     saved-kept g.H.NodeHash.digest_of g.V.VufCheck.accepted g.S.Verifier.verified lines key start old (λ (done : List Act). g.K.Keeper.has c.args.keeper.now (done ++ acts)) c.args.self.now.state (g.W.Write.contents c.args.writer.now) kept
-
-pub returns-clause-notes : goal.returns-clause-notes
-returns-clause-notes g c =
-    let is : c.args.asked ≡ Ok tt = search rules in
-    c.save.ensures.notes (was_asked c.args.asked tt is)
