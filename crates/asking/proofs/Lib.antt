@@ -1,9 +1,7 @@
 pub mod Adding
 pub mod Asked
-pub mod Catching
 pub mod AskedOwn
 pub mod Begun
-pub mod Between
 pub mod Caught
 pub mod ChainRoots
 pub mod Earlier
@@ -43,7 +41,6 @@ pub mod OwnedScenes
 pub mod SameChain
 pub mod EveryStep
 pub mod Settled
-pub mod Shifted
 pub mod Standing
 pub mod Stepped
 pub mod Stood

@@ -28,11 +28,10 @@ use Rattle.asking.specs.declared.asker.Asker.{Asker}
 use Rattle.asking.specs.declared.said.Said.{Said}
 use Rattle.asking.specs.declared.state.State.{State}
 use Rattle.asking.proofs.AskedOwn.{asked-of}
-use Rattle.asking.proofs.EveryStep.{advances-keep, advances_some-keeps, does_some-keeps, prepares_some-keeps}
-use Rattle.asking.proofs.Standing.{AdvancesAny}
+use Rattle.asking.proofs.EveryStep.{does_some-keeps, prepares_some-keeps}
 use Rattle.asking.proofs.JoinedChanges.{IsSignedOf}
 use Rattle.asking.proofs.Keeping.{was_asked}
-use Rattle.asking.proofs.NotedOwn.{advanced_key, prepares_some_key, some_key, some_notes, NotesOwn}
+use Rattle.asking.proofs.NotedOwn.{prepares_some_key, some_key, some_notes, NotesOwn}
 use Rattle.asking.proofs.OwnedMonitors.{AreGiven}
 use Rattle.asking.proofs.OwnedScenes.{each-owned, own_for-own, owns-like}
 
@@ -79,11 +78,6 @@ module _ {T : Type 0} (hash : List ℕ → List ℕ) (accepted verified : List �
     prepared-owned HasNoState before after prepares owns =
         prepares_some-keeps hash accepted verified exchanged background (each-owned hash accepted verified (IsAsked lines) Own start background.marks text stored known exchanged once spelled same-marks) HasNoState before after prepares owns
 
-    advanced-owned : (epoch : ℕ) (before after : Scene T) → AdvancesAny hash accepted verified exchanged background epoch before after → OwnsNow text stored background.marks known before → OwnsNow text stored background.marks known after
-    advanced-owned epoch before after (inl (goes, advances)) owns = advances-keep hash accepted verified exchanged background.marks (each-owned hash accepted verified (IsAsked lines) Own start background.marks text stored known exchanged once spelled same-marks) epoch before goes after advances owns
-    advanced-owned epoch before after (inr (inl stops)) owns = (each-owned hash accepted verified (IsAsked lines) Own start background.marks text stored known exchanged once spelled same-marks).stops before after stops owns
-    advanced-owned epoch before after (inr (inr some)) owns = advances_some-keeps hash accepted verified exchanged background.marks (each-owned hash accepted verified (IsAsked lines) Own start background.marks text stored known exchanged once spelled same-marks) epoch before after some owns
-
 module _ {T H V S : Type 0} (hash : List ℕ → List ℕ) (accepted verified : List ℕ → List ℕ → List ℕ → Type 0) (exchanged : T → RequestContent → Frame → T → Type 0) (lines : Option (List (List ℕ))) (start : Found) (old : List ℕ) (Happened : List Act → Type 0)
     (before after : Asker H V S) (said said' : Said) (stream : T) (out : Option (List ℕ)) (reached : Scene T) (told : report_of said' ≡ reached.told) (client : after.client ≡ reached.client) (monitors : after.monitors.items ≡ reached.monitors) where
   -- a step that keeps what is owned
@@ -110,13 +104,6 @@ module _ {T H V S : Type 0} (hash : List ℕ → List ℕ) (accepted verified : 
   prepared-stands HasNoState None prepares stands = stands.0
   prepared-stands HasNoState (Some state) prepares (stands, same, ready) =
       stepped state (λ text stored known once owns. prepared-owned hash accepted verified exchanged lines (IsOwnPromise verified before.key lines start.known) start.known (background_of before) text stored known once (λ signed own. own.0.0) same HasNoState (scene before said stream) reached prepares owns) stands same
-
-  -- a list is taken on the way to an epoch
-  pub advanced-stands : (epoch : ℕ) (state : Option State) → AdvancesAny hash accepted verified exchanged (background_of before) epoch (scene before said stream) reached
-      → RunStands hash accepted verified lines start old Happened before said.text.items state out → StateStands hash accepted verified lines before.key start old Happened state out (standing after.client after.monitors.items said'.text.items)
-  advanced-stands epoch None advances stands = stands.0
-  advanced-stands epoch (Some state) advances (stands, same, ready) =
-      stepped state (λ text stored known once owns. advanced-owned hash accepted verified exchanged lines (IsOwnPromise verified before.key lines start.known) start.known (background_of before) text stored known once (λ signed own. own.0.0) same epoch (scene before said stream) reached advances owns) stands same
 
   -- what is noted of a line is the owner's own
   noted-ready : (line : ScriptLine) → IsSaid lines line → DoesSomeNoting hash accepted verified exchanged (background_of before) line before.changes.items after.changes.items (scene before said stream) reached → IsReady verified lines start.known before
@@ -152,24 +139,17 @@ module _ {T H V S : Type 0} (hash : List ℕ → List ℕ) (accepted verified : 
 
   -- ---- and it is ready for the next
 
-  same-ready : reached.client.chain.key ≡ before.client.chain.key → background_of after ≡ background_of before → after.changes ≡ before.changes → IsReady verified lines start.known before → IsReady verified lines start.known after
-  same-ready one stays same (keyed, ready, are) =
+  pub prepared-ready : (HasNoState : Type 0) → PreparesSome hash accepted verified exchanged (background_of before) HasNoState (scene before said stream) reached → background_of after ≡ background_of before → after.changes ≡ before.changes
+      → IsReady verified lines start.known before → IsReady verified lines start.known after
+  prepared-ready HasNoState prepares stays same (keyed, ready, are) =
       let key = ap (λ (b : Background). b.key) stays in
       let earlier = ap (λ (b : Background). b.earlier) stays in (
-        ap (λ (c : Client). c.chain.key) client ∙ one ∙ keyed ∙ sym key,
+        ap (λ (c : Client). c.chain.key) client ∙ prepares_some_key hash accepted verified exchanged (background_of before) HasNoState (scene before said stream) reached prepares ∙ keyed ∙ sym key,
         subst (λ (k : List ℕ). AllByRecursion (IsOwnPromise verified k lines start.known) (after.earlier.items ++ after.changes.items)) (sym key)
             (subst (λ (xs : List SignedPromise). AllByRecursion (IsOwnPromise verified before.key lines start.known) (xs ++ after.changes.items)) (sym earlier)
             (subst (λ (xs : List SignedPromise). AllByRecursion (IsOwnPromise verified before.key lines start.known) (before.earlier.items ++ xs)) (sym (ap (λ cs. cs.items) same)) ready)),
         subst (AreEarlier start.known) (sym earlier) are,
       )
-
-  pub advanced-ready : (epoch : ℕ) → AdvancesAny hash accepted verified exchanged (background_of before) epoch (scene before said stream) reached → background_of after ≡ background_of before → after.changes ≡ before.changes
-      → IsReady verified lines start.known before → IsReady verified lines start.known after
-  advanced-ready epoch advances stays same ready = same-ready (advanced_key hash accepted verified exchanged (background_of before) epoch (scene before said stream) reached advances) stays same ready
-
-  pub prepared-ready : (HasNoState : Type 0) → PreparesSome hash accepted verified exchanged (background_of before) HasNoState (scene before said stream) reached → background_of after ≡ background_of before → after.changes ≡ before.changes
-      → IsReady verified lines start.known before → IsReady verified lines start.known after
-  prepared-ready HasNoState prepares stays same ready = same-ready (prepares_some_key hash accepted verified exchanged (background_of before) HasNoState (scene before said stream) reached prepares) stays same ready
 
   pub line-ready : (line : ScriptLine) → IsSaid lines line → DoesSomeNoting hash accepted verified exchanged (background_of before) line before.changes.items after.changes.items (scene before said stream) reached → background_of after ≡ background_of before
       → IsReady verified lines start.known before → IsReady verified lines start.known after

@@ -76,10 +76,6 @@ abbrev pub StopsAtHead : {T : Type 0} → (List ℕ → List ℕ → List ℕ �
 StopsAtHead verified exchanged key before told after told' =
     (frame : Frame) × exchanged before (Query Head) frame after × ((now : Report) × StartsNone verified key frame now × (told' ≡ told_after told now))
 
--- what asks, and its stream, are those of a scene
-abbrev pub IsAt : {H V S T : Type 0} → Asker H V S → T → Scene T → Type 0
-IsAt asker stream reached = (asker.client ≡ reached.client) × (asker.monitors.items ≡ reached.monitors) × (stream ≡ reached.stream)
-
 -- A fault comes that nothing tells: all that was told so far was told in this scene. If no reply came, the
 -- client and the monitors are also those of the scene; memory may run out between a change of theirs and what
 -- is told of it.
