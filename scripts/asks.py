@@ -8,9 +8,10 @@ The scripts are those of `play` without its lines about other sessions, and N dr
 `directoryd listen`: what they print is the text of `play`. As many honest directories follow, whose epochs end at any
 time: none of their lists of roots may be refused. Then come N times (400 unless given) some runs over one state, of a
 directory that may lie: it alters or cuts a reply, answers with what was right earlier, leaves roots out, signs another
-history, breaks its promises, or lets others change keys. The runs that are stored have to end as it says here too. One
-more directory is silent, and one takes no connection: each is given up after a minute. The last line is
-`N passed, M failed`, and the status is 0 where none failed.
+history, breaks its promises, or lets others change keys. The runs that are stored have to end as it says here too.
+Runs that go on from the states in scripts/version1 do what is stored there. One more directory is silent, and one takes
+no connection: each is given up after a minute. The last line is `N passed, M failed`, and the status is 0 where none
+failed.
 """
 
 import argparse
@@ -28,6 +29,7 @@ import time
 
 sys.dont_write_bytecode = True
 
+import old_files
 import play_scripts
 import plays
 import sessions
@@ -951,7 +953,7 @@ def main():
     for thread in threads:
         thread.start()
     found = [*honest(program, words.drawn, words.seed), *honest_roots(program, words.drawn, words.seed)]
-    found += [*lying(program, words.lies, words.seed), *stored_lies(program)]
+    found += [*lying(program, words.lies, words.seed), *stored_lies(program), *old_files.states(program)]
     for thread in threads:
         thread.join()
     waited += [run(program) for run in OTHERS]

@@ -137,6 +137,7 @@ else
 fi
 well "a file that may not grow" scripts/journaled.py "$program" "$folder" full
 well "three lives of a file" scripts/journaled.py "$program" "$folder" lives
+well "journals of version 1" scripts/old_files.py "$program" journals
 if library scripts/sync_order.c "$folder/sync_order.so"; then
     well "records on the disk before their answers" scripts/journaled.py "$program" "$folder" synced "$folder/sync_order.so"
 else

@@ -505,6 +505,8 @@ for kind in fork link skip broken-promise; do
     ends 3 "no evidence" ""
 done
 
+well_in 60 "evidence and roots of version 1" scripts/old_files.py "$program" evidence
+
 # `ask` tells evidence of an earlier run again, also where nothing is asked.
 sed 's/.*"first": *"\([0-9a-f]*\)".*/\1/' "$folder/fork.json" >"$folder/state"
 cp "$folder/fork.json" "$folder/state.kept"
