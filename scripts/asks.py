@@ -875,6 +875,21 @@ def older_form(program):
     return None if found == wanted else f"a mark of the older form: wanted {wanted}, got {found}"
 
 
+def changes_turned_round(program):
+    """Changes are expected in the order of their epochs, whatever the order of the lines is."""
+    provider = Provider(lies()())
+    changes = run_of_lines("close 3", "change 61 6b32", "close 4", "change 61 6b33", "close 5")
+    with tempfile.TemporaryDirectory() as folder:
+        state = f"{folder}/state"
+        for script, words in (BEGUN, changes, WATCH):
+            provider.begin()
+            got = ran(program, provider, b"" if words else script, state, words)
+            kept = paths(state)[1]
+            kept.write_text("".join(reversed(kept.read_text().splitlines(True))))
+    wanted = ["kept 61 3", "kept 61 4", "kept 61 5"], [], 0
+    return None if got == wanted else f"changes in another order: wanted {wanted}, got {got}"
+
+
 def settled_alone(program):
     """The directory is not asked, so it need not be there."""
     provider = Provider(lies((2, None, key_is_robbed))())
@@ -937,7 +952,7 @@ def settled_badly(program):
 
 OTHERS = (
     changed_by_another, alarm_unwritten, change_unwritten, alarm_and_fault, line_by_line, input_of_others,
-    evidence_unwritten, evidence_and_fault, older_form, settled_alone, settled_badly, names_as_text,
+    evidence_unwritten, evidence_and_fault, older_form, changes_turned_round, settled_alone, settled_badly, names_as_text,
 )
 
 

@@ -12,7 +12,7 @@ use Rattle.memory.specs.declared.mark.Mark.{Mark}
 use Rattle.memory.specs.declared.promised.Promised.{Promised}
 use Rattle.memory.proofs.Recalled.{spells-memory}
 use Rattle.memory.proofs.Sound.{leaves-once, leaves-sound, settles-once, settles-sound, spelled-once, spelled-sound, taken-once, taken-sound}
-use Rattle.asking.specs.Saves.{stored_after, Act, Counts, Found, HasMark, IsAsked, IsAskedChange, IsOwnPromise, KeepsTold, LeavesTold, WasStored, Writes}
+use Rattle.asking.specs.Saves.{stored_after, Act, Counts, Found, HasMark, IsAsked, IsAskedChange, IsOwnAhead, IsOwnPromise, KeepsTold, LeavesTold, WasStored, Writes}
 use Rattle.asking.specs.Standing.{IsLeft, LeavesState, SettlesState}
 use Rattle.asking.specs.Told.{TellsEpoch}
 use Rattle.asking.specs.declared.state.State.{State}
@@ -51,7 +51,7 @@ not-both b one other = cc
 anew-spelled : (known left : Memory) (tested : List SignedPromise) → HoldsEachOnce known → HoldsSound known → Leaves tested known left → Spells (memory_text left) (Ok left)
 anew-spelled known left tested once sound leaves = spells-memory left (leaves-once tested known left leaves once) (leaves-sound tested known left leaves sound)
 
-left-spelled : (text : List ℕ) (saved known left : Memory) (unsaved : List Item) (tested : List SignedPromise) → Spells text (Ok saved) → TakesAll unsaved saved known → Leaves tested known left → Spells (memory_text left) (Ok left)
+pub left-spelled : (text : List ℕ) (saved known left : Memory) (unsaved : List Item) (tested : List SignedPromise) → Spells text (Ok saved) → TakesAll unsaved saved known → Leaves tested known left → Spells (memory_text left) (Ok left)
 left-spelled text saved known left unsaved tested spells takes =
     anew-spelled known left tested (taken-once unsaved saved known takes (spelled-once text saved spells)) (taken-sound unsaved saved known takes (spelled-sound text saved spells))
 
@@ -64,7 +64,7 @@ settled-spelled name text saved known settled left unsaved tested spells takes s
 
 -- what a run left is told, also once the memory is written anew
 module _ (hash : List ℕ → List ℕ) (accepted verified : List ℕ → List ℕ → List ℕ → Type 0) (lines : Option (List (List ℕ))) (key : List ℕ) (old : List ℕ) (Before After : List Act → Type 0) (acts : List Act) (out : Option (List ℕ)) where
-  left-told : (start : Found) (text : List ℕ) (roots : List SignedRoot) (known left : Memory) (tested : List SignedPromise) → Leaves tested known left
+  pub left-told : (start : Found) (text : List ℕ) (roots : List SignedRoot) (known left : Memory) (tested : List SignedPromise) → Leaves tested known left
       → KeepsTold hash accepted (IsAsked lines) (IsOwnPromise verified key lines start.known) (IsAskedChange lines) start text (record { roots = roots; known = known })
       → KeepsTold hash accepted (IsAsked lines) (IsOwnPromise verified key lines start.known) (IsAskedChange lines) start text (record { roots = roots; known = left })
   left-told start text roots known left tested leaves told =
@@ -73,7 +73,7 @@ module _ (hash : List ℕ → List ℕ) (accepted verified : List ℕ → List �
         grows = told.grows;
         stays = subst (λ (ms : List Mark). (mark : Mark) → Contains start.known.marks mark → HasMark ms mark) (sym same) told.stays;
         told = subst (λ (ms : List Mark). (mark : Mark) → Contains ms mark → (root : SignedRoot) → Contains roots root → mark.since < root.body.epoch → root.body.epoch ≤ mark.epoch
-            → TellsEpoch (IsAsked lines) (IsOwnPromise verified key lines start.known) (Counts start.known) hash accepted text mark.name root ⊎ WasStored start mark.name root) (sym same) told.told;
+            → TellsEpoch (IsAsked lines) (IsOwnAhead (IsOwnPromise verified key lines start.known) start.known) (Counts start.known) hash accepted text mark.name root ⊎ WasStored start mark.name root) (sym same) told.told;
         own = λ signed was. told.own signed (leaves-own tested known left leaves signed was);
       }
 
@@ -118,7 +118,7 @@ module _ (hash : List ℕ → List ℕ) (accepted verified : List ℕ → List �
         grows = told.grows;
         stays = subst (λ (ms : List Mark). (mark : Mark) → Contains start.known.marks mark → HasMark ms mark) (sym same) told.stays;
         told = subst (λ (ms : List Mark). (mark : Mark) → Contains ms mark → (root : SignedRoot) → Contains roots root → mark.since < root.body.epoch → root.body.epoch ≤ mark.epoch
-            → TellsEpoch (IsAsked lines) (IsOwnPromise verified key lines start.known) (Counts start.known) hash accepted text mark.name root ⊎ WasStored start mark.name root) (sym same) told.told;
+            → TellsEpoch (IsAsked lines) (IsOwnAhead (IsOwnPromise verified key lines start.known) start.known) (Counts start.known) hash accepted text mark.name root ⊎ WasStored start mark.name root) (sym same) told.told;
         own = λ signed (promised, has, this, own). told.own signed (promised, subst (λ (ps : List Promised). Contains ps promised) kept has, this, own);
       }
 

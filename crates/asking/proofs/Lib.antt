@@ -1,5 +1,6 @@
 pub mod Adding
 pub mod Asked
+pub mod AskedNames
 pub mod AskedOwn
 pub mod Begun
 pub mod Caught
@@ -10,6 +11,7 @@ pub mod Keeping
 pub mod Ended
 pub mod Faulty
 pub mod Going
+pub mod GoneOn
 pub mod Halted
 pub mod Handed
 pub mod Heard
@@ -17,7 +19,9 @@ pub mod HonestRoots
 pub mod Joined
 pub mod Left
 pub mod Listed
+pub mod MarkedRuns
 pub mod Marks
+pub mod MarksKept
 pub mod Placed
 pub mod Ran
 pub mod Recalling

@@ -7,6 +7,7 @@ pub mod Ending
 pub mod Exchanges
 pub mod Following
 pub mod Joining
+pub mod Marking
 pub mod Recalled
 pub mod Refused
 pub mod Scenes

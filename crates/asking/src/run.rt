@@ -10,6 +10,7 @@ ghost use Rattle.asking.specs.Askers.{asker_changes};
 ghost use Rattle.asking.specs.Ending.{AsksPart, AsksSomeLine, BeginsNone, DoesSome, DoesSomeNoting, end_status, EndsEarly, EndsWith, FailsWith, HoldsBack, PreparesSome, TakesSomeNew};
 ghost use Rattle.asking.specs.Exchanges.{ExchangesFrames};
 ghost use Rattle.asking.specs.Keeping.{AddsTo, IsSettled, KeepsUp, SavesTo};
+ghost use Rattle.asking.specs.Marking.{IsUnlooked, LeavesMarked, MarksOn, RunsMarked};
 ghost use Rattle.asking.specs.Recalled.{evidence_again};
 ghost use Rattle.asking.specs.Reports.{report_of, told_after, Report};
 ghost use Rattle.asking.specs.RunFaults.{AsksInput, CannotBeAsked, IsFaultOfSaving, IsFaultOfState, IsFaultWith, IsFirstUnasked, StopsOr};
@@ -103,6 +104,7 @@ impl Run {
         ensures none { has_state ≡ false → result.state ≡ None }
         ensures some { result.state ≡ None → has_state ≡ false }
         ensures fresh { IsFresh result.state }
+        ensures looks { IsUnlooked result.state }
         ensures said { report_of result.said ≡ emptied 0 }
     {
         let state = if has_state {
@@ -211,6 +213,9 @@ impl Run {
             ((self.old).state ≡ None) stream.old (R.remaining reader.old) (W.contents writer.old) (HoldsBack (result ≡ Err (Program CannotWrite)) (W.contents writer.new) (self.new).said)) }
         ensures kept { IsFresh (self.old).state → (old : List ℕ) (acts : List Act) → W.contents writer.old ≡ Some old → K.has keeper.old acts
             → LeavesTold H.digest_of V.accepted S.verified (lines_asked (ask_values order.entry).words (R.remaining reader.old)) keys.now.signing_key old (λ done. K.has keeper.new (done ++ acts)) }
+        ensures marks { OnOk result (IsFresh (self.old).state → IsUnlooked (self.old).state → report_of (self.old).said ≡ emptied 0 → (old : List ℕ) (acts : List Act) → W.contents writer.old ≡ Some old → K.has keeper.old acts
+            → LeavesMarked H.digest_of V.accepted S.verified (ExchangesFrames T.contents T.remaining) keys.now.signing_key keys.now.token (ask_values order.entry) ((self.old).state ≡ None) stream.old stream.new (R.remaining reader.old) (self.new).said.status
+            (W.contents writer.old) (W.contents writer.new) old (λ done. K.has keeper.new (done ++ acts))) }
         ensures unread { ¬ AsksInput (ask_values order.entry).words → reader.new ≡ reader.old }
         ensures grows { Grows (W.contents writer.old) (W.contents writer.new) }
         ensures rises { (self.old).said.status ≤ (self.new).said.status }
@@ -248,6 +253,9 @@ impl Run {
             ((self.old).state ≡ None) stream.old (R.remaining reader.old) (W.contents writer.old) (HoldsBack (result ≡ Err (Program CannotWrite)) (W.contents writer.new) (self.new).said) }
         ensures kept { IsFresh (self.old).state → (old : List ℕ) (acts : List Act) → W.contents writer.old ≡ Some old → K.has keeper.old acts
             → IsLeft H.digest_of V.accepted S.verified (lines_asked (ask_values order.entry).words (R.remaining reader.old)) keys.now.signing_key old (λ done. K.has keeper.new (done ++ acts)) (self.new).state (W.contents writer.new) }
+        ensures marks { OnOk result (IsFresh (self.old).state → IsUnlooked (self.old).state → report_of (self.old).said ≡ emptied 0 → (old : List ℕ) (acts : List Act) → W.contents writer.old ≡ Some old → K.has keeper.old acts
+            → RunsMarked H.digest_of V.accepted S.verified (ExchangesFrames T.contents T.remaining) keys.now.signing_key keys.now.token (ask_values order.entry) ((self.old).state ≡ None) stream.old stream.new (R.remaining reader.old) (self.new).said.status
+            (W.contents writer.old) (W.contents writer.new) old (λ done. K.has keeper.new (done ++ acts)) (self.new).state) }
         ensures unread { ¬ AsksInput (ask_values order.entry).words → reader.new ≡ reader.old }
         ensures grows { Grows (W.contents writer.old) (W.contents writer.new) }
         ensures rises { (self.old).said.status ≤ (self.new).said.status }
@@ -309,6 +317,7 @@ impl Run {
             → (start : Found) × RunStands H.digest_of V.accepted S.verified lines start old (λ done. K.has keeper.new (done ++ acts)) asker (self.new).said.text.items (self.new).state (Some old)) }
         ensures left { OnErr result (IsFresh (self.old).state → (lines : Option (List (List ℕ))) (old : List ℕ) (acts : List Act) → K.has keeper.old acts
             → IsLeft H.digest_of V.accepted S.verified lines keys.now.signing_key old (λ done. K.has keeper.new (done ++ acts)) (self.new).state (Some old)) }
+        ensures looks { IsUnlooked (self.old).state → IsUnlooked (self.new).state }
         ensures still { ((self.new).state ≡ None) ↔ ((self.old).state ≡ None) }
         ensures rises { (self.old).said.status ≤ (self.new).said.status }
     {
@@ -350,6 +359,7 @@ impl Run {
         ensures loads { IfOk result (λ loaded. IfOk loaded (λ asker. HasLoaded (K.has keeper.old) (K.has keeper.new) asker (self.new).state)) }
         ensures fresh { IfOk result (λ loaded. IfErr loaded (λ unused. HasBegun (K.has keeper.old) (K.has keeper.new) (self.old).state (self.new).state)) }
         ensures fails { OnErr result (HasFailed (K.has keeper.old) (K.has keeper.new) (self.old).state (self.new).state) }
+        ensures looks { IsUnlooked (self.old).state → IsUnlooked (self.new).state }
         ensures err { IfErr result IsFaultOfState }
         ensures still { ((self.new).state ≡ None) ↔ ((self.old).state ≡ None) }
         ensures said { report_of (self.new).said ≡ report_of (self.old).said }
@@ -420,6 +430,8 @@ impl Run {
         ensures stands { (lines : Option (List (List ℕ))) (start : Found) (old : List ℕ) (acts : List Act) → RunStands H.digest_of V.accepted S.verified lines start old (λ done. K.has keeper.old (done ++ acts)) asker.old (self.old).said.text.items (self.old).state (W.contents writer.old)
             → StateIsKept H.digest_of V.accepted S.verified lines (asker.old).key start old (λ done. K.has keeper.new (done ++ acts)) (self.new).state (W.contents writer.new)
             × OnOk result (RunStands H.digest_of V.accepted S.verified lines start old (λ done. K.has keeper.new (done ++ acts)) asker.new (self.new).said.text.items (self.new).state (W.contents writer.new)) }
+        ensures marks { OnOk result ((lines : Option (List (List ℕ))) (start : Found) (old : List ℕ) (acts : List Act) → RunStands H.digest_of V.accepted S.verified lines start old (λ done. K.has keeper.old (done ++ acts)) asker.old (self.old).said.text.items (self.old).state (W.contents writer.old)
+            → MarksOn (self.old).state asker.old.monitors.items (self.new).state asker.new.monitors.items) }
         ensures stays { background_of asker.new ≡ background_of asker.old }
         ensures faults { IfErr result (StopsOr IsFaultOfSaving) }
         ensures grows { Grows (W.contents writer.old) (W.contents writer.new) }
@@ -506,6 +518,9 @@ impl Run {
             (scene asker.old (self.old).said stream.old) told (W.contents writer.old) now × HoldsBack (result ≡ Err (Program CannotWrite)) (W.contents writer.new) (self.new).said told now) }
         ensures stands { (start : Found) (old : List ℕ) (acts : List Act) → RunStands H.digest_of V.accepted S.verified (option_map lines_of (R.remaining reader.old)) start old (λ done. K.has keeper.old (done ++ acts)) asker.old (self.old).said.text.items (self.old).state (W.contents writer.old)
             → StateIsKept H.digest_of V.accepted S.verified (option_map lines_of (R.remaining reader.old)) (asker.old).key start old (λ done. K.has keeper.new (done ++ acts)) (self.new).state (W.contents writer.new) }
+        ensures marks { OnOk result ((start : Found) (old : List ℕ) (acts : List Act) → RunStands H.digest_of V.accepted S.verified (option_map lines_of (R.remaining reader.old)) start old (λ done. K.has keeper.old (done ++ acts)) asker.old (self.old).said.text.items (self.old).state (W.contents writer.old)
+            → RunStands H.digest_of V.accepted S.verified (option_map lines_of (R.remaining reader.old)) start old (λ done. K.has keeper.new (done ++ acts)) asker.new (self.new).said.text.items (self.new).state (W.contents writer.new)
+            × (asker.new.key ≡ asker.old.key) × MarksOn (self.old).state asker.old.monitors.items (self.new).state asker.new.monitors.items) }
         ensures faults { IfErr result (StopsOr (IsFaultWith ⊥ ⊤ (λ number. IfSome (R.remaining reader.old) (λ input. IsFirstUnasked 1 (lines_of input) number)))) }
         ensures grows { Grows (W.contents writer.old) (W.contents writer.new) }
         ensures rises { (self.old).said.status ≤ (self.new).said.status }
@@ -548,6 +563,10 @@ impl Run {
             → RunStands H.digest_of V.accepted S.verified lines start old (λ done. K.has keeper.old (done ++ acts)) asker.old (self.old).said.text.items (self.old).state (W.contents writer.old)
             → StateIsKept H.digest_of V.accepted S.verified lines (asker.old).key start old (λ done. K.has keeper.new (done ++ acts)) (self.new).state (W.contents writer.new)
             × OnOk result (RunStands H.digest_of V.accepted S.verified lines start old (λ done. K.has keeper.new (done ++ acts)) asker.new (self.new).said.text.items (self.new).state (W.contents writer.new)) }
+        ensures marks { OnOk result ((lines : Option (List (List ℕ))) (start : Found) (old : List ℕ) (acts : List Act) → AsksAmong lines line.now
+            → RunStands H.digest_of V.accepted S.verified lines start old (λ done. K.has keeper.old (done ++ acts)) asker.old (self.old).said.text.items (self.old).state (W.contents writer.old)
+            → RunStands H.digest_of V.accepted S.verified lines start old (λ done. K.has keeper.new (done ++ acts)) asker.new (self.new).said.text.items (self.new).state (W.contents writer.new)
+            × MarksOn (self.old).state asker.old.monitors.items (self.new).state asker.new.monitors.items) }
         ensures stays { background_of asker.new ≡ background_of asker.old }
         ensures faults { IfErr result (StopsOr (λ fault. IsFaultOfSaving fault ⊎ ((fault ≡ NotACommand number) × CannotBeAsked (line_of line.now)))) }
         ensures grows { Grows (W.contents writer.old) (W.contents writer.new) }

@@ -1,13 +1,15 @@
 // A run of questions over a connection. Contracts do not know what a socket or a file has.
-ghost use Rattle.std.specs.Prelude.{◌≡◌, ◌⊎◌, ◌↔◌, ◌++◌, ℕ, List, Err, IfErr, IfOk, None, OnErr, Some, MatchResult};
+ghost use Rattle.std.specs.Prelude.{◌≡◌, ◌⊎◌, ◌↔◌, ◌++◌, ℕ, List, Err, IfErr, IfOk, None, OnErr, Some, MatchResult, Ok};
 ghost use Rattle.std.specs.Io.KnownBytes.{Keeps};
 ghost use Rattle.textio.specs.declared.program_fault.ProgramFault.TheVariants.{BadHex};
 ghost use Rattle.asking.specs.AskOptions.{ask_keys_of, ask_values};
 ghost use Rattle.asking.specs.Ending.{AsksOverSocket, FailsAs, FailsOverSocket, RunsAs};
 ghost use Rattle.asking.specs.Exchanges.{ExchangesFrames};
+ghost use Rattle.asking.specs.Marking.{LeavesMarked};
 ghost use Rattle.asking.specs.RunFaults.{AsksInput, IsRunFault};
 ghost use Rattle.asking.specs.Runs.{lines_asked, Grows};
 ghost use Rattle.asking.specs.Saves.{Act, LeavesTold};
+ghost use Rattle.asking.specs.declared.run.RunEnd.TheVariants.{Whole};
 
 use crate::keeper::Keeper;
 use crate::run::{Run, RunEnd};
@@ -216,6 +218,9 @@ where
         (order.entry.state ≡ None) stream.old (R.remaining reader.old) fault (W.contents writer.old) (W.contents writer.new)) }
     ensures keeps { (old : List ℕ) (acts : List Act) → W.contents writer.old ≡ Some old → K.has keeper.old acts
         → LeavesTold H.digest_of V.accepted S.verified (lines_asked (ask_values order.entry).words (R.remaining reader.old)) keys.signing_key old (λ done. K.has keeper.new (done ++ acts)) }
+    ensures marks { (status : ℕ) → result ≡ Ok (Whole status) → (old : List ℕ) (acts : List Act) → W.contents writer.old ≡ Some old → K.has keeper.old acts
+        → LeavesMarked H.digest_of V.accepted S.verified (ExchangesFrames T.contents T.remaining) keys.signing_key keys.token (ask_values order.entry) (order.entry.state ≡ None) stream.old stream.new (R.remaining reader.old) status
+        (W.contents writer.old) (W.contents writer.new) old (λ done. K.has keeper.new (done ++ acts)) }
     ensures faults { IfErr result (IsRunFault (ask_values order.entry) (R.remaining reader.old)) }
     ensures unread { ¬ AsksInput (ask_values order.entry).words → reader.new ≡ reader.old }
     ensures grows { Grows (W.contents writer.old) (W.contents writer.new) }

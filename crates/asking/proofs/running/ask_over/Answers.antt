@@ -1,9 +1,13 @@
-use Rattle.std.proofs.Common.{◌≡◌, None, ap, rules}
+use Rattle.std.proofs.Common.{◌≡◌, ◌++◌, List, Err, None, ap, rules}
 use Rattle.asking.specs.AskOptions.{ask_values}
 use Rattle.asking.specs.Exchanges.{ExchangesFrames}
 use Rattle.asking.specs.Reports.{report_of}
+use Rattle.asking.specs.Saves.{Act}
+use Rattle.asking.specs.declared.ask_fault.RunFault.TheVariants.{Program}
+use Rattle.textio.specs.declared.program_fault.ProgramFault.TheVariants.{CannotWrite}
 use Rattle.asking.proofs.Ended.{ends_so, fails_so}
 use Rattle.asking.proofs.Faulty.{given_so, grows_on}
+use Rattle.asking.proofs.MarkedRuns.{ends-marked}
 use Rattle.asking.proofs.Ran.{ok_then}
 use Rattle.asking.proofs.running.ask_over.Goals as goal
 
@@ -22,6 +26,10 @@ returns g c =
           (c.new-run.result.state ≡ None) (c.args.order.state ≡ None) none some c.ask-outcome.result c.end.result c.args.stream.now c.ask-outcome.new.stream (g.R.Read.remaining c.args.reader.now)
           (g.W.Write.contents c.args.writer.now) (g.W.Write.contents c.ask-outcome.new.writer) (g.W.Write.contents c.end.new.writer) c.ask-outcome.new.self.said (report_of c.new-run.result.said) c.new-run.ensures.said
           c.ask-outcome.ensures.part ends c.end.ensures.failed;
+      marks = λ status is old acts was has. ends-marked g.H.NodeHash.digest_of g.V.VufCheck.accepted g.S.Verifier.verified (ExchangesFrames g.T.Write.contents g.T.Read.remaining) c.args.keys.signing_key c.args.keys.token (ask_values c.args.order)
+          (c.new-run.result.state ≡ None) (c.args.order.state ≡ None) none some c.args.stream.now c.ask-outcome.new.stream (g.R.Read.remaining c.args.reader.now) (g.W.Write.contents c.args.writer.now) old
+          (λ (done : List Act). g.K.Keeper.has c.ask-outcome.new.keeper (done ++ acts)) (c.ask-outcome.result ≡ Err (Program CannotWrite)) c.ask-outcome.result c.end.result c.ask-outcome.new.self.said (g.W.Write.contents c.ask-outcome.new.writer) (g.W.Write.contents c.end.new.writer)
+          (ok_then c.ask-outcome.result c.ask-outcome.ensures.marks (λ marks. marks c.new-run.ensures.fresh c.new-run.ensures.looks c.new-run.ensures.said old acts was has)) ends c.end.ensures.stopped status is;
       faults = given_so c.end.result c.ask-outcome.result c.args.order c.new-run.result.state (g.R.Read.remaining c.args.reader.now) none c.ask-outcome.ensures.faults c.end.ensures.gives;
       unread = c.ask-outcome.ensures.unread;
       grows = grows;

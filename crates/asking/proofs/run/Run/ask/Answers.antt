@@ -10,6 +10,8 @@ use Rattle.asking.specs.declared.ask_fault.RunFault.TheVariants.{Program}
 use Rattle.asking.proofs.Ended.{part_left}
 use Rattle.asking.proofs.Faulty.{saving_with}
 use Rattle.asking.proofs.Left.{asked_left, failed_left, faults_left, leaves_told}
+use Rattle.asking.proofs.MarkedRuns.{leaves-marked}
+use Rattle.asking.proofs.Ran.{ok_then}
 use Rattle.asking.proofs.run.Run.ask.Goals as goal
 
 pub returns-clause-runs : goal.returns-clause-runs
@@ -31,3 +33,10 @@ pub returns-clause-kept : goal.returns-clause-kept
 returns-clause-kept g c = λ fresh old acts is has.
     leaves_told g.H.NodeHash.digest_of g.V.VufCheck.accepted g.S.Verifier.verified (lines_asked (ask_values c.args.order).words (g.R.Read.remaining c.args.reader.now)) c.args.keys.now.signing_key old (g.K.Keeper.has c.ask_all-asked.new.keeper) (g.K.Keeper.has c.leave.new.keeper) acts
     (g.W.Write.contents c.ask_all-asked.new.writer) c.ask_all-asked.new.self.state (c.ask_all-asked.ensures.kept fresh old acts is has) c.leave.ensures.hands
+
+pub returns-clause-marks : goal.returns-clause-marks
+returns-clause-marks g c =
+    ok_then c.leave.result (asked_left _ c.ask_all-asked.result c.leave.result c.leave.ensures.ok (rw (← c.leave.ensures.said) at c.ask_all-asked.ensures.marks)) (λ marks fresh unlooked none old acts is has.
+    leaves-marked g.H.NodeHash.digest_of g.V.VufCheck.accepted g.S.Verifier.verified (ExchangesFrames g.T.Write.contents g.T.Read.remaining) c.args.keys.now.signing_key c.args.keys.now.token (ask_values c.args.order) (c.args.self.now.state ≡ None) c.args.stream.now c.ask_all-asked.new.stream
+    (g.R.Read.remaining c.args.reader.now) c.leave.new.self.said.status (g.W.Write.contents c.args.writer.now) (g.W.Write.contents c.ask_all-asked.new.writer) old (g.K.Keeper.has c.ask_all-asked.new.keeper) (g.K.Keeper.has c.leave.new.keeper) acts
+    c.ask_all-asked.new.self.state (marks fresh unlooked none old acts is has) c.leave.ensures.hands)

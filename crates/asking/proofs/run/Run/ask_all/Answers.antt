@@ -17,6 +17,7 @@ use Rattle.asking.specs.Runs.{Background}
 use Rattle.asking.specs.Saves.{Act}
 use Rattle.asking.specs.Standing.{IsLeft, RunStands, StateIsKept}
 use Rattle.asking.proofs.Ran.{input_asked, words_among, words_asked}
+use Rattle.asking.proofs.MarkedRuns.{marks-first, marks-then, ok_both, run-saved, whole-marked}
 use Rattle.asking.proofs.RunSteps.{ok_have}
 use Rattle.asking.proofs.Written.{state-left}
 use Rattle.asking.specs.declared.ask_fault.RunFault.TheVariants.{Program}
@@ -211,3 +212,73 @@ returns-clause-kept g c = λ fresh old acts is has.
     let back = subst (λ (ls : Option (List (List ℕ))). StateIsKept g.H.NodeHash.digest_of g.V.VufCheck.accepted g.S.Verifier.verified ls c.prepare.new.asker.key start old (λ (done : List Act). g.K.Keeper.has c.ask_lines.new.keeper (done ++ acts)) c.ask_lines.new.self.state (g.W.Write.contents c.ask_lines.new.writer)) (sym same) kept in
     state-left g.H.NodeHash.digest_of g.V.VufCheck.accepted g.S.Verifier.verified lines c.args.keys.now.signing_key start old (λ (done : List Act). g.K.Keeper.has c.ask_lines.new.keeper (done ++ acts)) c.ask_lines.new.self.state (g.W.Write.contents c.ask_lines.new.writer)
     (subst (λ (k : List ℕ). StateIsKept g.H.NodeHash.digest_of g.V.VufCheck.accepted g.S.Verifier.verified lines k start old (λ (done : List Act). g.K.Keeper.has c.ask_lines.new.keeper (done ++ acts)) c.ask_lines.new.self.state (g.W.Write.contents c.ask_lines.new.writer)) (key') (back))
+
+pub returns-in-Some-clause-marks : goal.returns-in-Some-clause-marks
+returns-in-Some-clause-marks g c =
+    let start = scene c.in_ok-asker.asker c.begin.new.self.said c.begin.new.stream in
+    let ready = scene c.prepare.new.asker c.prepare.new.self.said c.prepare.new.stream in
+    let last = scene c.ask_line.new.asker c.ask_line.new.self.said c.ask_line.new.stream in
+    let line = rw (c.deref.ensures.value, c.in_ok-line-in-Some.ensures) at c.ask_line.ensures.asks in
+    let once = leads_once g.H.NodeHash.digest_of g.V.VufCheck.accepted g.S.Verifier.verified (ExchangesFrames g.T.Write.contents g.T.Read.remaining) (background_of c.prepare.new.asker) ready last
+    (g.W.Write.contents c.prepare.new.writer) (g.W.Write.contents c.ask_line.new.writer) (words_line (ask_values c.args.order).words) in
+    let asks = asks_words (λ lines. AsksLines g.H.NodeHash.digest_of g.V.VufCheck.accepted g.S.Verifier.verified (ExchangesFrames g.T.Write.contents g.T.Read.remaining) (background_of c.prepare.new.asker) lines ready
+    (g.W.Write.contents c.prepare.new.writer) (g.W.Write.contents c.ask_line.new.writer) last) c.ask_line.result (g.R.Read.remaining c.args.reader.now) c.args.order c.in-Some.field-0 c.in-Some.is
+    (ok_then {Q = AsksLines g.H.NodeHash.digest_of g.V.VufCheck.accepted g.S.Verifier.verified (ExchangesFrames g.T.Write.contents g.T.Read.remaining) (background_of c.prepare.new.asker) (words_line (ask_values c.args.order).words ∷ []) ready
+    (g.W.Write.contents c.prepare.new.writer) (g.W.Write.contents c.ask_line.new.writer) last} c.ask_line.result line once) in
+    ok_both c.ask_line.result asks c.ask_line.ensures.marks (λ all marks fresh unlooked none old acts is has.
+    let lines = lines_asked (ask_values c.args.order).words (g.R.Read.remaining c.args.reader.now) in
+    let asker = c.in_ok-asker.asker in
+    let (found, begun) = c.in_ok-asker.ensures.stands fresh lines old acts has in
+    let happened : List Act → Type 0 = λ done. g.K.Keeper.has c.begin.new.keeper (done ++ acts) in
+    let happened' : List Act → Type 0 = λ done. g.K.Keeper.has c.ask_line.new.keeper (done ++ acts) in
+    let stands = subst (λ (o : Option (List ℕ)). RunStands g.H.NodeHash.digest_of g.V.VufCheck.accepted g.S.Verifier.verified lines found old happened asker c.begin.new.self.said.text.items c.begin.new.self.state o) (sym is) begun in
+    let prepared = ok_have c.prepare.result c.in_ok-prepare.was (c.prepare.ensures.stands lines found old acts stands).1 in
+    let one = c.in_ok-prepare.ensures.marks lines found old acts stands in
+    let key = ap (λ (b : Background). b.key) c.in_ok-prepare.ensures.stays ∙ c.in_ok-asker.ensures.knows.0 in
+    let among = words_among lines (words_line (ask_values c.args.order).words) c.deref.result.now (words_asked (g.R.Read.remaining c.args.reader.now) c.args.order c.in-Some.field-0 c.in-Some.is) (c.deref.ensures.value ∙ c.in_ok-line-in-Some.ensures) in
+    let (stood, other) = marks lines found old acts among prepared in
+    let saved = run-saved g.H.NodeHash.digest_of g.V.VufCheck.accepted g.S.Verifier.verified lines found old happened' c.ask_line.new.asker c.ask_line.new.self.said.text.items c.ask_line.new.self.state (g.W.Write.contents c.ask_line.new.writer) c.args.keys.now.signing_key
+    (ap (λ (b : Background). b.key) c.ask_line.ensures.stays ∙ key) stood in
+    let both = marks-then c.begin.new.self.state c.prepare.new.self.state c.ask_line.new.self.state asker.monitors.items c.prepare.new.asker.monitors.items c.ask_line.new.asker.monitors.items one other in
+    whole-marked g.H.NodeHash.digest_of g.V.VufCheck.accepted g.S.Verifier.verified (ExchangesFrames g.T.Write.contents g.T.Read.remaining) c.args.keys.now.signing_key c.args.keys.now.token (ask_values c.args.order) (c.args.self.now.state ≡ None)
+    (background_of asker) (background_of c.prepare.new.asker) c.args.stream.now start ready last (g.R.Read.remaining c.args.reader.now) (g.W.Write.contents c.args.writer.now)
+    (g.W.Write.contents c.prepare.new.writer) (g.W.Write.contents c.ask_line.new.writer) old happened' c.ask_line.new.self.state found
+    (begins_run g.H.NodeHash.digest_of g.V.VufCheck.accepted g.S.Verifier.verified (ExchangesFrames g.T.Write.contents g.T.Read.remaining) c.args.keys.now.signing_key c.args.keys.now.token (c.args.self.now.state ≡ None) (background_of asker) c.args.stream.now start (report_of c.args.self.now.said)
+    c.in_ok-asker.ensures.said c.in_ok-asker.ensures.begins c.in_ok-asker.ensures.knows none)
+    (writes_with g.H.NodeHash.digest_of g.V.VufCheck.accepted g.S.Verifier.verified (ExchangesFrames g.T.Write.contents g.T.Read.remaining) c.args.keys.now.signing_key c.args.keys.now.token (ask_values c.args.order)
+    (c.begin.new.self.state ≡ None) (c.args.self.now.state ≡ None) c.begin.ensures.still.1 c.begin.ensures.still.0 (background_of asker) start
+    (g.W.Write.contents c.args.writer.now) (g.W.Write.contents c.prepare.new.writer) ready c.in_ok-prepare.ensures.prepares) c.in_ok-prepare.ensures.stays all
+    (λ no. c.begin.ensures.still.0 (both.0 no)) begun.1 saved (both.1 (marks-first c.begin.new.self.state asker.monitors.items c.in_ok-asker.ensures.knows.2 (c.begin.ensures.looks unlooked))))
+
+pub returns-clause-marks : goal.returns-clause-marks
+returns-clause-marks g c =
+    let start = scene c.in_ok-asker.asker c.begin.new.self.said c.begin.new.stream in
+    let ready = scene c.prepare.new.asker c.prepare.new.self.said c.prepare.new.stream in
+    let last = scene c.ask_lines.new.asker c.ask_lines.new.self.said c.ask_lines.new.stream in
+    let asks = asks_input (λ lines. AsksLines g.H.NodeHash.digest_of g.V.VufCheck.accepted g.S.Verifier.verified (ExchangesFrames g.T.Write.contents g.T.Read.remaining) (background_of c.prepare.new.asker) lines ready
+    (g.W.Write.contents c.prepare.new.writer) (g.W.Write.contents c.ask_lines.new.writer) last) c.ask_lines.result (g.R.Read.remaining c.args.reader.now) c.args.order c.in-None.is c.ask_lines.ensures.asks in
+    ok_both c.ask_lines.result asks c.ask_lines.ensures.marks (λ all marks fresh unlooked none old acts is has.
+    let lines = lines_asked (ask_values c.args.order).words (g.R.Read.remaining c.args.reader.now) in
+    let asker = c.in_ok-asker.asker in
+    let (found, begun) = c.in_ok-asker.ensures.stands fresh lines old acts has in
+    let happened : List Act → Type 0 = λ done. g.K.Keeper.has c.begin.new.keeper (done ++ acts) in
+    let happened' : List Act → Type 0 = λ done. g.K.Keeper.has c.ask_lines.new.keeper (done ++ acts) in
+    let stands = subst (λ (o : Option (List ℕ)). RunStands g.H.NodeHash.digest_of g.V.VufCheck.accepted g.S.Verifier.verified lines found old happened asker c.begin.new.self.said.text.items c.begin.new.self.state o) (sym is) begun in
+    let prepared = ok_have c.prepare.result c.in_ok-prepare.was (c.prepare.ensures.stands lines found old acts stands).1 in
+    let one = c.in_ok-prepare.ensures.marks lines found old acts stands in
+    let key = ap (λ (b : Background). b.key) c.in_ok-prepare.ensures.stays ∙ c.in_ok-asker.ensures.knows.0 in
+    let same = input_asked (g.R.Read.remaining c.args.reader.now) c.args.order c.in-None.is in
+    let here = subst (λ (ls : Option (List (List ℕ))). RunStands g.H.NodeHash.digest_of g.V.VufCheck.accepted g.S.Verifier.verified ls found old (λ (done : List Act). g.K.Keeper.has c.prepare.new.keeper (done ++ acts)) c.prepare.new.asker c.prepare.new.self.said.text.items c.prepare.new.self.state (g.W.Write.contents c.prepare.new.writer)) same prepared in
+    let (stood, kept, other) = marks found old acts here in
+    let back = subst (λ (ls : Option (List (List ℕ))). RunStands g.H.NodeHash.digest_of g.V.VufCheck.accepted g.S.Verifier.verified ls found old happened' c.ask_lines.new.asker c.ask_lines.new.self.said.text.items c.ask_lines.new.self.state (g.W.Write.contents c.ask_lines.new.writer)) (sym same) stood in
+    let saved = run-saved g.H.NodeHash.digest_of g.V.VufCheck.accepted g.S.Verifier.verified lines found old happened' c.ask_lines.new.asker c.ask_lines.new.self.said.text.items c.ask_lines.new.self.state (g.W.Write.contents c.ask_lines.new.writer) c.args.keys.now.signing_key (kept ∙ key) back in
+    let both = marks-then c.begin.new.self.state c.prepare.new.self.state c.ask_lines.new.self.state asker.monitors.items c.prepare.new.asker.monitors.items c.ask_lines.new.asker.monitors.items one other in
+    whole-marked g.H.NodeHash.digest_of g.V.VufCheck.accepted g.S.Verifier.verified (ExchangesFrames g.T.Write.contents g.T.Read.remaining) c.args.keys.now.signing_key c.args.keys.now.token (ask_values c.args.order) (c.args.self.now.state ≡ None)
+    (background_of asker) (background_of c.prepare.new.asker) c.args.stream.now start ready last (g.R.Read.remaining c.args.reader.now) (g.W.Write.contents c.args.writer.now)
+    (g.W.Write.contents c.prepare.new.writer) (g.W.Write.contents c.ask_lines.new.writer) old happened' c.ask_lines.new.self.state found
+    (begins_run g.H.NodeHash.digest_of g.V.VufCheck.accepted g.S.Verifier.verified (ExchangesFrames g.T.Write.contents g.T.Read.remaining) c.args.keys.now.signing_key c.args.keys.now.token (c.args.self.now.state ≡ None) (background_of asker) c.args.stream.now start (report_of c.args.self.now.said)
+    c.in_ok-asker.ensures.said c.in_ok-asker.ensures.begins c.in_ok-asker.ensures.knows none)
+    (writes_with g.H.NodeHash.digest_of g.V.VufCheck.accepted g.S.Verifier.verified (ExchangesFrames g.T.Write.contents g.T.Read.remaining) c.args.keys.now.signing_key c.args.keys.now.token (ask_values c.args.order)
+    (c.begin.new.self.state ≡ None) (c.args.self.now.state ≡ None) c.begin.ensures.still.1 c.begin.ensures.still.0 (background_of asker) start
+    (g.W.Write.contents c.args.writer.now) (g.W.Write.contents c.prepare.new.writer) ready c.in_ok-prepare.ensures.prepares) c.in_ok-prepare.ensures.stays all
+    (λ no. c.begin.ensures.still.0 (both.0 no)) begun.1 saved (both.1 (marks-first c.begin.new.self.state asker.monitors.items c.in_ok-asker.ensures.knows.2 (c.begin.ensures.looks unlooked))))
