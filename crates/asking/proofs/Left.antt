@@ -16,7 +16,9 @@ use Rattle.asking.specs.Saves.{stored_after, Act, Counts, Found, HasMark, IsAske
 use Rattle.asking.specs.Standing.{IsLeft, LeavesState, SettlesState}
 use Rattle.asking.specs.Told.{TellsEpoch}
 use Rattle.asking.specs.declared.state.State.{State}
+use Rattle.asking.specs.Ending.{LoadsNone}
 use Rattle.asking.specs.RunFaults.{IsFaultOfSaving, StopsOr}
+use Rattle.asking.specs.declared.lateness.Limit.{Limit}
 use Rattle.asking.specs.declared.ask_fault.RunFault.{RunFault}
 use Rattle.asking.specs.declared.ask_fault.RunFault.TheVariants.{Program}
 use Rattle.textio.specs.declared.program_fault.ProgramFault.TheVariants.{CannotWrite}
@@ -35,6 +37,9 @@ faults_left Holds asked (Ok done) more is holds = tt
 faults_left Holds asked (Err why) more (inl is) holds = subst (λ (r : Result (Unit {0}) RunFault). IfErr r (StopsOr Holds)) is holds
 faults_left Holds asked (Err why) more (inr (is, saving)) holds = stops_more {A = Unit {0}} IsFaultOfSaving Holds (Err why) more saving
 
+asked-not : (asked : Result (Unit {0}) RunFault) (fault : ProgramFault) → asked ≡ Ok tt → asked ≡ Err (Program fault) → ⊥
+asked-not asked fault is failed = cc
+
 well-not : (asked : Result (Unit {0}) RunFault) → asked ≡ Ok tt → asked ≡ Err (Program CannotWrite) → ⊥
 well-not asked is failed = cc
 
@@ -43,6 +48,13 @@ pub failed_left : (asked left : Result (Unit {0}) RunFault) → IfErr left (λ f
 failed_left asked (Ok done) more = tt
 failed_left asked (Err why) (inl is) = λ failed. sym is ∙ failed
 failed_left asked (Err why) (inr (is, saving)) = λ failed. absurd (well-not asked is failed)
+
+-- a state that could not be read still could not
+pub loads_left : (HasNoState : Type 0) (asked left : Result (Unit {0}) RunFault) (before after : Limit) (status : ℕ) → IfErr left (λ fault. (asked ≡ Err fault) ⊎ ((asked ≡ Ok tt) × StopsOr IsFaultOfSaving fault))
+    → OnErr left (LoadsNone HasNoState asked before after status → LoadsNone HasNoState left before after status)
+loads_left HasNoState asked (Ok done) before after status more = tt
+loads_left HasNoState asked (Err why) before after status (inl is) = λ (fault, was, some, state, last, low). (fault, sym is ∙ was, some, state, last, low)
+loads_left HasNoState asked (Err why) before after status (inr (is, saving)) = λ (fault, was, some, state, last, low). absurd (asked-not asked fault is was)
 
 not-both : (b : Bool) → b ≡ false → b ≡ true → ⊥
 not-both b one other = cc

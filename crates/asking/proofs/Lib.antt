@@ -17,6 +17,7 @@ pub mod Handed
 pub mod Heard
 pub mod HonestRoots
 pub mod Joined
+pub mod Late
 pub mod Left
 pub mod Listed
 pub mod MarkedRuns

@@ -18,6 +18,7 @@ pub mod Reports
 pub mod RunFaults
 pub mod Remembering
 pub mod Keeping
+pub mod Lateness
 pub mod Owning
 pub mod Runs
 pub mod Saves

@@ -7,12 +7,15 @@ use Rattle.asking.specs.Runs.{AsksLine, background_of}
 use Rattle.asking.specs.Scenes.{scene}
 use Rattle.asking.proofs.Ended.{leaves_same, line_not, line_reaches, reaches_whole}
 use Rattle.asking.proofs.Ran.{ok_before, ok_then, written_so}
-use Rattle.std.proofs.Common.{◌≢◌, ◌∙◌, ◌++◌, List, Err, ap, rules, sym}
+use Rattle.std.proofs.Common.{◌≢◌, ◌∙◌, ◌++◌, List, Err, ap, inl, inr, rules, sym}
 use Rattle.asking.specs.declared.ask_fault.AskFault.TheVariants.{OutOfMemory as NoMemory}
 use Rattle.asking.specs.Runs.{Background}
 use Rattle.asking.specs.Saves.{Act}
 use Rattle.asking.specs.Standing.{standing, StateStands}
+use Rattle.asking.specs.Askers.{asker_changes}
+use Rattle.asking.specs.Lateness.{IsLast}
 use Rattle.asking.proofs.Keeping.{was_asked}
+use Rattle.asking.proofs.Late.{does_noting, noted_same, noted_still}
 use Rattle.asking.proofs.MarkedRuns.{ok_all}
 use Rattle.asking.proofs.RunSteps.{line-asked, line-marks, line-ready, line-stands, settled-run, settled-stands, told-so}
 use Rattle.asking.proofs.Written.{state-kept, state-saved}
@@ -128,3 +131,32 @@ returns-clause-marks g c =
           (stands.1 ∙ sym (ap (λ (b : Background). b.marks) c.ask_said.ensures.stays)) ready (goes lines before.key start old acts changes here),
       line-marks g.H.NodeHash.digest_of g.V.VufCheck.accepted g.S.Verifier.verified (ExchangesFrames g.T.Write.contents g.T.Read.remaining) lines start old happened before after said said' c.args.stream.now out reached told client monitors line state c.settle.new.self.state said'.text.items (among line seen) does stands keeps,
     ))
+
+pub returns-clause-noted : goal.returns-clause-noted
+returns-clause-noted g c = λ had.
+    let before = c.args.asker.now in
+    let after = c.ask_said.new.asker in
+    let start = scene before c.args.self.now.said c.args.stream.now in
+    let said : line_of c.args.line.now ≡ Some (line_seen c.in-Some.line) = sym (rw c.in-Some.is at c.in_ok-line.ensures) in
+    elim c.settle.ensures.noted [
+      | inl (some, noted) ↦
+          let (reached, does, told, client, monitors) = c.in-Some-ask_said.ensures.stands some in (
+            reached,
+            inr (
+              line_seen c.in-Some.line,
+              said,
+              does_noting g.H.NodeHash.digest_of g.V.VufCheck.accepted g.S.Verifier.verified (ExchangesFrames g.T.Write.contents g.T.Read.remaining) (background_of before) (line_seen c.in-Some.line) (asker_changes before) (asker_changes after) start reached does,
+            ),
+            noted_same after.marks.items before.marks.items after.client reached.client after.monitors.items reached.monitors c.settle.new.self.limit (ap (λ (b : Background). b.marks) c.ask_said.ensures.stays) client monitors noted,
+          )
+      | inr (not, same) ↦ (start, inl refl, noted_still (IsLast before.marks.items before.client before.monitors.items) c.args.self.now.limit c.settle.new.self.limit same had)
+    ]
+
+pub returns-in_err-line-clause-noted : goal.returns-in_err-line-clause-noted
+returns-in_err-line-clause-noted g c = λ had. (scene c.args.asker.now c.args.self.now.said c.args.stream.now, inl refl, had)
+
+pub returns-in_default-clause-noted : goal.returns-in_default-clause-noted
+returns-in_default-clause-noted g c = λ had. (scene c.args.asker.now c.args.self.now.said c.args.stream.now, inl refl, had)
+
+pub returns-in_default-ask_said-clause-noted : goal.returns-in_default-ask_said-clause-noted
+returns-in_default-ask_said-clause-noted g c = λ had. (scene c.args.asker.now c.args.self.now.said c.args.stream.now, inl refl, had)
