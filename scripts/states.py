@@ -11,7 +11,6 @@ failed`, and the status is 0 where none failed.
 
 import argparse
 import contextlib
-import itertools
 import os
 import pathlib
 import random
@@ -631,36 +630,6 @@ def left_over(program):
             yield otherwise(program, provider, provider.copied(), script, state)
 
 
-# Memory -----------------------------------------------------------------------------------------------------------------
-
-
-def no_memory(program, library):
-    """Wherever memory runs out once the state was read, and before the new epoch is told, it is told that the last epoch
-    is not late enough."""
-    with tempfile.TemporaryDirectory() as folder:
-        begun, provider, found = f"{folder}/begun", Provider(), []
-        for script in (b"register 61 6b31\nclose 2\nwatch 61 6b31\n", b"close 3\n"):
-            provider.begin()
-            ran(program, provider, script, begun)
-        for place in itertools.count(1):
-            state, other = f"{folder}/{place}", provider.copied()
-            for old, new in zip(paths(begun), paths(state)):
-                shutil.copy(old, new)
-            other.begin()
-            # The library's count goes where nobody reads it.
-            output, errors, status = ran(program, other, b"", state, ("watch", "61", "6b31", "--after=2"), **preloaded(library, FAIL_NTH=place))
-            found.append((output, status))
-            if (output, errors, status) == (["kept 61 3"], [], 0):
-                break
-    ends = [end for place, end in enumerate(found) if place == 0 or found[place - 1] != end]
-    yield different("memory that runs out", None, next((end for end in found if end not in NO_MEMORY_ENDS), None))
-    yield different("the order of them", sorted(ends, key=NO_MEMORY_ENDS.index), ends)
-
-
-# Before the state is read; up to where the new epoch is told; and behind that.
-NO_MEMORY_ENDS = [([], 1), (["stale 2"], 3), (["kept 61 3"], 1), (["kept 61 3"], 0)]
-
-
 # The order of calls ---------------------------------------------------------------------------------------------------
 
 
@@ -717,7 +686,7 @@ def main():
     words = parser.parse_args()
     program = os.path.abspath(words.program)
     with tempfile.TemporaryDirectory() as folder:
-        fail_disk, sync_order, fail_nth = (built(name, folder) for name in ("fail_disk", "sync_order", "fail_nth"))
+        fail_disk, sync_order = built("fail_disk", folder), built("sync_order", folder)
         runs = {
             "kills": lambda: kills(program, fail_disk, words.seed, words.kills),
             "full disk": lambda: full_disk(program, fail_disk),
@@ -730,7 +699,6 @@ def main():
             "beginnings": lambda: beginnings(program),
             "old states": lambda: old_states(program, words.seed),
             "left over": lambda: left_over(program),
-            "no memory": lambda: no_memory(program, fail_nth),
         }
         found = {name: list(run()) for name, run in runs.items()}
     failures = [(name, difference) for name, differences in found.items() for difference in differences if difference is not None]

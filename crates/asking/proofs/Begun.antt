@@ -190,7 +190,7 @@ module _ (hash : List ℕ → List ℕ) (accepted verified : List ℕ → List �
         ap (λ (c : Client). c.chain.key) starts.2 ∙ sym same-key,
         subst (λ (old : List SignedPromise). AllByRecursion (IsOwnPromise verified asker.key lines nothing) (old ++ asker.changes.items)) (sym earlier-none)
             (subst (λ (new : List SignedPromise). AllByRecursion (IsOwnPromise verified asker.key lines nothing) new) (sym knows.2) tt),
-        subst (AreEarlier nothing) (sym earlier-none) (record { were = tt; all = λ signed was. absurd (none-own signed was); ascend = λ i j d low within. absurd (omega (arith, within)) }),
+        subst (AreEarlier nothing) (sym earlier-none) (record { were = tt; all = λ signed was. absurd (none-own signed was) }),
       )
 
       pub begun-stands : (first state : Option State) → IsFresh first → HasBegun Before After first state → (start : Found) × RunStands hash accepted verified lines start old (λ done. After (done ++ acts)) asker said state (Some old)

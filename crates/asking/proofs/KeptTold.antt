@@ -6,7 +6,7 @@ use Rattle.rootchain.specs.declared.signed_promise.SignedPromise.{SignedPromise}
 use Rattle.rootchain.specs.declared.signed_root.SignedRoot.{SignedRoot}
 use Rattle.memory.specs.Memories.{Memory}
 use Rattle.memory.specs.declared.mark.Mark.{Mark}
-use Rattle.asking.specs.Saves.{Counts, Found, HasMark, IsOwnAhead, KeepsTold, WasOwn, WasStored}
+use Rattle.asking.specs.Saves.{Counts, Found, HasMark, KeepsTold, WasOwn, WasStored}
 use Rattle.asking.specs.Told.{TellsEpoch}
 use Rattle.asking.proofs.Told.{epoch-more}
 
@@ -21,10 +21,10 @@ module _ (hash : List ℕ → List ℕ) (accepted : List ℕ → List ℕ → Li
 
   -- what is told of a root or was watched before
   abbrev pub IsToldOrStored : Found → List ℕ → List ℕ → SignedRoot → Type 0
-  IsToldOrStored start text name root = TellsEpoch Given (IsOwnAhead Own start.known) (Counts start.known) hash accepted text name root ⊎ WasStored start name root
+  IsToldOrStored start text name root = TellsEpoch Given Own (Counts start.known) hash accepted text name root ⊎ WasStored start name root
 
   pub told-more : (start : Found) (text more name : List ℕ) (root : SignedRoot) → IsToldOrStored start text name root → IsToldOrStored start (text ++ more) name root
-  told-more start text more name root (inl tells) = inl (epoch-more Given (IsOwnAhead Own start.known) (Counts start.known) hash accepted text more name root tells)
+  told-more start text more name root (inl tells) = inl (epoch-more Given Own (Counts start.known) hash accepted text more name root tells)
   told-more start text more name root (inr stored) = inr stored
 
   pub keeps-told : (start : Found) (text : List ℕ) (roots more : List SignedRoot) (known : Memory) → roots ≡ start.roots ++ more

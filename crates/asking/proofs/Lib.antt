@@ -1,6 +1,5 @@
 pub mod Adding
 pub mod Asked
-pub mod AskedNames
 pub mod AskedOwn
 pub mod Begun
 pub mod Caught
@@ -11,18 +10,14 @@ pub mod Keeping
 pub mod Ended
 pub mod Faulty
 pub mod Going
-pub mod GoneOn
 pub mod Halted
 pub mod Handed
 pub mod Heard
 pub mod HonestRoots
 pub mod Joined
-pub mod Late
 pub mod Left
 pub mod Listed
-pub mod MarkedRuns
 pub mod Marks
-pub mod MarksKept
 pub mod Placed
 pub mod Ran
 pub mod Recalling

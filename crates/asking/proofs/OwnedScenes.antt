@@ -129,14 +129,14 @@ module _ (hash : List ℕ → List ℕ) (accepted verified : List ℕ → List �
   handed-goes signed promise before None after (inr (other, same)) = subst (GoesAs before) (sym same) (as-before before)
   handed-goes signed promise before (Some why) after (named, enough, expects) = subst (GoesAs before) (sym (stays-change hash accepted verified before signed.promise.key promise why after expects)) (as-before before)
 
-  all-handed : start.marks ≡ marks → (text : List ℕ) (chain : KeyedRoots) (signed : SignedPromise) (promise : List ℕ) (before : List Monitor) (told told' : Report) (after : List Monitor) → HandsAll hash accepted verified signed promise before told told' after → Own signed → SpellsPromise promise signed
+  all-handed : (text : List ℕ) (chain : KeyedRoots) (signed : SignedPromise) (promise : List ℕ) (before : List Monitor) (told told' : Report) (after : List Monitor) → HandsAll hash accepted verified signed promise before told told' after → Own signed → SpellsPromise promise signed
       → AllByRecursion (Owner text chain) before → AllByRecursion (Owner text chain) after × AllGo before after
-  all-handed same-marks text chain signed promise [] told told' [] hands owns spelled all = (tt, tt)
-  all-handed same-marks text chain signed promise [] told told' (monitor ∷ after) hands owns spelled all = absurd hands
-  all-handed same-marks text chain signed promise (monitor ∷ before) told told' [] hands owns spelled all = absurd hands
-  all-handed same-marks text chain signed promise (monitor ∷ before) told told' (monitor' ∷ after) (why, one, rest) owns spelled all =
-      let (later, go) = all-handed same-marks text chain signed promise before _ told' after rest owns spelled all.1 in
-      ((own-handed hash accepted verified Given Own start text chain marks same-marks signed promise monitor why monitor' one owns spelled all.0, later), (handed-goes signed promise monitor why monitor' one, go))
+  all-handed text chain signed promise [] told told' [] hands owns spelled all = (tt, tt)
+  all-handed text chain signed promise [] told told' (monitor ∷ after) hands owns spelled all = absurd hands
+  all-handed text chain signed promise (monitor ∷ before) told told' [] hands owns spelled all = absurd hands
+  all-handed text chain signed promise (monitor ∷ before) told told' (monitor' ∷ after) (why, one, rest) owns spelled all =
+      let (later, go) = all-handed text chain signed promise before _ told' after rest owns spelled all.1 in
+      ((own-handed hash accepted verified Given Own start text chain marks signed promise monitor why monitor' one owns spelled all.0, later), (handed-goes signed promise monitor why monitor' one, go))
 
   -- the promise that is handed is the last that is noted
   noted-own : (kept' noted noted' : List SignedPromise) (signed other : SignedPromise) → slice_get kept' (length kept' - 1) ≡ Some signed → slice_get kept' (length kept' - 1) ≡ Some other → noted' ≡ noted ++ other ∷ [] → AllByRecursion Own noted' → Own signed
@@ -156,14 +156,14 @@ module _ (hash : List ℕ → List ℕ) (accepted verified : List ℕ → List �
   heard-spelled held (Query query) frame told before after hears = tt
   heard-spelled held (Turn token epoch _) frame told before after hears = tt
 
-  hands-owned : start.marks ≡ marks → (text : List ℕ) (chain : KeyedRoots) (asked : RequestContent) (promise : List ℕ) (kept kept' noted noted' : List SignedPromise) (before : List Monitor) (told : Report) (after : List Monitor)
+  hands-owned : (text : List ℕ) (chain : KeyedRoots) (asked : RequestContent) (promise : List ℕ) (kept kept' noted noted' : List SignedPromise) (before : List Monitor) (told : Report) (after : List Monitor)
       → IsLastSpelled asked promise kept kept' → Hands hash accepted verified asked promise kept kept' before told after → Notes asked kept kept' noted noted' → AllByRecursion Own noted' → AllByRecursion (Owner text chain) before → AllByRecursion (Owner text chain) after × AllGo before after
-  hands-owned same-marks text chain (Put verb name key) promise kept kept' noted noted' before told after spelled (inl (few, silent-is, same)) notes owns all = still-owned text chain before after same all
-  hands-owned same-marks text chain (Put verb name key) promise kept kept' noted noted' before told after spelled (inr (more, (signed, at, hands))) (inl (few, none)) owns all = absurd (omega (arith, more, few))
-  hands-owned same-marks text chain (Put verb name key) promise kept kept' noted noted' before told after spelled (inr (more, (signed, at, hands))) (inr (more', (other, also, is))) owns all =
-      all-handed same-marks text chain signed promise before silent told after hands (noted-own kept' noted noted' signed other at also is owns) (spelled signed more at) all
-  hands-owned same-marks text chain (Query query) promise kept kept' noted noted' before told after spelled (silent-is, same) notes owns all = still-owned text chain before after same all
-  hands-owned same-marks text chain (Turn token epoch _) promise kept kept' noted noted' before told after spelled (silent-is, same) notes owns all = still-owned text chain before after same all
+  hands-owned text chain (Put verb name key) promise kept kept' noted noted' before told after spelled (inl (few, silent-is, same)) notes owns all = still-owned text chain before after same all
+  hands-owned text chain (Put verb name key) promise kept kept' noted noted' before told after spelled (inr (more, (signed, at, hands))) (inl (few, none)) owns all = absurd (omega (arith, more, few))
+  hands-owned text chain (Put verb name key) promise kept kept' noted noted' before told after spelled (inr (more, (signed, at, hands))) (inr (more', (other, also, is))) owns all =
+      all-handed text chain signed promise before silent told after hands (noted-own kept' noted noted' signed other at also is owns) (spelled signed more at) all
+  hands-owned text chain (Query query) promise kept kept' noted noted' before told after spelled (silent-is, same) notes owns all = still-owned text chain before after same all
+  hands-owned text chain (Turn token epoch _) promise kept kept' noted noted' before told after spelled (silent-is, same) notes owns all = still-owned text chain before after same all
 
   -- ---- a step
 
@@ -287,7 +287,7 @@ module _ (hash : List ℕ → List ℕ) (accepted verified : List ℕ → List �
           let chain = before.client.chain in
           let one = more-owned text chain before.told hears.told before.monitors owns.watched in
           let two = more-owned text chain middle hears.handed before.monitors one in
-          let given = hands-owned same-marks (text ++ (told_after middle hears.handed).lines) chain asked frame.body before.client.promises after.client.promises noted noted' before.monitors hears.handed after.monitors
+          let given = hands-owned (text ++ (told_after middle hears.handed).lines) chain asked frame.body before.client.promises after.client.promises noted noted' before.monitors hears.handed after.monitors
           (heard-spelled held asked frame hears.told before.client after.client hears.hears) hears.hands notes owner two in
           goes before after (frame-chain hash accepted verified held before.client after.client asked frame hears.told hears.hears)
           (subst (λ (r : Report). AllByRecursion (Owner (text ++ r.lines) chain) after.monitors × AllGo before.monitors after.monitors) (sym hears.tells) given) owns

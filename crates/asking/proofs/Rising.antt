@@ -60,7 +60,7 @@ module _ (hash : List ℕ → List ℕ) (accepted verified : List ℕ → List �
   twice-told before after told more is = subst (λ (r : Report). before.told.status ≤ r.status) (sym is)
       (rises_on before.told.status (worse before.told.status told.status) (worse (worse before.told.status told.status) more.status) (worse-above before.told.status told.status) (worse-above (worse before.told.status told.status) more.status))
 
-  pub each-rises : (marks : List Mark) → EachKeeps hash accepted verified exchanged marks (λ noted. ⊤) (λ key promised name given. ⊤) Rises
+  each-rises : (marks : List Mark) → EachKeeps hash accepted verified exchanged marks (λ noted. ⊤) (λ key promised name given. ⊤) Rises
   each-rises marks = record {
     none = λ before. at-most before.told.status;
     both = λ before middle after one other. rises_on before.told.status middle.told.status after.told.status one other;

@@ -1,5 +1,5 @@
 -- How a run stands after each step of it.
-use Rattle.std.proofs.Common.{◌≡◌, ◌≢◌, ◌∙◌, ◌≤◌, ℕ, List, [], ◌∷◌, ◌++◌, map, Contains, Option, Some, None, Result, Ok, Err, ap, inl, inr, refl, subst, sym}
+use Rattle.std.proofs.Common.{◌≡◌, ◌≢◌, ◌∙◌, ℕ, List, [], ◌∷◌, ◌++◌, map, Option, Some, None, Result, Ok, Err, ap, inl, inr, refl, subst, sym}
 use Rattle.std.specs.Prelude.{OnOk}
 use Rattle.std.specs.List.{AllByRecursion}
 use Rattle.std.specs.Io.KnownBytes.{Appends}
@@ -17,8 +17,6 @@ use Rattle.asking.specs.Ending.{DoesSomeNoting, PreparesSome}
 use Rattle.asking.specs.Owning.{Owns}
 use Rattle.asking.specs.Reports.{report_of, Report}
 use Rattle.asking.specs.Joining.{noted_for, own_for}
-use Rattle.asking.specs.Keeping.{KeepsUp}
-use Rattle.asking.specs.Marking.{HasMarkOf, MarksOn, StateMarks}
 use Rattle.asking.specs.Runs.{background_of, emptied, Background}
 use Rattle.asking.specs.Saves.{stored_after, Act, AreEarlier, Found, IsAsked, IsOwnPromise, IsSaid, WasOwn}
 use Rattle.asking.specs.Scenes.{scene, Scene}
@@ -31,14 +29,11 @@ use Rattle.asking.specs.declared.said.Said.{Said}
 use Rattle.asking.specs.declared.state.State.{State}
 use Rattle.asking.proofs.AskedOwn.{asked-of}
 use Rattle.asking.proofs.EveryStep.{does_some-keeps, prepares_some-keeps}
-use Rattle.asking.proofs.GoneOn.{begin-well, each-gone, GoesOn, IsBehind}
 use Rattle.asking.proofs.JoinedChanges.{IsSignedOf}
 use Rattle.asking.proofs.Keeping.{was_asked}
-use Rattle.asking.proofs.MarksKept.{have-behind, learned-lasts, learned-marks, none-marked, spans-so, AreGone}
 use Rattle.asking.proofs.NotedOwn.{prepares_some_key, some_key, some_notes, NotesOwn}
 use Rattle.asking.proofs.OwnedMonitors.{AreGiven}
 use Rattle.asking.proofs.OwnedScenes.{each-owned, own_for-own, owns-like}
-use Rattle.asking.proofs.ToldScenes.{all-map}
 
 front-all : {A : Type 0} (P : A → Type 0) (xs ys : List A) → AllByRecursion P (xs ++ ys) → AllByRecursion P xs
 front-all P [] ys all = tt
@@ -130,7 +125,6 @@ module _ {T H V S : Type 0} (hash : List ℕ → List ℕ) (accepted verified : 
         owns = own_for-own (IsOwnPromise verified before.key lines start.known) before.marks.items name before.earlier.items before.changes.items old-ones new-ones;
         signed = signed-of verified before.key lines start.known before.earlier.items old-ones are.were;
         all = are.all;
-        ascend = are.ascend;
       }
 
   -- what the line says is asked
@@ -169,49 +163,6 @@ module _ {T H V S : Type 0} (hash : List ℕ → List ℕ) (accepted verified : 
             (join-all (IsOwnPromise verified before.key lines start.known) before.earlier.items after.changes.items old-ones (noted-ready line asked does ready))),
         subst (AreEarlier start.known) (sym earlier) ready.2,
       )
-
-  -- ---- and each monitor has a mark
-
-  gone : (state : State) → ((text : List ℕ) (stored : List SignedRoot) (known : List Mark) (once : HasNoRepeat (map name_of before.marks.items)) (spans : (mark : Mark) → Contains known mark → mark.since ≤ mark.epoch)
-      → GoesOn hash accepted verified (IsAsked lines) (IsOwnPromise verified before.key lines start.known) start.known before.marks.items text stored known exchanged once spans (scene before said stream) reached)
-      → Stands hash accepted verified lines before.key start old Happened state.epoch state.memory [] out (standing before.client before.monitors.items said.text.items) → start.known.marks ≡ before.marks.items
-      → StateMarks (Some state) before.monitors.items → AreGone state.memory.marks before.monitors.items after.monitors.items
-  gone state goes stands same (count, have, ordered) =
-      let kept = stands.kept in
-      let text = kept.text in
-      let stored = (stored_after kept.acts).roots in
-      let known = state.memory.marks in
-      let once = subst (λ (ms : List Mark). HasNoRepeat (map name_of ms)) same kept.begun in
-      let spans = spans-so (stored_after kept.acts).text kept.saved state.memory [] kept.spells kept.ahead in
-      let here = owns-like hash accepted verified (IsAsked lines) (IsOwnPromise verified before.key lines start.known) start.known start.known.marks text stored known (standing before.client before.monitors.items said.text.items) (scene before said stream) refl refl refl stands.owns in
-      let owns = subst (λ (ms : List Mark). Owns hash accepted verified (IsAsked lines) (IsOwnPromise verified before.key lines start.known) start.known text stored ms known (scene before said stream)) same here in
-      let behind = all-map (HasMarkOf known) (IsBehind known) before.monitors.items (λ monitor has. have-behind known monitor kept.once has) have in
-      let ((owned, low, up), go) = goes text stored known once spans (owns, behind, ordered) in
-      let well = begin-well hash accepted verified (IsAsked lines) (IsOwnPromise verified before.key lines start.known) start.known before.marks.items text stored known exchanged once spans reached owned in
-      subst (AreGone known before.monitors.items) (sym monitors) (record { go = go; behind = low; ordered = up; well = well })
-
-  pub prepared-marks : (HasNoState : Type 0) (state state' : Option State) (told' : List ℕ) → PreparesSome hash accepted verified exchanged (background_of before) HasNoState (scene before said stream) reached
-      → RunStands hash accepted verified lines start old Happened before said.text.items state out → KeepsUp after told' state state' → MarksOn state before.monitors.items state' after.monitors.items
-  prepared-marks HasNoState None state' told' prepares stands kept = (learned-lasts after told' None state' kept, λ marked. none-marked after told' state' kept)
-  prepared-marks HasNoState (Some state) state' told' prepares (stands, same, ready) kept = (
-    learned-lasts after told' (Some state) state' kept,
-    λ marked. learned-marks after told' state state' before.monitors.items kept stands.kept.once (gone state (λ text stored known once spans.
-        prepares_some-keeps hash accepted verified exchanged (background_of before) (each-gone hash accepted verified (IsAsked lines) (IsOwnPromise verified before.key lines start.known) start.known before.marks.items text stored known exchanged once spans
-        (each-owned hash accepted verified (IsAsked lines) (IsOwnPromise verified before.key lines start.known) start.known before.marks.items text stored known exchanged once (λ signed own. own.0.0) same))
-        HasNoState (scene before said stream) reached prepares) stands same marked) marked,
-  )
-
-  pub line-marks : (line : ScriptLine) (state state' : Option State) (told' : List ℕ) → IsSaid lines line
-      → DoesSomeNoting hash accepted verified exchanged (background_of before) line before.changes.items after.changes.items (scene before said stream) reached
-      → RunStands hash accepted verified lines start old Happened before said.text.items state out → KeepsUp after told' state state' → MarksOn state before.monitors.items state' after.monitors.items
-  line-marks line None state' told' asked does stands kept = (learned-lasts after told' None state' kept, λ marked. none-marked after told' state' kept)
-  line-marks line (Some state) state' told' asked does (stands, same, ready) kept = (
-    learned-lasts after told' (Some state) state' kept,
-    λ marked. learned-marks after told' state state' before.monitors.items kept stands.kept.once (gone state (λ text stored known once spans.
-        does_some-keeps hash accepted verified exchanged (background_of before) (each-gone hash accepted verified (IsAsked lines) (IsOwnPromise verified before.key lines start.known) start.known before.marks.items text stored known exchanged once spans
-        (each-owned hash accepted verified (IsAsked lines) (IsOwnPromise verified before.key lines start.known) start.known before.marks.items text stored known exchanged once (λ signed own. own.0.0) same))
-        line before.changes.items after.changes.items (scene before said stream) reached (noted-ready line asked does ready) (λ name key is. (subst (IsSaid lines) is asked, given-so name ready)) does) stands same marked) marked,
-  )
 
 -- what is noted was asked for, also where memory ran out
 pub line-asked : {T H V S : Type 0} (hash : List ℕ → List ℕ) (accepted verified : List ℕ → List ℕ → List ℕ → Type 0) (exchanged : T → RequestContent → Frame → T → Type 0) (lines : Option (List (List ℕ))) (start : Found)

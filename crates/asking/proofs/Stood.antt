@@ -16,7 +16,7 @@ use Rattle.memory.proofs.Taken.{taken-append, unchanged-taken}
 use Rattle.memory.proofs.WholeLines.{spells-more, whole-more}
 use Rattle.monitor.specs.Monitors.{Monitor}
 use Rattle.asking.specs.Owning.{IsHeld, IsOwn, Owns, WasWatched}
-use Rattle.asking.specs.Saves.{found_in, roots_above, stored_after, Act, AddsLines, AddsRoots, Counts, Found, IsAsked, IsAskedChange, IsOwnAhead, IsOwnPromise, KeepsTold, WasOwn, WasStored}
+use Rattle.asking.specs.Saves.{found_in, roots_above, stored_after, Act, AddsLines, AddsRoots, Counts, Found, IsAsked, IsAskedChange, IsOwnPromise, KeepsTold, WasOwn, WasStored}
 use Rattle.asking.specs.Scenes.{Scene}
 use Rattle.asking.specs.Standing.{standing, Fits, IsKept, IsUpTo, KeepsMarks, Stands}
 use Rattle.asking.specs.Told.{TellsEpoch}
@@ -289,7 +289,7 @@ module _ (hash : List ℕ → List ℕ) (accepted verified : List ℕ → List �
     was-stored name root among (mark, has, same, above, below) = (stands.kept.early mark has root among above below, (mark, has, same, above, below))
 
     told-so : (mark : Mark) → Contains known'.marks mark → (root : SignedRoot) → Contains (stored_after stands.kept.acts).roots root → mark.since < root.body.epoch → root.body.epoch ≤ mark.epoch
-        → TellsEpoch (IsAsked lines) (IsOwnAhead (IsOwnPromise verified key lines start.known) start.known) (Counts start.known) hash accepted text mark.name root ⊎ WasStored start mark.name root
+        → TellsEpoch (IsAsked lines) (IsOwnPromise verified key lines start.known) (Counts start.known) hash accepted text mark.name root ⊎ WasStored start mark.name root
     told-so mark has root among above below =
         elim ((held mark has).told root (all-in (Contains client.chain.roots) (stored_after stands.kept.acts).roots root stands.owns.stores among) above below) [
           | inl tells ↦ inl tells

@@ -4,7 +4,7 @@ use Rattle.rootchain.specs.declared.signed_promise.SignedPromise.{SignedPromise}
 use Rattle.rootchain.specs.declared.signed_root.SignedRoot.{SignedRoot}
 use Rattle.memory.specs.Memories.{Memory}
 use Rattle.memory.specs.Texts.{Spells}
-use Rattle.asking.specs.Saves.{found_in, stored_after, Act, AddsLines, AddsRoots, AllKeepTold, Counts, Found, IsOwnAhead, Loads, Stored, WasOwn, WasStored, Writes}
+use Rattle.asking.specs.Saves.{found_in, stored_after, Act, AddsLines, AddsRoots, AllKeepTold, Counts, Found, Loads, Stored, WasOwn, WasStored, Writes}
 use Rattle.asking.specs.Told.{TellsEpoch}
 
 -- A run: what was asked in it, what the output had before it, and what it did to the files. What the next run finds is their
@@ -50,7 +50,7 @@ module _ (hash : List ℕ → List ℕ) (accepted : List ℕ → List ℕ → Li
   WasTold first [] name root = (known : Memory) × Spells first.text (Ok known) × WasStored (found_in first known) name root
   WasTold first (run ∷ earlier) name root =
       ((found : Memory) × Spells (left_by first earlier).text (Ok found)
-      × ((text : List ℕ) × WasWritten run.old run.left text × TellsEpoch (Given run.asked) (IsOwnAhead (Own run.asked found) found) (Counts found) hash accepted text name root)) ⊎ WasTold first earlier name root
+      × ((text : List ℕ) × WasWritten run.old run.left text × TellsEpoch (Given run.asked) (Own run.asked found) (Counts found) hash accepted text name root)) ⊎ WasTold first earlier name root
 
   module _ (Asked : X → SignedPromise → Type 0) where
     -- each run finds what the files had after those before it, and keeps all told that it does to them

@@ -192,7 +192,7 @@ fn explain_again(
 }
 
 /// Where the watching of a name goes on.
-#[derive(Drop)]
+#[derive(Debug, Drop)]
 enum ToWatch {
     /// At this root.
     FromRoot(SignedRoot),
@@ -381,12 +381,7 @@ fn is_later(
 fn awaits(marks: &[Mark], signed: &SignedPromise) -> bool
     ensures { IsTrue result ↔ Any (IsAwaited signed.now) marks.now }
 {
-    for mark in marks {
-        if is_awaited(signed, mark) {
-            return true;
-        }
-    }
-    false
+    marks.iter().any(|mark| is_awaited(signed, mark))
 }
 
 /// What a monitor expects at first: the key of the last promise, or else the one that is given.

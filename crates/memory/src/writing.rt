@@ -40,7 +40,8 @@ pub(crate) fn push_promised(text: &mut Vec<u8>, promised: &Promised) -> Result<(
 {
     push_word(text, promise_word(promised.is_own))?;
     push_hex(text, promised.signed.write().bytes())?;
-    text.extend_from_slice(b"\n")
+    text.push(b'\n')?;
+    Ok(())
 }
 
 pub(crate) fn push_mark(text: &mut Vec<u8>, mark: &Mark) -> Result<(), AllocError>
@@ -49,9 +50,10 @@ pub(crate) fn push_mark(text: &mut Vec<u8>, mark: &Mark) -> Result<(), AllocErro
     ensures grows { StartsWith text.new.items text.old.items }
 {
     push_named(text, b"watched", mark.name.bytes(), mark.since)?;
-    text.extend_from_slice(b" ")?;
+    text.push(b' ')?;
     push_number(text, mark.epoch)?;
-    text.extend_from_slice(b"\n")
+    text.push(b'\n')?;
+    Ok(())
 }
 
 pub(crate) fn push_alarm(text: &mut Vec<u8>, alarm: &Alarm) -> Result<(), AllocError>
@@ -60,9 +62,10 @@ pub(crate) fn push_alarm(text: &mut Vec<u8>, alarm: &Alarm) -> Result<(), AllocE
     ensures grows { StartsWith text.new.items text.old.items }
 {
     push_named(text, b"alarm", alarm.name.bytes(), alarm.epoch)?;
-    text.extend_from_slice(b" ")?;
+    text.push(b' ')?;
     push_found(text, &alarm.found)?;
-    text.extend_from_slice(b"\n")
+    text.push(b'\n')?;
+    Ok(())
 }
 
 pub(crate) fn push_evidence(text: &mut Vec<u8>, line: &EvidenceLine) -> Result<(), AllocError>
@@ -70,7 +73,8 @@ pub(crate) fn push_evidence(text: &mut Vec<u8>, line: &EvidenceLine) -> Result<(
     ensures grows { StartsWith text.new.items text.old.items }
 {
     text.extend_from_slice(line.bytes())?;
-    text.extend_from_slice(b"\n")
+    text.push(b'\n')?;
+    Ok(())
 }
 
 /// The first word of the line of a promise.
@@ -86,7 +90,8 @@ fn push_word(text: &mut Vec<u8>, word: &[u8]) -> Result<(), AllocError>
     ensures grows { StartsWith text.new.items text.old.items }
 {
     text.extend_from_slice(word)?;
-    text.extend_from_slice(b" ")
+    text.push(b' ')?;
+    Ok(())
 }
 
 /// Appends a word, a name in digits and an epoch.
@@ -96,7 +101,7 @@ fn push_named(text: &mut Vec<u8>, word: &[u8], name: &[u8], epoch: u64) -> Resul
 {
     push_word(text, word)?;
     push_hex(text, name)?;
-    text.extend_from_slice(b" ")?;
+    text.push(b' ')?;
     push_number(text, epoch)
 }
 
