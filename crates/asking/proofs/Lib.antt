@@ -1,9 +1,7 @@
 pub mod Adding
 pub mod Asked
-pub mod Catching
 pub mod AskedOwn
 pub mod Begun
-pub mod Between
 pub mod Caught
 pub mod ChainRoots
 pub mod Earlier
@@ -34,7 +32,6 @@ pub mod KeptTold
 pub mod HeldMarks
 pub mod StateRuns
 pub mod RunSteps
-pub mod RunParts
 pub mod Saving
 pub mod OwnedRoots
 pub mod JoinedChanges
@@ -44,7 +41,6 @@ pub mod OwnedScenes
 pub mod SameChain
 pub mod EveryStep
 pub mod Settled
-pub mod Shifted
 pub mod Standing
 pub mod Stepped
 pub mod Stood

@@ -18,17 +18,15 @@ use Rattle.wire.specs.Responses.{ResponseContent, Promise, Proof, Refused, Respo
 use Rattle.play.specs.Scripts.{ScriptLine, Pass, Ask, Watch, Piece, End}
 use Rattle.play.proofs.Calling.{one-promise}
 use Rattle.memory.specs.declared.mark.Mark.{Mark}
-use Rattle.asking.specs.Asking.{replied, AsksDirectory, AsksSome, HearsSome, Notes}
-use Rattle.asking.specs.Catching.{CatchesSome, CatchesUp}
+use Rattle.asking.specs.Asking.{replied, AsksDirectory, AsksSome, CatchesSome, CatchesUp, HearsSome, Notes}
 use Rattle.asking.specs.Checking.{HearsFrame, HearsResponse}
-use Rattle.asking.specs.Ending.{DoesSomeNoting, LooksSome, PreparesSome}
+use Rattle.asking.specs.Ending.{DoesSomeNoting, PreparesSome}
 use Rattle.asking.specs.Following.{asks_roots, StopsFollowing}
 use Rattle.asking.specs.Reports.{Report}
 use Rattle.asking.specs.Runs.{Background}
 use Rattle.asking.specs.Saves.{IsSignedBy}
 use Rattle.asking.specs.Scenes.{Scene}
-use Rattle.asking.proofs.EveryStep.{advances-keep, advances_some-keeps, catches_up-keeps, does_some-keeps, hears_some-keeps, looks_some-keeps, prepares_some-keeps, reply-keeps, EachKeeps}
-use Rattle.asking.proofs.Standing.{AdvancesAny, HearsAny}
+use Rattle.asking.proofs.EveryStep.{catches_up-keeps, does_some-keeps, prepares_some-keeps, EachKeeps}
 use Rattle.asking.proofs.Heard.{keeps_same}
 use Rattle.asking.proofs.Ran.{updated_key}
 use Rattle.asking.proofs.SameChain.{frame-chain, shown-chain}
@@ -133,19 +131,6 @@ module _ (hash : List ℕ → List ℕ) (accepted verified : List ℕ → List �
     pub prepares_some_key : (background : Background) (HasNoState : Type 0) (before after : Scene T) → PreparesSome hash accepted verified exchanged background HasNoState before after → SameKey before after
     prepares_some_key background HasNoState before after prepares = prepares_some-keeps hash accepted verified exchanged background (each-key background.marks) HasNoState before after prepares
 
-    pub advanced_key : (background : Background) (epoch : ℕ) (before after : Scene T) → AdvancesAny hash accepted verified exchanged background epoch before after → SameKey before after
-    advanced_key background epoch before after (inl (goes, advances)) = advances-keep hash accepted verified exchanged background.marks (each-key background.marks) epoch before goes after advances
-    advanced_key background epoch before after (inr (inl stops)) = (each-key background.marks).stops before after stops
-    advanced_key background epoch before after (inr (inr some)) = advances_some-keeps hash accepted verified exchanged background.marks (each-key background.marks) epoch before after some
-
-    pub looks_key : (background : Background) (held : ℕ) (frame : Frame) (before after : Scene T) → LooksSome hash accepted verified exchanged background held frame before after → SameKey before after
-    looks_key background held frame before after looks = looks_some-keeps hash accepted verified exchanged background (each-key background.marks) held frame before after looks
-
-    pub hears_key : (background : Background) (held : ℕ) (asked : RequestContent) (frame : Frame) (noted noted' : List SignedPromise) (before after : Scene T) → HearsAny hash accepted verified exchanged background held asked frame noted noted' before after
-        → SameKey before after
-    hears_key background held asked frame noted noted' before after (inl hears) = reply-keeps hash accepted verified exchanged background.marks (each-key background.marks) held asked frame noted noted' before after tt hears
-    hears_key background held asked frame noted noted' before after (inr some) = hears_some-keeps hash accepted verified exchanged background.marks (each-key background.marks) held asked frame noted noted' before after tt some
-
     pub some_key : (background : Background) (said : ScriptLine) (noted noted' : List SignedPromise) (before after : Scene T) → DoesSomeNoting hash accepted verified exchanged background said noted noted' before after → SameKey before after
     some_key background said noted noted' before after does =
         does_some-keeps hash accepted verified exchanged background (each-key background.marks) said noted noted' before after tt (λ name given is. tt) does
@@ -157,13 +142,13 @@ module _ (hash : List ℕ → List ℕ) (accepted verified : List ℕ → List �
       HasNotes before = NotesOwn verified before.client.chain.key (Ask asked) noted noted'
 
       -- once the chain is as far as the reply
-      caught-notes : (epoch : ℕ) (before ready : Scene T) → CatchesUp hash accepted verified exchanged marks epoch before ready → HasNotes ready → HasNotes before
+      caught-notes : (epoch : ℕ) (before ready : Scene T) → CatchesUp hash accepted verified exchanged epoch before ready → HasNotes ready → HasNotes before
       caught-notes epoch before ready catches notes =
           subst (λ (k : List ℕ). NotesOwn verified k (Ask asked) noted noted') (catches_up-keeps hash accepted verified exchanged marks (each-key marks) epoch before ready catches) notes
 
       asks-notes : (before after : Scene T) → AsksDirectory hash accepted verified exchanged marks token asked noted noted' before after → HasNotes before
       asks-notes before after asks = caught-notes asks.reply.epoch (replied asks.reply) asks.ready asks.catches
-          (noted-own asks.reply.head.body.epoch asked asks.reply.frame asks.hears.hears.told asks.ready.client asks.hears.heard.client noted noted' asks.hears.hears.hears asks.hears.notes)
+          (noted-own asks.reply.head.body.epoch asked asks.reply.frame asks.hears.told asks.ready.client asks.heard.client noted noted' asks.hears.hears asks.notes)
 
       hears_some-notes : (held : ℕ) (frame : Frame) (before after : Scene T) → HearsSome hash accepted verified exchanged marks held asked frame noted noted' before after → HasNotes before
       hears_some-notes held frame before after (inl (none, same)) = inl none
@@ -175,16 +160,11 @@ module _ (hash : List ℕ → List ℕ) (accepted verified : List ℕ → List �
       asks_some-notes before after (inl (none, same)) = inl none
       asks_some-notes before after (inr asks) = by asks.steps
         where
-          by : ((noted' ≡ noted) × CatchesSome hash accepted verified exchanged marks asks.reply.epoch (replied asks.reply) after)
-              ⊎ ((ready : Scene T) × CatchesUp hash accepted verified exchanged marks asks.reply.epoch (replied asks.reply) ready × HearsSome hash accepted verified exchanged marks asks.reply.head.body.epoch asked asks.reply.frame noted noted' ready after)
+          by : ((noted' ≡ noted) × CatchesSome hash accepted verified exchanged asks.reply.epoch (replied asks.reply) after)
+              ⊎ ((ready : Scene T) × CatchesUp hash accepted verified exchanged asks.reply.epoch (replied asks.reply) ready × HearsSome hash accepted verified exchanged marks asks.reply.head.body.epoch asked asks.reply.frame noted noted' ready after)
               → HasNotes before
           by (inl (none, catches)) = inl none
           by (inr (ready, catches, hears)) = caught-notes asks.reply.epoch (replied asks.reply) ready catches (hears_some-notes asks.reply.head.body.epoch asks.reply.frame ready after hears)
-
-    pub hears_notes : (background : Background) (held : ℕ) (asked : RequestContent) (frame : Frame) (noted noted' : List SignedPromise) (before after : Scene T) → HearsAny hash accepted verified exchanged background held asked frame noted noted' before after
-        → NotesOwn verified before.client.chain.key (Ask asked) noted noted'
-    hears_notes background held asked frame noted noted' before after (inl hears) = noted-own held asked frame hears.hears.told before.client hears.heard.client noted noted' hears.hears.hears hears.notes
-    hears_notes background held asked frame noted noted' before after (inr some) = hears_some-notes background.marks background.token asked noted noted' held frame before after some
 
     pub some_notes : (background : Background) (said : ScriptLine) (noted noted' : List SignedPromise) (before after : Scene T) → DoesSomeNoting hash accepted verified exchanged background said noted noted' before after
         → NotesOwn verified before.client.chain.key said noted noted'

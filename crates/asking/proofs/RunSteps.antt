@@ -1,6 +1,6 @@
 -- How a run stands after each step of it.
-use Rattle.std.proofs.Common.{◌≡◌, ◌≢◌, ◌∙◌, ℕ, Bool, true, false, List, [], ◌∷◌, ◌++◌, map, Option, Some, None, Result, Ok, Err, Global, Vec, ap, inl, inr, refl, rules, subst, sym}
-use Rattle.std.specs.Prelude.{IfErr, IfOk, OnOk}
+use Rattle.std.proofs.Common.{◌≡◌, ◌≢◌, ◌∙◌, ℕ, List, [], ◌∷◌, ◌++◌, map, Option, Some, None, Result, Ok, Err, ap, inl, inr, refl, subst, sym}
+use Rattle.std.specs.Prelude.{OnOk}
 use Rattle.std.specs.List.{AllByRecursion}
 use Rattle.std.specs.Io.KnownBytes.{Appends}
 use Rattle.rootchain.specs.Promises.{IsSignedPromise}
@@ -12,8 +12,8 @@ use Rattle.memory.specs.Memories.{name_of, Memory}
 use Rattle.memory.specs.declared.mark.Mark.{Mark}
 use Rattle.wire.specs.Frames.{Frame}
 use Rattle.wire.specs.Requests.{RequestContent}
-use Rattle.play.specs.Scripts.{Ask, ScriptLine}
-use Rattle.asking.specs.Ending.{DoesSomeNoting, LooksSome, PreparesSome}
+use Rattle.play.specs.Scripts.{ScriptLine}
+use Rattle.asking.specs.Ending.{DoesSomeNoting, PreparesSome}
 use Rattle.asking.specs.Owning.{Owns}
 use Rattle.asking.specs.Reports.{report_of, Report}
 use Rattle.asking.specs.Joining.{noted_for, own_for}
@@ -22,17 +22,16 @@ use Rattle.asking.specs.Saves.{stored_after, Act, AreEarlier, Found, IsAsked, Is
 use Rattle.asking.specs.Scenes.{scene, Scene}
 use Rattle.asking.specs.Standing.{standing, AreAsked, IsReady, RunStands, Stands, StateStands}
 use Rattle.asking.specs.declared.ask_fault.AskFault.{AskFault}
-use Rattle.asking.specs.declared.ask_fault.AskFault.TheVariants.{NoReply, OutOfMemory as NoMemory, Stopped}
+use Rattle.asking.specs.declared.ask_fault.AskFault.TheVariants.{OutOfMemory as NoMemory}
 use Rattle.asking.specs.declared.ask_fault.RunFault.{RunFault}
 use Rattle.asking.specs.declared.asker.Asker.{Asker}
 use Rattle.asking.specs.declared.said.Said.{Said}
 use Rattle.asking.specs.declared.state.State.{State}
 use Rattle.asking.proofs.AskedOwn.{asked-of}
-use Rattle.asking.proofs.EveryStep.{advances-keep, advances_some-keeps, does_some-keeps, hears_some-keeps, looks_some-keeps, prepares_some-keeps, reply-keeps}
-use Rattle.asking.proofs.Standing.{AdvancesAny, HearsAny}
+use Rattle.asking.proofs.EveryStep.{does_some-keeps, prepares_some-keeps}
 use Rattle.asking.proofs.JoinedChanges.{IsSignedOf}
 use Rattle.asking.proofs.Keeping.{was_asked}
-use Rattle.asking.proofs.NotedOwn.{advanced_key, hears_key, hears_notes, looks_key, prepares_some_key, some_key, some_notes, NotesOwn}
+use Rattle.asking.proofs.NotedOwn.{prepares_some_key, some_key, some_notes, NotesOwn}
 use Rattle.asking.proofs.OwnedMonitors.{AreGiven}
 use Rattle.asking.proofs.OwnedScenes.{each-owned, own_for-own, owns-like}
 
@@ -79,22 +78,6 @@ module _ {T : Type 0} (hash : List ℕ → List ℕ) (accepted verified : List �
     prepared-owned HasNoState before after prepares owns =
         prepares_some-keeps hash accepted verified exchanged background (each-owned hash accepted verified (IsAsked lines) Own start background.marks text stored known exchanged once spelled same-marks) HasNoState before after prepares owns
 
-    advanced-owned : (epoch : ℕ) (before after : Scene T) → AdvancesAny hash accepted verified exchanged background epoch before after → OwnsNow text stored background.marks known before → OwnsNow text stored background.marks known after
-    advanced-owned epoch before after (inl (goes, advances)) owns = advances-keep hash accepted verified exchanged background.marks (each-owned hash accepted verified (IsAsked lines) Own start background.marks text stored known exchanged once spelled same-marks) epoch before goes after advances owns
-    advanced-owned epoch before after (inr (inl stops)) owns = (each-owned hash accepted verified (IsAsked lines) Own start background.marks text stored known exchanged once spelled same-marks).stops before after stops owns
-    advanced-owned epoch before after (inr (inr some)) owns = advances_some-keeps hash accepted verified exchanged background.marks (each-owned hash accepted verified (IsAsked lines) Own start background.marks text stored known exchanged once spelled same-marks) epoch before after some owns
-
-    looked-owned : (held : ℕ) (frame : Frame) (before after : Scene T) → LooksSome hash accepted verified exchanged background held frame before after → OwnsNow text stored background.marks known before → OwnsNow text stored background.marks known after
-    looked-owned held frame before after looks owns =
-        looks_some-keeps hash accepted verified exchanged background (each-owned hash accepted verified (IsAsked lines) Own start background.marks text stored known exchanged once spelled same-marks) held frame before after looks owns
-
-    heard-owned : (held : ℕ) (asked : RequestContent) (frame : Frame) (noted noted' : List SignedPromise) (before after : Scene T) → AllByRecursion Own noted' → HearsAny hash accepted verified exchanged background held asked frame noted noted' before after
-        → OwnsNow text stored background.marks known before → OwnsNow text stored background.marks known after
-    heard-owned held asked frame noted noted' before after new' (inl hears) owns =
-        reply-keeps hash accepted verified exchanged background.marks (each-owned hash accepted verified (IsAsked lines) Own start background.marks text stored known exchanged once spelled same-marks) held asked frame noted noted' before after new' hears owns
-    heard-owned held asked frame noted noted' before after new' (inr some) owns =
-        hears_some-keeps hash accepted verified exchanged background.marks (each-owned hash accepted verified (IsAsked lines) Own start background.marks text stored known exchanged once spelled same-marks) held asked frame noted noted' before after new' some owns
-
 module _ {T H V S : Type 0} (hash : List ℕ → List ℕ) (accepted verified : List ℕ → List ℕ → List ℕ → Type 0) (exchanged : T → RequestContent → Frame → T → Type 0) (lines : Option (List (List ℕ))) (start : Found) (old : List ℕ) (Happened : List Act → Type 0)
     (before after : Asker H V S) (said said' : Said) (stream : T) (out : Option (List ℕ)) (reached : Scene T) (told : report_of said' ≡ reached.told) (client : after.client ≡ reached.client) (monitors : after.monitors.items ≡ reached.monitors) where
   -- a step that keeps what is owned
@@ -121,35 +104,6 @@ module _ {T H V S : Type 0} (hash : List ℕ → List ℕ) (accepted verified : 
   prepared-stands HasNoState None prepares stands = stands.0
   prepared-stands HasNoState (Some state) prepares (stands, same, ready) =
       stepped state (λ text stored known once owns. prepared-owned hash accepted verified exchanged lines (IsOwnPromise verified before.key lines start.known) start.known (background_of before) text stored known once (λ signed own. own.0.0) same HasNoState (scene before said stream) reached prepares owns) stands same
-
-  -- a list is taken on the way to an epoch
-  pub advanced-stands : (epoch : ℕ) (state : Option State) → AdvancesAny hash accepted verified exchanged (background_of before) epoch (scene before said stream) reached
-      → RunStands hash accepted verified lines start old Happened before said.text.items state out → StateStands hash accepted verified lines before.key start old Happened state out (standing after.client after.monitors.items said'.text.items)
-  advanced-stands epoch None advances stands = stands.0
-  advanced-stands epoch (Some state) advances (stands, same, ready) =
-      stepped state (λ text stored known once owns. advanced-owned hash accepted verified exchanged lines (IsOwnPromise verified before.key lines start.known) start.known (background_of before) text stored known once (λ signed own. own.0.0) same epoch (scene before said stream) reached advances owns) stands same
-
-  -- the latest root is heard
-  pub looked-stands : (held : ℕ) (frame : Frame) (state : Option State) → LooksSome hash accepted verified exchanged (background_of before) held frame (scene before said stream) reached
-      → RunStands hash accepted verified lines start old Happened before said.text.items state out → StateStands hash accepted verified lines before.key start old Happened state out (standing after.client after.monitors.items said'.text.items)
-  looked-stands held frame None looks stands = stands.0
-  looked-stands held frame (Some state) looks (stands, same, ready) =
-      stepped state (λ text stored known once owns. looked-owned hash accepted verified exchanged lines (IsOwnPromise verified before.key lines start.known) start.known (background_of before) text stored known once (λ signed own. own.0.0) same held frame (scene before said stream) reached looks owns) stands same
-
-  -- a reply is heard, and what is noted of it is the owner's own
-  heard-ready-own : (held : ℕ) (asked : RequestContent) (frame : Frame) → IsSaid lines (Ask asked) → HearsAny hash accepted verified exchanged (background_of before) held asked frame before.changes.items after.changes.items (scene before said stream) reached
-      → IsReady verified lines start.known before → AllByRecursion (IsOwnPromise verified before.key lines start.known) after.changes.items
-  heard-ready-own held asked frame says hears (keyed, ready, are) = own-noted verified before.key lines start.known (Ask asked) before.changes.items after.changes.items
-      (subst (λ (k : List ℕ). NotesOwn verified k (Ask asked) before.changes.items after.changes.items) keyed (hears_notes hash accepted verified exchanged (background_of before) held asked frame before.changes.items after.changes.items (scene before said stream) reached hears))
-      says (back-all (IsOwnPromise verified before.key lines start.known) before.earlier.items before.changes.items ready)
-
-  pub heard-stands : (held : ℕ) (asked : RequestContent) (frame : Frame) (state : Option State) → IsSaid lines (Ask asked)
-      → HearsAny hash accepted verified exchanged (background_of before) held asked frame before.changes.items after.changes.items (scene before said stream) reached
-      → RunStands hash accepted verified lines start old Happened before said.text.items state out → StateStands hash accepted verified lines before.key start old Happened state out (standing after.client after.monitors.items said'.text.items)
-  heard-stands held asked frame None says hears stands = stands.0
-  heard-stands held asked frame (Some state) says hears (stands, same, ready) =
-      stepped state (λ text stored known once owns. heard-owned hash accepted verified exchanged lines (IsOwnPromise verified before.key lines start.known) start.known (background_of before) text stored known once (λ signed own. own.0.0) same held asked frame before.changes.items after.changes.items (scene before said stream) reached
-      (heard-ready-own held asked frame says hears ready) hears owns) stands same
 
   -- what is noted of a line is the owner's own
   noted-ready : (line : ScriptLine) → IsSaid lines line → DoesSomeNoting hash accepted verified exchanged (background_of before) line before.changes.items after.changes.items (scene before said stream) reached → IsReady verified lines start.known before
@@ -185,60 +139,30 @@ module _ {T H V S : Type 0} (hash : List ℕ → List ℕ) (accepted verified : 
 
   -- ---- and it is ready for the next
 
-  same-ready : reached.client.chain.key ≡ before.client.chain.key → background_of after ≡ background_of before → after.changes ≡ before.changes → IsReady verified lines start.known before → IsReady verified lines start.known after
-  same-ready one stays same (keyed, ready, are) =
+  pub prepared-ready : (HasNoState : Type 0) → PreparesSome hash accepted verified exchanged (background_of before) HasNoState (scene before said stream) reached → background_of after ≡ background_of before → after.changes ≡ before.changes
+      → IsReady verified lines start.known before → IsReady verified lines start.known after
+  prepared-ready HasNoState prepares stays same (keyed, ready, are) =
       let key = ap (λ (b : Background). b.key) stays in
       let earlier = ap (λ (b : Background). b.earlier) stays in (
-        ap (λ (c : Client). c.chain.key) client ∙ one ∙ keyed ∙ sym key,
+        ap (λ (c : Client). c.chain.key) client ∙ prepares_some_key hash accepted verified exchanged (background_of before) HasNoState (scene before said stream) reached prepares ∙ keyed ∙ sym key,
         subst (λ (k : List ℕ). AllByRecursion (IsOwnPromise verified k lines start.known) (after.earlier.items ++ after.changes.items)) (sym key)
             (subst (λ (xs : List SignedPromise). AllByRecursion (IsOwnPromise verified before.key lines start.known) (xs ++ after.changes.items)) (sym earlier)
             (subst (λ (xs : List SignedPromise). AllByRecursion (IsOwnPromise verified before.key lines start.known) (before.earlier.items ++ xs)) (sym (ap (λ cs. cs.items) same)) ready)),
         subst (AreEarlier start.known) (sym earlier) are,
       )
 
-  noted-so : reached.client.chain.key ≡ before.client.chain.key → background_of after ≡ background_of before → AllByRecursion (IsOwnPromise verified before.key lines start.known) after.changes.items
-      → IsReady verified lines start.known before → IsReady verified lines start.known after
-  noted-so one stays noted ready =
-      let key = ap (λ (b : Background). b.key) stays in
-      let earlier = ap (λ (b : Background). b.earlier) stays in
-      let old-ones = front-all (IsOwnPromise verified before.key lines start.known) before.earlier.items before.changes.items ready.1 in (
-        ap (λ (c : Client). c.chain.key) client ∙ one ∙ ready.0 ∙ sym key,
-        subst (λ (k : List ℕ). AllByRecursion (IsOwnPromise verified k lines start.known) (after.earlier.items ++ after.changes.items)) (sym key)
-            (subst (λ (xs : List SignedPromise). AllByRecursion (IsOwnPromise verified before.key lines start.known) (xs ++ after.changes.items)) (sym earlier)
-            (join-all (IsOwnPromise verified before.key lines start.known) before.earlier.items after.changes.items old-ones noted)),
-        subst (AreEarlier start.known) (sym earlier) ready.2,
-      )
-
-  pub advanced-ready : (epoch : ℕ) → AdvancesAny hash accepted verified exchanged (background_of before) epoch (scene before said stream) reached → background_of after ≡ background_of before → after.changes ≡ before.changes
-      → IsReady verified lines start.known before → IsReady verified lines start.known after
-  advanced-ready epoch advances stays same ready = same-ready (advanced_key hash accepted verified exchanged (background_of before) epoch (scene before said stream) reached advances) stays same ready
-
-  pub prepared-ready : (HasNoState : Type 0) → PreparesSome hash accepted verified exchanged (background_of before) HasNoState (scene before said stream) reached → background_of after ≡ background_of before → after.changes ≡ before.changes
-      → IsReady verified lines start.known before → IsReady verified lines start.known after
-  prepared-ready HasNoState prepares stays same ready = same-ready (prepares_some_key hash accepted verified exchanged (background_of before) HasNoState (scene before said stream) reached prepares) stays same ready
-
-  pub looked-ready : (held : ℕ) (frame : Frame) → LooksSome hash accepted verified exchanged (background_of before) held frame (scene before said stream) reached → background_of after ≡ background_of before → after.changes ≡ before.changes
-      → IsReady verified lines start.known before → IsReady verified lines start.known after
-  looked-ready held frame looks stays same ready = same-ready (looks_key hash accepted verified exchanged (background_of before) held frame (scene before said stream) reached looks) stays same ready
-
-  pub heard-ready : (held : ℕ) (asked : RequestContent) (frame : Frame) → IsSaid lines (Ask asked) → HearsAny hash accepted verified exchanged (background_of before) held asked frame before.changes.items after.changes.items (scene before said stream) reached
-      → background_of after ≡ background_of before → IsReady verified lines start.known before → IsReady verified lines start.known after
-  heard-ready held asked frame says hears stays ready =
-      noted-so (hears_key hash accepted verified exchanged (background_of before) held asked frame before.changes.items after.changes.items (scene before said stream) reached hears) stays (heard-ready-own held asked frame says hears ready) ready
-
-  -- and no question came between
-  pub here-stands : (state : Option State) (out' : Option (List ℕ)) → background_of after ≡ background_of before → start.known.marks ≡ before.marks.items → IsReady verified lines start.known after
-      → StateStands hash accepted verified lines before.key start old Happened state out' (standing after.client after.monitors.items said'.text.items) → RunStands hash accepted verified lines start old Happened after said'.text.items state out'
-  here-stands state out' stays marks ready stands = (
-    subst (λ (k : List ℕ). StateStands hash accepted verified lines k start old Happened state out' (standing after.client after.monitors.items said'.text.items)) (sym (ap (λ (b : Background). b.key) stays)) stands,
-    marks ∙ sym (ap (λ (b : Background). b.marks) stays),
-    ready,
-  )
-
   pub line-ready : (line : ScriptLine) → IsSaid lines line → DoesSomeNoting hash accepted verified exchanged (background_of before) line before.changes.items after.changes.items (scene before said stream) reached → background_of after ≡ background_of before
       → IsReady verified lines start.known before → IsReady verified lines start.known after
   line-ready line asked does stays ready =
-      noted-so (some_key hash accepted verified exchanged (background_of before) line before.changes.items after.changes.items (scene before said stream) reached does) stays (noted-ready line asked does ready) ready
+      let key = ap (λ (b : Background). b.key) stays in
+      let earlier = ap (λ (b : Background). b.earlier) stays in
+      let old-ones = front-all (IsOwnPromise verified before.key lines start.known) before.earlier.items before.changes.items ready.1 in (
+        ap (λ (c : Client). c.chain.key) client ∙ some_key hash accepted verified exchanged (background_of before) line before.changes.items after.changes.items (scene before said stream) reached does ∙ ready.0 ∙ sym key,
+        subst (λ (k : List ℕ). AllByRecursion (IsOwnPromise verified k lines start.known) (after.earlier.items ++ after.changes.items)) (sym key)
+            (subst (λ (xs : List SignedPromise). AllByRecursion (IsOwnPromise verified before.key lines start.known) (xs ++ after.changes.items)) (sym earlier)
+            (join-all (IsOwnPromise verified before.key lines start.known) before.earlier.items after.changes.items old-ones (noted-ready line asked does ready))),
+        subst (AreEarlier start.known) (sym earlier) ready.2,
+      )
 
 -- what is noted was asked for, also where memory ran out
 pub line-asked : {T H V S : Type 0} (hash : List ℕ → List ℕ) (accepted verified : List ℕ → List ℕ → List ℕ → Type 0) (exchanged : T → RequestContent → Frame → T → Type 0) (lines : Option (List (List ℕ))) (start : Found)
@@ -249,15 +173,6 @@ line-asked hash accepted verified exchanged lines start before after said stream
     asked-of verified before.key lines start.known after.changes.items (own-noted verified before.key lines start.known line before.changes.items after.changes.items
     (subst (λ (k : List ℕ). NotesOwn verified k line before.changes.items after.changes.items) keyed (some_notes hash accepted verified exchanged (background_of before) line before.changes.items after.changes.items (scene before said stream) reached does))
     asked (back-all (IsOwnPromise verified before.key lines start.known) before.earlier.items before.changes.items ready))
-
-pub heard-asked : {T H V S : Type 0} (hash : List ℕ → List ℕ) (accepted verified : List ℕ → List ℕ → List ℕ → Type 0) (exchanged : T → RequestContent → Frame → T → Type 0) (lines : Option (List (List ℕ))) (start : Found)
-    (before after : Asker H V S) (said : Said) (stream : T) (reached : Scene T) (held : ℕ) (asked : RequestContent) (frame : Frame) → IsSaid lines (Ask asked)
-    → HearsAny hash accepted verified exchanged (background_of before) held asked frame before.changes.items after.changes.items (scene before said stream) reached → IsReady verified lines start.known before
-    → AreAsked lines start.known after.changes.items
-heard-asked hash accepted verified exchanged lines start before after said stream reached held asked frame says hears (keyed, ready, are) =
-    asked-of verified before.key lines start.known after.changes.items (own-noted verified before.key lines start.known (Ask asked) before.changes.items after.changes.items
-    (subst (λ (k : List ℕ). NotesOwn verified k (Ask asked) before.changes.items after.changes.items) keyed (hears_notes hash accepted verified exchanged (background_of before) held asked frame before.changes.items after.changes.items (scene before said stream) reached hears))
-    says (back-all (IsOwnPromise verified before.key lines start.known) before.earlier.items before.changes.items ready))
 
 -- and where nothing is noted
 pub prepared-asked : {H V S : Type 0} (verified : List ℕ → List ℕ → List ℕ → Type 0) (lines : Option (List (List ℕ))) (start : Found) (before after : Asker H V S) → after.changes ≡ before.changes → IsReady verified lines start.known before
@@ -287,31 +202,6 @@ module _ {H V S : Type 0} (hash : List ℕ → List ℕ) (accepted verified : Li
       → OnOk result (RunStands hash accepted verified lines start old Happened asker said.text.items state out)
   settled-run (Ok done) asked state out is told marks ready stands = settled-stands state out told marks (ready (ok-not asked is)) (stands (ok-not asked is))
   settled-run (Err fault) asked state out is told marks ready stands = tt
-
--- what stays of what asks, stays of its background
-pub same_background : {H V S : Type 0} (before after : Asker H V S) → after.key ≡ before.key → after.token ≡ before.token → after.marks ≡ before.marks → after.earlier ≡ before.earlier → after.known ≡ before.known → background_of after ≡ background_of before
-same_background before after key token marks earlier known =
-    ap (λ (k : List ℕ). let b : Background = record { key = k; token = after.token; marks = after.marks.items; earlier = after.earlier.items; known = after.known } in b) key
-    ∙ ap (λ (t : List ℕ). let b : Background = record { key = before.key; token = t; marks = after.marks.items; earlier = after.earlier.items; known = after.known } in b) token
-    ∙ ap (λ (ms : Vec Mark Global). let b : Background = record { key = before.key; token = before.token; marks = ms.items; earlier = after.earlier.items; known = after.known } in b) marks
-    ∙ ap (λ (es : Vec SignedPromise Global). let b : Background = record { key = before.key; token = before.token; marks = before.marks.items; earlier = es.items; known = after.known } in b) earlier
-    ∙ ap (λ (m : Memory). let b : Background = record { key = before.key; token = before.token; marks = before.marks.items; earlier = before.earlier.items; known = m } in b) known
-
--- what is made of an answer, whatever it is
-pub answered_enough : (advanced : Result Bool AskFault) (asked : Result (Unit {0}) AskFault) → IfErr advanced (λ fault. asked ≡ Err fault) → asked ≢ Err NoMemory → advanced ≢ Err NoMemory
-answered_enough (Ok goes) asked fails enough same = search (rules, same)
-answered_enough (Err NoReply) asked fails enough same = search (rules, same)
-answered_enough (Err Stopped) asked fails enough same = search (rules, same)
-answered_enough (Err NoMemory) asked fails enough same = enough fails
-
-pub went_on : (P : Bool → Type 0) (advanced : Result Bool AskFault) (asked : Result (Unit {0}) AskFault) → IfErr advanced (λ fault. asked ≡ Err fault) → asked ≡ Ok tt → advanced ≢ Ok false → IfOk advanced P → P true
-went_on P (Ok true) asked fails ok goes holds = holds
-went_on P (Ok false) asked fails ok goes holds = absurd (goes refl)
-went_on P (Err fault) asked fails ok goes holds = search (rules, sym fails ∙ ok)
-
-pub has_stopped : (advanced : Result Bool AskFault) (asked : Result (Unit {0}) AskFault) → OnOk advanced (asked ≡ Ok tt) → IfErr advanced (λ fault. asked ≡ Err fault) → asked ≡ Err Stopped → advanced ≡ Err Stopped
-has_stopped (Ok goes) asked ok fails is = search (rules, sym ok ∙ is)
-has_stopped (Err fault) asked ok fails is = search (rules, sym fails ∙ is)
 
 pub told-so : {A E : Type 0} (result : Result A E) (old new : Option (List ℕ)) (text : List ℕ) (said : Said) (status : ℕ) → OnOk result (Appends old new text × (report_of said ≡ emptied status)) → OnOk result (report_of said ≡ emptied status)
 told-so (Ok done) old new text said status both = both.1
