@@ -177,13 +177,12 @@ NAMES, KEYS = ("61", "62", "616c696365"), ("6b31", "6b32", "6b33")
 
 
 def drawn_line(rng, epoch):
-    name, key, policy = rng.choice(NAMES), rng.choice(KEYS), rng.choice(["open", "open", "final"])
+    name, key = rng.choice(NAMES), rng.choice(KEYS)
     return rng.choice([
         f"register {name} {key}", f"register {name} {key}", f"change {name} {key}", f"promise {name}",
         f"lookup {name} {rng.choice([0, 0, 1, epoch])}", "head",
         f"history {rng.choice([0, 1, 2, epoch // 2, epoch])} {rng.choice([1, 2, 64])}",
         f"close {epoch}", f"close {epoch}", f"rotate {epoch} {'05' * 32}", f"watch {name} {key}", f"watch {name} -",
-        f"register2 {name} {key} {policy}", f"change2 {name} {key} {policy}", f"watch2 {name} {key} {policy}",
     ])
 
 
@@ -193,7 +192,6 @@ def owner_line(rng, epoch):
     return rng.choice([
         "register 61 6b31", f"change 61 {key}", f"change 61 {key}", f"change 61 {key}", "promise 61", "lookup 61 0", "head",
         f"close {epoch}", f"close {epoch}", f"close {epoch}", "watch 61 6b31", f"watch 61 {key}",
-        f"change2 61 {key} open", f"watch2 61 {key} open", f"change2 61 {key} {rng.choice(['open', 'open', 'open', 'final'])}",
     ])
 
 
