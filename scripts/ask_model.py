@@ -67,6 +67,10 @@ class NoReply(Exception):
     """No whole frame comes."""
 
 
+class NoConnection(NoReply):
+    """No connection came about."""
+
+
 class Stopped(Exception):
     """A root that has to be taken is refused."""
 
@@ -250,7 +254,8 @@ def epoch_of(value):
 
 
 class Followed(Told):
-    """A run that asks, whose client and monitors follow the chain. It has no client until its chain has begun."""
+    """A run that asks, whose client and monitors follow the chain. It has no client until its chain has begun. Without a
+    provider no connection comes about."""
 
     def __init__(self, provider):
         super().__init__()
@@ -261,6 +266,8 @@ class Followed(Told):
 
     def ask(self, *request):
         """What the provider sends back, as a response that answers the request, or None where it is told why not."""
+        if self.provider is None:
+            raise NoConnection
         got = self.provider.frame(request_frame(*request))
         if got is None:
             raise NoReply
@@ -367,11 +374,11 @@ REFUSED_THINGS = {PROOF: "proof", PROMISE: "promise", ROOTS: "root", ROOT: "root
 
 class Asked(Followed):
     """A run of `ask`. Where it has a state, these are the roots of FILE and the lines of FILE.kept; the words have FILE's
-    path."""
+    path. With `after` the last epoch has to be above this one."""
 
-    def __init__(self, provider, roots=None, kept=(), path="state"):
+    def __init__(self, provider, roots=None, kept=(), path="state", after=None):
         super().__init__(provider)
-        self.saved, self.found, self.path = roots or [], Memory.read(kept), path
+        self.saved, self.found, self.path, self.after = roots or [], Memory.read(kept), path, after
         self.changes, self.settled = [], None
 
     def run(self, script, words=()):
@@ -386,6 +393,12 @@ class Asked(Followed):
             self.settle(name)
             yield
             return
+        yield from self.asked(script)
+        if words and self.after is not None:
+            self.tell_stale(script)
+
+    def asked(self, script):
+        """Asks the lines of a script, up to one that stops the run."""
         try:
             self.begin()
             yield
@@ -397,11 +410,29 @@ class Asked(Followed):
                     self.status = max(self.status, 1)
                     return
                 yield
-        except NoReply:
-            self.words.append("no reply")
+        except NoReply as end:
+            self.words.append("cannot connect" if isinstance(end, NoConnection) else "no reply")
             self.status = max(self.status, 1)
         except Stopped:
             self.status = max(self.status, 1)
+
+    def tell_stale(self, line):
+        """Tells the last epoch that was watched of the name of a line, or the head's, if it is not above the one that is
+        wanted. A line that is neither `watch` nor `head` has none."""
+        last = self.last_of(line)
+        if last is not None and last <= self.after:
+            self.text.append(f"stale {last}")
+            self.status = 3
+
+    def last_of(self, line):
+        """The last epoch of what a line is about, 0 if there is none yet. Of a name it is the one of its mark."""
+        with contextlib.suppress(NotACommand):
+            match command_of(line):
+                case "head", []:
+                    return self.head_epoch()
+                case "watch", [name, key] if 1 <= len(name) <= MAX_NAME and len(key) <= MAX_KEY:
+                    return self.memory().marks.get(name, Mark(0, 0)).epoch
+        return None
 
     def settle(self, name):
         """Forgets the alarms of a name. Nothing is asked."""

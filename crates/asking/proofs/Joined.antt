@@ -50,11 +50,13 @@ left-behind chain name mark more (FromRoot first) other unwatched = inr (other, 
 left-behind chain name mark more (Nothing epoch) other (unwatched, marked) = (inr (other, unwatched), inr (other, marked))
 
 -- which promises of this run count for a name
+pub marked_any : (marks : List Mark) (name : List ℕ) → IsMarked marks name → list_any (λ (mark : Mark). bytes_eq mark.name name) marks ≡ true
+marked_any marks name (mark, (k, below, at), same) =
+    list_any_at (λ (m : Mark). bytes_eq m.name name) marks k mark below (ap (λ (m : Mark). bytes_eq m.name name) at ∙ (bytes_eq-Decides mark.name name).1 same)
+
 module _ (marks : List Mark) (name : List ℕ) (noted : List SignedPromise) where
   pub noted_marked : IsMarked marks name → noted ≡ noted_for marks name noted
-  noted_marked (mark, (k, below, at), same) =
-      let found = list_any_at (λ (m : Mark). bytes_eq m.name name) marks k mark below (ap (λ (m : Mark). bytes_eq m.name name) at ∙ (bytes_eq-Decides mark.name name).1 same) in
-      ap (λ (b : Bool). if b then noted else []) (sym found)
+  noted_marked marked = ap (λ (b : Bool). if b then noted else []) (sym (marked_any marks name marked))
 
   pub noted_unmarked : ¬ IsMarked marks name → [] ≡ noted_for marks name noted
   noted_unmarked unmarked = by (list_any (λ (m : Mark). bytes_eq m.name name) marks) refl

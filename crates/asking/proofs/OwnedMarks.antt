@@ -13,7 +13,7 @@ use Rattle.memory.specs.declared.mark.Mark.{Mark}
 use Rattle.monitor.specs.Monitors.{Monitor}
 use Rattle.asking.specs.Following.{MonitorUpdates}
 use Rattle.asking.specs.Owning.{HasJoined, IsHeld}
-use Rattle.asking.specs.Saves.{Counts}
+use Rattle.asking.specs.Saves.{Counts, IsOwnAhead}
 use Rattle.asking.proofs.OwnedMonitors.{own-first, Owned}
 use Rattle.asking.proofs.OwnedRoots.{all-has, has-cases, least-grown, taken-first, HasGrown}
 use Rattle.asking.proofs.Told.{epoch-more}
@@ -110,7 +110,7 @@ module _ (hash : List ℕ → List ℕ) (accepted verified : List ℕ → List �
   held-more text more chain monitors mark is = record {
     low = is.low;
     told = λ root has above low. elim (is.told root has above low) [
-      | inl tells ↦ inl (epoch-more Given Own (Counts start) hash accepted text more mark.name root tells)
+      | inl tells ↦ inl (epoch-more Given (IsOwnAhead Own start) (Counts start) hash accepted text more mark.name root tells)
       | inr watched ↦ inr watched
     ];
     link = is.link;

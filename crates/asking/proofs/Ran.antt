@@ -19,7 +19,8 @@ use Rattle.asking.specs.declared.said.Said.{Said}
 use Rattle.asking.specs.AskOptions.{AskOptions, ask_values}
 use Rattle.asking.specs.Recalled.{evidence_again}
 use Rattle.asking.specs.Reports.{Report, report_of, told_after}
-use Rattle.asking.specs.Runs.{AsksLine, AsksLines, BeginsAsking, StartsRun, emptied, Background, new_background, background_of, lines_asked, Prepares, RunsWhole, words_line, Writes}
+use Rattle.asking.specs.Ending.{HasLast, RunsLate}
+use Rattle.asking.specs.Runs.{AsksLine, AsksLines, BeginsAsking, StartsRun, emptied, Background, new_background, background_of, lines_asked, Prepares, words_line, Writes}
 use Rattle.asking.specs.Scenes.{Scene, scene, StartsAtHead}
 use Rattle.asking.specs.Standing.{AsksAmong}
 use Rattle.asking.proofs.Joined.{scene_of}
@@ -146,24 +147,28 @@ begins_run hash accepted verified exchanged key token HasNoState background stre
 
 -- a run is whole, where its lines are asked to the end
 pub whole : {T E : Type 0} (hash : List ℕ → List ℕ) (accepted verified : List ℕ → List ℕ → List ℕ → Type 0) (exchanged : T → RequestContent → Frame → T → Type 0) (key token : List ℕ) (options : AskOptions) (HasNoState : Type 0)
-    (result : Result (Unit {0}) E) (background background' : Background) (stream : T) (start ready last : Scene T) (input old now new : Option (List ℕ)) (first : Report)
+    (result : Result (Unit {0}) E) (background background' : Background) (stream : T) (start ready last : Scene T) (input old now new : Option (List ℕ)) (first : Report) (Limited : Type 0) (Holds : ℕ → ℕ → Type 0)
     → (first ≡ emptied 0 → StartsRun hash accepted verified exchanged key token HasNoState stream background start)
     → Writes (Prepares hash accepted verified exchanged background HasNoState) start old now ready → background' ≡ background
     → OnOk result (IfSome (lines_asked options.words input) (λ lines. AsksLines hash accepted verified exchanged background' lines ready now new last))
-    → OnOk result (first ≡ emptied 0 → RunsWhole hash accepted verified exchanged key token options HasNoState stream last.stream input last.told.status old new)
-whole hash accepted verified exchanged key token options HasNoState (Err why) background background' stream start ready last input old now new first begun prepares same asks = tt
-whole hash accepted verified exchanged key token options HasNoState (Ok done) background background' stream start ready last input old now new first begun prepares same asks = λ none. record {
-  background = background;
-  start = start;
-  begun = begun none;
-  ready = ready;
-  now = now;
-  prepares = prepares;
-  last = last;
-  asks = subst (λ (k : Background). IfSome (lines_asked options.words input) (λ lines. AsksLines hash accepted verified exchanged k lines ready now new last)) same asks;
-  status_is = refl;
-  left = refl;
-}
+    → OnOk result (Limited → HasLast hash accepted verified exchanged options background.marks last Holds)
+    → OnOk result (first ≡ emptied 0 → Limited → RunsLate hash accepted verified exchanged key token options HasNoState stream last.stream input Holds last.told.status old new)
+whole hash accepted verified exchanged key token options HasNoState (Err why) background background' stream start ready last input old now new first Limited Holds begun prepares same asks late = tt
+whole hash accepted verified exchanged key token options HasNoState (Ok done) background background' stream start ready last input old now new first Limited Holds begun prepares same asks late = λ none limited. (
+  record {
+    background = background;
+    start = start;
+    begun = begun none;
+    ready = ready;
+    now = now;
+    prepares = prepares;
+    last = last;
+    asks = subst (λ (k : Background). IfSome (lines_asked options.words input) (λ lines. AsksLines hash accepted verified exchanged k lines ready now new last)) same asks;
+    status_is = refl;
+    left = refl;
+  },
+  late limited,
+)
 
 -- an order without words asks the lines of the input, and one with words asks these
 pub asks_input : {E : Type 0} (Asked : List (List ℕ) → Type 0) (result : Result (Unit {0}) E) (input : Option (List ℕ)) (order : AskOrder) → order.command ≡ None

@@ -85,7 +85,7 @@ module _ (hash : List ℕ → List ℕ) (accepted : List ℕ → List ℕ → Li
           let (start, found, (text, was, (saved, says, kept))) = kept-by run (left_by first earlier) loads keeps prefix added in
           let same = one-spelled (stored_after run.left).text known saved spells says in
           elim (kept.told mark (subst (λ (m : Memory). Contains m.marks mark) same has) root among above below) [
-            | inl tells ↦ inl (start.known, found.1, (text, was, tells))
+            | inl tells ↦ inl (start.known, saved, found.1, says, (text, was, tells))
             | inr (there, (old, knows, named, above', below')) ↦
                 inr (subst (λ (name : List ℕ). WasTold hash accepted Given Own first earlier name root) named
                 (told-over-runs earlier all start.known found.1 old knows root (subst (λ (rs : List SignedRoot). Contains rs root) (sym found.0) there) above' below'))

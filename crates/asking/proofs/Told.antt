@@ -60,7 +60,7 @@ told-at_more hash accepted text more name watch root (bytes, reply, step, is, te
 
 -- ---- what an owner expects
 
-module _ (Given : List ℕ → Option (List ℕ) → Type 0) (Own : SignedPromise → Type 0) (Counts : ℕ → SignedPromise → Type 0) where
+module _ (Given : List ℕ → Option (List ℕ) → Type 0) (Own : SignedPromise → Type 0) (Counts : SignedPromise → Type 0) where
   -- more is told
   pub epoch-more : (hash : List ℕ → List ℕ) (accepted : List ℕ → List ℕ → List ℕ → Type 0) (text more name : List ℕ) (root : SignedRoot) → TellsEpoch Given Own Counts hash accepted text name root → TellsEpoch Given Own Counts hash accepted (text ++ more) name root
   epoch-more hash accepted text more name root (key, expects, told) = (key, expects, told-at_more hash accepted text more name (always key) root told)

@@ -203,14 +203,14 @@ module _ (hash : List ℕ → List ℕ) (accepted verified : List ℕ → List �
         subst (λ (r : Report). AllByRecursion (Told (text ++ r.lines)) after.monitors) (sym hears.tells) given
 
     -- so every relation between scenes keeps it
-    pub each-told : (marks : List Mark) → EachKeeps hash accepted verified exchanged marks (λ noted. ⊤) (λ key promised name given. ⊤) Keeps
+    pub each-told : (marks : List Mark) → EachKeeps hash accepted verified exchanged marks (λ noted. ⊤) (λ key promised name given. ⊤) ⊤ Keeps
     each-told marks = record {
       none = λ before text all. all;
       both = λ before middle after one other text all. other text (one text all);
       sends = λ before stream text all. all;
       tells = λ before told. keeps-told before (record before { told = told_after before.told told }) told refl refl;
       takes = takes-keeps;
-      stops = stops-keep;
+      stops = λ before after may stops. stops-keep before after stops;
       tests = λ before name kept after asks. keeps-told before after asks.told asks.tells asks.monitors;
       steps = λ before place went after asks. asks-keeps place went before after asks;
       joins = λ before key promised name given first monitor may is joined text all. all-push (Told (text ++ before.told.lines)) before.monitors monitor all

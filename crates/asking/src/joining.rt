@@ -192,7 +192,7 @@ fn explain_again(
 }
 
 /// Where the watching of a name goes on.
-#[derive(Debug, Drop)]
+#[derive(Drop)]
 enum ToWatch {
     /// At this root.
     FromRoot(SignedRoot),
@@ -381,7 +381,12 @@ fn is_later(
 fn awaits(marks: &[Mark], signed: &SignedPromise) -> bool
     ensures { IsTrue result ↔ Any (IsAwaited signed.now) marks.now }
 {
-    marks.iter().any(|mark| is_awaited(signed, mark))
+    for mark in marks {
+        if is_awaited(signed, mark) {
+            return true;
+        }
+    }
+    false
 }
 
 /// What a monitor expects at first: the key of the last promise, or else the one that is given.

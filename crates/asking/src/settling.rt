@@ -14,6 +14,7 @@ ghost use Rattle.asking.specs.Standing.{IsFresh};
 ghost use Rattle.asking.specs.declared.said.TheConstants.{CAUGHT};
 
 use crate::keeper::Keeper;
+use crate::lateness::Limit;
 use crate::run::Run;
 use crate::said::CAUGHT;
 use crate::{AskKeys, AskOrder, Checks, Said};
@@ -79,7 +80,7 @@ where
         → LeavesTold H.digest_of V.accepted S.verified lines keys.now.signing_key old (λ done. K.has keeper.new (done ++ acts)) }
     ensures grows { Grows (W.contents writer.old) (W.contents writer.new) }
 {
-    let mut run = Run::new(alloc, true);
+    let mut run = Run::new(alloc, true, Limit::none(), b"");
     let settled = settle_in(&mut run, keeper, checks, keys, name, writer, errors);
     end_settled(settled, run.status(), errors)
 }

@@ -15,7 +15,7 @@ ghost use Rattle.asking.specs.Reports.{report_of};
 ghost use Rattle.asking.specs.RunFaults.{IsFaultOfSaving, IsFaultOfState};
 ghost use Rattle.asking.specs.Runs.{IsSoundFor, KeepsAll};
 ghost use Rattle.asking.specs.Saves.{roots_above, stored_nothing, Act, AddsLines, AddsRoots, AreEarlier, Found, HasOneOfEachName, IsHeadEpoch, Loads, LoadsFor, Writes};
-ghost use Rattle.asking.specs.Standing.{standing, AddsNoOwn, AddsOwn, AreAsked, IsKept, IsUpTo, KeepsMarks, Stands};
+ghost use Rattle.asking.specs.Standing.{standing, AddsNoOwn, AddsOwn, AreAsked, AreLate, IsKept, IsUpTo, KeepsMarks, Stands};
 
 use crate::keeper::{Keeper, Loaded};
 use crate::{Asker, Checks, Said};
@@ -157,10 +157,10 @@ impl State {
         ensures looked { ((self.new).head ≡ (self.old).head) × ((self.new).monitors ≡ (self.old).monitors) }
         ensures changes { OnOk result ((self.new).changes ≡ length asker.now.changes.items) }
         ensures up_to { OnOk result (IsUpTo asker.now.client (self.new).epoch) }
-        ensures kept { (lines : Option (List (List ℕ))) (key : List ℕ) (start : Found) (old : List ℕ) (acts : List Act) → AreAsked lines start.known asker.now.changes.items → IsKept H.digest_of V.accepted S.verified lines key start old (λ done. K.has keeper.old (done ++ acts)) (self.old).epoch (self.old).memory [] (W.contents writer.now)
+        ensures kept { (lines : Option (List (List ℕ))) (key : List ℕ) (start : Found) (old : List ℕ) (acts : List Act) → AreAsked lines start.known asker.now.changes.items × AreLate (self.old).memory (drop (self.old).changes asker.now.changes.items) → IsKept H.digest_of V.accepted S.verified lines key start old (λ done. K.has keeper.old (done ++ acts)) (self.old).epoch (self.old).memory [] (W.contents writer.now)
             → (unsaved : List Remembered) × IsKept H.digest_of V.accepted S.verified lines key start old (λ done. K.has keeper.new (done ++ acts)) (self.new).epoch (self.new).memory unsaved (W.contents writer.now) }
-        ensures stands { OnOk result ((lines : Option (List (List ℕ))) (key : List ℕ) (start : Found) (old : List ℕ) (acts : List Act) (said : List ℕ) → AreAsked lines start.known asker.now.changes.items → Stands H.digest_of V.accepted S.verified lines key start old (λ done. K.has keeper.old (done ++ acts)) (self.old).epoch (self.old).memory [] (W.contents writer.now) (standing asker.now.client asker.now.monitors.items said)
-            → Stands H.digest_of V.accepted S.verified lines key start old (λ done. K.has keeper.new (done ++ acts)) (self.new).epoch (self.new).memory [] (W.contents writer.now) (standing asker.now.client asker.now.monitors.items said)) }
+        ensures stands { OnOk result ((lines : Option (List (List ℕ))) (key : List ℕ) (start : Found) (old : List ℕ) (acts : List Act) (said : List ℕ) → AreAsked lines start.known asker.now.changes.items × AreLate (self.old).memory (drop (self.old).changes asker.now.changes.items) → Stands H.digest_of V.accepted S.verified lines key start old (λ done. K.has keeper.old (done ++ acts)) (self.old).epoch (self.old).memory [] (W.contents writer.now) asker.now.changes.items (standing asker.now.client asker.now.monitors.items said)
+            → Stands H.digest_of V.accepted S.verified lines key start old (λ done. K.has keeper.new (done ++ acts)) (self.new).epoch (self.new).memory [] (W.contents writer.now) asker.now.changes.items (standing asker.now.client asker.now.monitors.items said)) }
     {
         // If a fault comes before all is handed on, nothing tells how much is kept.
         let size = self.size.take();
@@ -201,8 +201,8 @@ impl State {
         ensures looked { OnOk result (((self.new).monitors ≡ length asker.now.monitors.items) × IsHeadEpoch asker.now.client.chain (self.new).head) }
         ensures changes { (self.new).changes ≡ (self.old).changes }
         ensures kept { (lines : Option (List (List ℕ))) (key : List ℕ) (start : Found) (old : List ℕ) (acts : List Act) → IsUpTo asker.now.client (self.old).epoch
-            → Stands H.digest_of V.accepted S.verified lines key start old (λ done. K.has keeper.old (done ++ acts)) (self.old).epoch (self.old).memory [] (W.contents writer.now) (standing asker.now.client asker.now.monitors.items [])
-            → (unsaved : List Remembered) × Stands H.digest_of V.accepted S.verified lines key start old (λ done. K.has keeper.new (done ++ acts)) (self.new).epoch (self.new).memory unsaved (W.contents writer.now) (standing asker.now.client asker.now.monitors.items [])
+            → Stands H.digest_of V.accepted S.verified lines key start old (λ done. K.has keeper.old (done ++ acts)) (self.old).epoch (self.old).memory [] (W.contents writer.now) asker.now.changes.items (standing asker.now.client asker.now.monitors.items [])
+            → (unsaved : List Remembered) × Stands H.digest_of V.accepted S.verified lines key start old (λ done. K.has keeper.new (done ++ acts)) (self.new).epoch (self.new).memory unsaved (W.contents writer.now) asker.now.changes.items (standing asker.now.client asker.now.monitors.items [])
             × OnOk result (unsaved ≡ []) }
     {
         let size = self.size.take();
@@ -282,7 +282,7 @@ impl State {
         ensures takes { AllByRecursion IsSignedPromise asker.now.changes.items → OnOk result ((news : List Remembered) × TakesAll news (self.old).memory (self.new).memory × (lines.new.items ≡ lines.old.items ++ items_text news)) }
         ensures taken { AllByRecursion IsSignedPromise asker.now.changes.items → OnErr result ((news : List Remembered) × TakesAll news (self.old).memory (self.new).memory) }
         ensures some { OnErr result (KeepsMarks (self.old).memory (self.new).memory) }
-        ensures own { AddsOwn asker.now.changes.items (self.old).memory (self.new).memory }
+        ensures own { AddsOwn (drop (self.old).changes asker.now.changes.items) (self.old).memory (self.new).memory }
         ensures changes { OnOk result ((self.new).changes ≡ length asker.now.changes.items) }
         ensures same { ((self.new).epoch ≡ (self.old).epoch) × ((self.new).head ≡ (self.old).head) × ((self.new).monitors ≡ (self.old).monitors) }
     {

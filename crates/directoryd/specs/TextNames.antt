@@ -25,6 +25,11 @@ with_digits _ words = words
 abbrev pub texted : Bool → AskOptions → AskOptions
 texted is_text asked = record asked { words = with_digits (if is_text then name_digits asked.words else None) asked.words }
 
+-- the words ask what has a last epoch
+abbrev pub has_last : List (Option Text) → Bool
+has_last (Some command ∷ more) = bytes_eq command (codes "watch") || bytes_eq command (codes "head")
+has_last _ = false
+
 -- the lines of the input are asked
 abbrev pub lacks_command : List (Option Text) → Bool
 lacks_command (Some command ∷ more) = false

@@ -1,7 +1,7 @@
 use encoding::{KeyData, Name};
 
 /// A key, or absence, that the owner of a name did not expect at an epoch.
-#[derive(Debug, Drop, PartialEq, Eq)]
+#[derive(Drop, PartialEq, Eq)]
 pub struct Alarm {
     pub name: Name,
     pub epoch: u64,

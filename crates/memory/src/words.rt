@@ -1,11 +1,12 @@
 // A line is split at its spaces into words. Each says bytes or a number, in the one way in which it is written.
 
-ghost use Rattle.std.specs.Prelude.{◌≡◌, ◌↔◌, ◌∷◌, ◌++◌, Ok, Some, option_map, IfOk, IsTrue, MatchOption};
+ghost use Rattle.std.specs.Prelude.{◌≡◌, ◌≢◌, ◌↔◌, ◌∷◌, ◌++◌, Ok, Some, option_map, IfOk, IsTrue, MatchOption};
+ghost use Rattle.std.specs.List.{AllByRecursion};
 ghost use Rattle.encoding.specs.Limits.{IsKeyData, IsName};
 ghost use Rattle.hex.specs.Hex.{decode_of, encode_lower};
 ghost use Rattle.rootchain.specs.Promises.{SpellsPromise};
 ghost use Rattle.memory.specs.Finding.{Finds};
-ghost use Rattle.memory.specs.Words.{HasNoSpace, IsFoundWord, IsHexOf, IsNameWord, IsNumberWord, IsPromiseWord};
+ghost use Rattle.memory.specs.Words.{IsFoundWord, IsHexOf, IsNameWord, IsNumberWord, IsPromiseWord};
 
 use encoding::{KeyData, Name};
 use hex::FromHexError;
@@ -13,18 +14,18 @@ use itoa::Buffer;
 use rootchain::SignedPromise;
 use std::alloc::{AllocError, Global};
 
-/// The first word of a text, and what stands behind the space that ends it, if one does.
-pub(crate) fn first_word(text: &[u8]) -> (&[u8], Option<&[u8]>)
-    ensures word { HasNoSpace result.0.now }
-    ensures parts { MatchOption result.1 (text.now ≡ result.0.now) (λ behind. text.now ≡ result.0.now ++ 32 ∷ behind.now) }
+/// What stands before the first of these bytes, and what stands behind it, if there is one.
+pub(crate) fn first_part(text: &[u8], end: u8) -> (&[u8], Option<&[u8]>)
+    ensures front { AllByRecursion (λ byte. byte ≢ end) result.0.now }
+    ensures parts { MatchOption result.1 (text.now ≡ result.0.now) (λ behind. text.now ≡ result.0.now ++ end ∷ behind.now) }
 {
-    match text.iter().position(|byte| *byte == b' ') {
-        Some(place) => {
-            let (word, rest) = text.split_at(place);
-            (word, Some(rest.split_at(1).1))
+    for place in 0..text.len() {
+        if text[place] == end {
+            let (front, rest) = text.split_at(place);
+            return (front, Some(rest.split_at(1).1));
         }
-        None => (text, None),
     }
+    (text, None)
 }
 
 /// The number that a word writes in decimal digits, with no zero in front.

@@ -40,8 +40,7 @@ pub(crate) fn push_promised(text: &mut Vec<u8>, promised: &Promised) -> Result<(
 {
     push_word(text, promise_word(promised.is_own))?;
     push_hex(text, promised.signed.write().bytes())?;
-    text.push(b'\n')?;
-    Ok(())
+    text.extend_from_slice(b"\n")
 }
 
 pub(crate) fn push_mark(text: &mut Vec<u8>, mark: &Mark) -> Result<(), AllocError>
@@ -50,10 +49,9 @@ pub(crate) fn push_mark(text: &mut Vec<u8>, mark: &Mark) -> Result<(), AllocErro
     ensures grows { StartsWith text.new.items text.old.items }
 {
     push_named(text, b"watched", mark.name.bytes(), mark.since)?;
-    text.push(b' ')?;
+    text.extend_from_slice(b" ")?;
     push_number(text, mark.epoch)?;
-    text.push(b'\n')?;
-    Ok(())
+    text.extend_from_slice(b"\n")
 }
 
 pub(crate) fn push_alarm(text: &mut Vec<u8>, alarm: &Alarm) -> Result<(), AllocError>
@@ -62,10 +60,9 @@ pub(crate) fn push_alarm(text: &mut Vec<u8>, alarm: &Alarm) -> Result<(), AllocE
     ensures grows { StartsWith text.new.items text.old.items }
 {
     push_named(text, b"alarm", alarm.name.bytes(), alarm.epoch)?;
-    text.push(b' ')?;
+    text.extend_from_slice(b" ")?;
     push_found(text, &alarm.found)?;
-    text.push(b'\n')?;
-    Ok(())
+    text.extend_from_slice(b"\n")
 }
 
 pub(crate) fn push_evidence(text: &mut Vec<u8>, line: &EvidenceLine) -> Result<(), AllocError>
@@ -73,8 +70,7 @@ pub(crate) fn push_evidence(text: &mut Vec<u8>, line: &EvidenceLine) -> Result<(
     ensures grows { StartsWith text.new.items text.old.items }
 {
     text.extend_from_slice(line.bytes())?;
-    text.push(b'\n')?;
-    Ok(())
+    text.extend_from_slice(b"\n")
 }
 
 /// The first word of the line of a promise.
@@ -90,8 +86,7 @@ fn push_word(text: &mut Vec<u8>, word: &[u8]) -> Result<(), AllocError>
     ensures grows { StartsWith text.new.items text.old.items }
 {
     text.extend_from_slice(word)?;
-    text.push(b' ')?;
-    Ok(())
+    text.extend_from_slice(b" ")
 }
 
 /// Appends a word, a name in digits and an epoch.
@@ -101,7 +96,7 @@ fn push_named(text: &mut Vec<u8>, word: &[u8], name: &[u8], epoch: u64) -> Resul
 {
     push_word(text, word)?;
     push_hex(text, name)?;
-    text.push(b' ')?;
+    text.extend_from_slice(b" ")?;
     push_number(text, epoch)
 }
 

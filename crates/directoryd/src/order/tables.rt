@@ -13,6 +13,8 @@ pub(super) enum Kind {
     Required,
     /// `--NAME N`, a number from the first to the second, with a default.
     Number(u64, u64, &'static str),
+    /// `--NAME N`, such a number, without a default.
+    Optional(u64, u64),
     /// `--NAME` without a value.
     Flag,
     /// `--NAME HASH`, the name of a hash function.
@@ -132,7 +134,12 @@ which `audit` reads too, and FILE.kept what is remembered beside it; without the
 directory's latest root. Evidence and alarms of earlier runs are told again; the words `settle NAME` drop the
 alarms of a name from FILE.kept, and ask ADDR nothing.
 
-Status 3: the provider was caught, by evidence or a promise that was not kept, or a name is not as expected.
+With --after EPOCH the words `watch NAME KEY` and `head` end with the line `stale E` and status 3 if E, the last
+epoch that was watched of the name, or the head's, is not above EPOCH. Before any was watched, E is the epoch
+before the first to watch, or 0.
+
+Status 3: the provider was caught, by evidence or a promise that was not kept, a name is not as expected, or an
+epoch is stale.
 Status 1: nothing can be said today, since something was refused, or no reply came.
 
 Example: directoryd ask --provider provider.txt --state roots.txt --text 127.0.0.1:7000 lookup alice 0";
@@ -341,6 +348,12 @@ pub(super) static SUBCOMMANDS: [Subcommand; 8] = [
                 value: "",
                 help: "Take NAME of the words as text, such as alice",
                 kind: Kind::Flag,
+            },
+            Argument {
+                name: "after",
+                value: "EPOCH",
+                help: "Tell with status 3 if no later epoch is known, of the name of `watch` or of `head`",
+                kind: Kind::Optional(0, u64::MAX),
             },
             Argument {
                 name: "address",

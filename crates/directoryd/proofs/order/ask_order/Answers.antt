@@ -17,4 +17,5 @@ returns c =
       state = state i;
       address = c.text.ensures i;
       words = command i ∷ first i ∷ second i ∷ [];
+      after = c.after.ensures i;
     }
