@@ -64,7 +64,7 @@ module _ (hash : List ℕ → List ℕ) (accepted verified : List ℕ → List �
     pub link : Contains marks mark ⊎ HasJoined chain monitors mark
 
   -- All this is so in a scene: where this text was written before it, these roots are stored, the run began with the first
-  -- of these marks, and the second are known. The chain has the roots of the promises that were remembered.
+  -- of these marks, and the second are known. The chain has the roots of the promises that were remembered or noted.
   pub record Owns {T : Type 0} (text : List ℕ) (stored : List SignedRoot) (marks known : List Mark) (now : Scene T) : Type 0 where
     pub chain : IsChain hash verified now.client.chain
     pub formed : AllByRecursion IsSignedRoot now.client.chain.roots

@@ -49,7 +49,7 @@ AreAsked lines known changes = AllByRecursion (λ (signed : SignedPromise). IsSi
 abbrev pub AreLate : Memory → List SignedPromise → Type 0
 AreLate known changes = AllByRecursion (λ (signed : SignedPromise). Fits signed.promise.epoch known) changes
 
--- the promises for changes that are asked for, of which a state has yet to look at those that are late
+-- these promises are for changes that are asked for, and those at which a state has yet to look are late
 abbrev pub AreNew : Option (List (List ℕ)) → Memory → Option State → List SignedPromise → Type 0
 AreNew lines known None changes = AreAsked lines known changes
 AreNew lines known (Some state) changes = AreAsked lines known changes × AreLate state.memory (drop state.changes changes)
@@ -122,8 +122,8 @@ abbrev pub HasNoChanges : Option State → Type 0
 HasNoChanges None = ⊤
 HasNoChanges (Some state) = state.changes ≡ 0
 
--- A monitor under this key that has the roots of the client's chain from its first on, and expects no change that is above them
--- all.
+-- A monitor under this key that has the roots of the client's chain from its first on: each change that it expects is of the
+-- epoch of one of these.
 pub record IsCurrent (key : List ℕ) (chain : KeyedRoots) (monitor : Monitor) : Type 0 where
   pub keyed : monitor.client.chain.key ≡ key
   pub covers : (first : SignedRoot) → IsFirst monitor.client.chain first → (root : SignedRoot) → Contains chain.roots root → first.body.epoch ≤ root.body.epoch → HasBody monitor.client.chain root

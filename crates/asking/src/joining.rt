@@ -419,8 +419,8 @@ where
     hand_all(checks, monitor, changes_for(marks, changes, name))
 }
 
-/// Gives a monitor each of these promises that is one for its name. One from before the first root, or one that is kept
-/// twice, is refused.
+/// Gives a monitor each of these promises that is one for its name. One from before the first root, or one that is not later
+/// than those it was given, is refused.
 fn hand_all<H, V, S>(
     checks: &mut Checks<H, V, S>,
     monitor: &mut Monitor<H, V, S>,

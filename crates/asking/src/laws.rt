@@ -68,11 +68,11 @@ pub fn watched_epochs_are_told<T: Read + Write, H: NodeHash, V: VufCheck, S: Ver
 {}
 
 /// Whatever runs there were over one state, and wherever each was stopped: what is saved loads as a memory. Each root of
-/// the state that a mark of it says was watched is told in the output of one of the runs, before the last of what that run
-/// did to the state, or was watched before all of them. No root is lost, and no mark of an earlier run: the memory has one of
+/// the state that a mark of it says was watched is told in the output of one of the runs, against what its owner expected
+/// there, before the last act of that run that is left; or it was watched before all of them. No root is lost, and no mark of an earlier run: the memory has one of
 /// its name that begins no later. Each promise that it has for a change of the owner's own is for one that a line of some run
 /// asks for, or was remembered so before all of them. Where what a run left has marks for monitors, as it has for all those of
-/// a whole run, each root from the first of such a monitor on was told for its name, or is still to be watched.
+/// a whole run without a stale epoch, each root from the first of such a monitor on was told for its name, or is still to be watched.
 pub fn stored_marks_are_told<H: NodeHash, V: VufCheck, S: Verifier>()
     ensures loads { (key : List ℕ) (first : Stored) (runs : List (StateRun (Option (List (List ℕ))))) → AllRun H.digest_of V.accepted IsAsked (IsOwnPromise S.verified key) IsAskedChange first runs
         → (before : Memory) → Spells first.text (Ok before) → (known : Memory) × Spells (left_by first runs).text (Ok known) }
