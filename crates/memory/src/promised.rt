@@ -1,7 +1,7 @@
 use rootchain::SignedPromise;
 
 /// A promise that the client keeps.
-#[derive(Drop)]
+#[derive(Debug, Drop, PartialEq, Eq)]
 pub struct Promised {
     pub signed: SignedPromise,
     /// Whether it is for a change of the owner's own.

@@ -42,12 +42,7 @@ pub(crate) fn place_of_mark(marks: &[Mark], name: &Name) -> Option<usize>
     ensures { MatchOption result (All (λ kept. kept.name ≢ name.now) marks.now)
         (λ place. (place < length marks.now) × ((d : Mark) → (slice_index_or marks.now place d).name ≡ name.now)) }
 {
-    for place in 0..marks.len() {
-        if marks[place].name == *name {
-            return Some(place);
-        }
-    }
-    None
+    marks.iter().position(|kept| kept.name == *name)
 }
 
 pub(crate) fn put_alarm(alarms: &mut Vec<Alarm>, new: Alarm) -> Result<bool, AllocError>
@@ -56,11 +51,18 @@ pub(crate) fn put_alarm(alarms: &mut Vec<Alarm>, new: Alarm) -> Result<bool, All
     ensures err { OnErr result (alarms.new.items ≡ alarms.old.items) }
     ensures once { HasNoRepeat alarms.old.items → HasNoRepeat alarms.new.items }
 {
-    if alarms.contains(&new) {
+    if has_alarm(alarms, &new) {
         return Ok(false);
     }
     alarms.push(new)?;
     Ok(true)
+}
+
+/// Whether the alarm is there.
+fn has_alarm(alarms: &[Alarm], alarm: &Alarm) -> bool
+    ensures { IsTrue result ↔ Contains alarms.now alarm.now }
+{
+    alarms.iter().any(|kept| kept == alarm)
 }
 
 pub(crate) fn put_evidence(
@@ -83,10 +85,5 @@ pub(crate) fn put_evidence(
 fn has_line(evidence: &[EvidenceLine], line: &EvidenceLine) -> bool
     ensures { IsTrue result ↔ Contains evidence.now line.now }
 {
-    for kept in evidence {
-        if kept.bytes() == line.bytes() {
-            return true;
-        }
-    }
-    false
+    evidence.iter().any(|kept| kept.bytes() == line.bytes())
 }
