@@ -110,7 +110,7 @@ def difference(name, program, make_lie, runs):
 def otherwise(program, provider, other, script, state, words=()):
     """What the program does otherwise at a provider than the model at another one with the same answers, or None."""
     said, (roots, kept) = cut_off(state), files_of(state)
-    model = Asked(other, [bytes.fromhex(root) for root in roots], kept, state)
+    model = Asked(other, [bytes.fromhex(root) for root in roots], kept, state, after_in(words))
     model.run(script, words)
     got = ran(program, provider, b"" if words else script, state, words)
     wanted = model.text, [*said, *model.words], model.status
@@ -124,6 +124,11 @@ def otherwise(program, provider, other, script, state, words=()):
     if newly or (roots, set(after)) != (files[0], set(map(newer_form, files[1]))):
         return f"state: wanted {after}, {len(roots)} roots, got {files[1]}, {len(files[0])} roots"
     return None
+
+
+def after_in(words):
+    """The epoch of the option `--after` among the words, or None."""
+    return next((int(word.removeprefix("--after=")) for word in words if word.startswith("--after=")), None)
 
 
 def is_older_form(line):
@@ -177,13 +182,12 @@ NAMES, KEYS = ("61", "62", "616c696365"), ("6b31", "6b32", "6b33")
 
 
 def drawn_line(rng, epoch):
-    name, key, policy = rng.choice(NAMES), rng.choice(KEYS), rng.choice(["open", "open", "final"])
+    name, key = rng.choice(NAMES), rng.choice(KEYS)
     return rng.choice([
         f"register {name} {key}", f"register {name} {key}", f"change {name} {key}", f"promise {name}",
         f"lookup {name} {rng.choice([0, 0, 1, epoch])}", "head",
         f"history {rng.choice([0, 1, 2, epoch // 2, epoch])} {rng.choice([1, 2, 64])}",
         f"close {epoch}", f"close {epoch}", f"rotate {epoch} {'05' * 32}", f"watch {name} {key}", f"watch {name} -",
-        f"register2 {name} {key} {policy}", f"change2 {name} {key} {policy}", f"watch2 {name} {key} {policy}",
     ])
 
 
@@ -193,7 +197,6 @@ def owner_line(rng, epoch):
     return rng.choice([
         "register 61 6b31", f"change 61 {key}", f"change 61 {key}", f"change 61 {key}", "promise 61", "lookup 61 0", "head",
         f"close {epoch}", f"close {epoch}", f"close {epoch}", "watch 61 6b31", f"watch 61 {key}",
-        f"change2 61 {key} open", f"watch2 61 {key} open", f"change2 61 {key} {rng.choice(['open', 'open', 'open', 'final'])}",
     ])
 
 
@@ -221,9 +224,9 @@ def run_of_lines(*lines):
     return "".join(f"{line}\n" for line in lines).encode(), ()
 
 
-def run_of_words(line):
-    """The words of a line. As a script they are that line."""
-    return line.encode(), line.split(" ")
+def run_of_words(line, after=None):
+    """The words of a line, which may want the last epoch to be above one. As a script they are that line."""
+    return line.encode(), line.split(" ") + ([] if after is None else [f"--after={after}"])
 
 
 def roots_line(rng):
@@ -345,6 +348,17 @@ def epochs_end(provider, request, _reply):
     return reply
 
 
+def epoch_is_hidden(provider, _request, reply):
+    """An epoch ends, and the reply is the one from before it."""
+    close(provider)
+    return reply
+
+
+def look_up_is_refused_at(epoch):
+    """No look-up of an epoch finds it."""
+    return lambda provider, request, reply: response_frame(REFUSED, 10) if words_of(request)[0] == epoch else reply
+
+
 def directory_goes_back(epochs):
     def act(provider, request, _reply):
         begin_anew(provider, b"a", epochs)
@@ -449,7 +463,8 @@ OTHER_ROOTS = Ending(["client refuses reply 25"], 1, [REPLY_25])
 ROOT_3 = "client refuses root 3: the epoch is not above that of the head of the chain"
 ROOT_2 = "client refuses root 2: the signature does not verify"
 ROOT_21 = "client refuses root 21: the root contradicts the chain"
-NO_MEMORY = "refused 14: out of memory"
+NO_MEMORY, NO_EPOCH = "refused 14: out of memory", "refused 10: there is no such epoch"
+BEGINS = "state: begins at epoch 1"
 ALARM, EARLIER_ALARM = "alarm 61 3 6576", "watching 61 at epoch 3: alarm of an earlier run"
 FORKED = evidence_json(RootEvidence(FORK, root_2(b"k1"), root_2(EVIL)))
 LINKED = evidence_json(RootEvidence(LINK, root_2(b"k1"), roots_of(EVIL)[1]))
@@ -710,6 +725,158 @@ STORED_LIES = {
         [BEGUN, run_of_lines("close 3")],
         Ending(["client refuses root 2"], 1, [ROOT_2, "no root is taken after epoch 2"]),
     ),
+    # 9. With `--after` a run tells that the last epoch that was watched, or the head's, is not above one, whatever the
+    # cause.
+    "a quiet directory": (
+        lies(),
+        [BEGUN, run_of_words("watch 61 6b31", 2)],
+        Ending(["watched 61 2", "stale 2"], 3, []),
+    ),
+    "an epoch that is late enough": (
+        lies(),
+        [BEGUN, run_of_words("watch 61 6b31", 1)],
+        Ending(["watched 61 2"], 0, []),
+    ),
+    "a new epoch that is late enough": (
+        lies(),
+        [BEGUN, run_of_lines("close 3"), run_of_words("watch 61 6b31", 2)],
+        Ending(["kept 61 3"], 0, []),
+    ),
+    "a new epoch that is not late enough": (
+        lies(),
+        [BEGUN, run_of_lines("close 3"), run_of_words("watch 61 6b31", 9)],
+        Ending(["kept 61 3", "stale 3"], 3, []),
+    ),
+    "a new epoch that is hidden": (
+        lies((2, "head", epoch_is_hidden)),
+        [BEGUN, run_of_words("watch 61 6b31", 2)],
+        Ending(["watched 61 2", "stale 2"], 3, []),
+    ),
+    "a new epoch that is refused for ever": (
+        lies(*[(run, "lookup", look_up_is_refused_at(3)) for run in (3, 4)]),
+        [BEGUN, run_of_lines("close 3", "close 4"), WATCH, run_of_words("watch 61 6b31", 2)],
+        Ending(["refused 10", "stale 2"], 3, [NO_EPOCH]),
+    ),
+    "a later epoch that is refused for ever": (
+        lies((3, "lookup", look_up_is_refused_at(4))),
+        [BEGUN, run_of_lines("close 3", "close 4"), run_of_words("watch 61 6b31", 3)],
+        Ending(["kept 61 3", "refused 10", "stale 3"], 3, [NO_EPOCH]),
+    ),
+    "a reply that is refused": (
+        lies((3, "lookup", proof_is_altered_at(3))),
+        [BEGUN, run_of_lines("close 3"), run_of_words("watch 61 6b31", 2)],
+        Ending(["client refuses reply 3", "stale 2"], 3, ["client refuses reply 3: the body is not of the form of its kind"]),
+    ),
+    "new roots that are refused": (
+        lies((2, "head", epochs_end), (2, "history", list_is_altered)),
+        [BEGUN, run_of_words("watch 61 6b31", 2)],
+        Ending(["client refuses root 2", "stale 2"], 3, [ROOT_2, "no root is taken after epoch 2"]),
+    ),
+    "a directory that finds no memory": (
+        lies((3, "lookup", memory_runs_out)),
+        [BEGUN, run_of_lines("close 3"), run_of_words("watch 61 6b31", 2)],
+        Ending(["refused 14", "stale 2"], 3, [NO_MEMORY]),
+    ),
+    "no reply, and a name that was watched": (
+        lies((2, None, nothing_comes)),
+        [BEGUN, run_of_words("watch 61 6b31", 2)],
+        Ending(["stale 2"], 3, ["no reply"]),
+    ),
+    "no reply, and a name that was watched late enough": (
+        lies((2, None, nothing_comes)),
+        [BEGUN, run_of_words("watch 61 6b31", 1)],
+        Ending([], 1, ["no reply"]),
+    ),
+    "no reply to a look-up": (
+        lies((3, "lookup", nothing_comes)),
+        [BEGUN, run_of_lines("close 3"), run_of_words("watch 61 6b31", 2)],
+        Ending(["stale 2"], 3, ["no reply"]),
+    ),
+    "a first run": (
+        lies(),
+        [run_of_words("watch 61 -", 0)],
+        Ending(["kept 61 1"], 0, [BEGINS]),
+    ),
+    "a first run that is not late enough": (
+        lies(),
+        [run_of_words("watch 61 -", 1)],
+        Ending(["kept 61 1", "stale 1"], 3, [BEGINS]),
+    ),
+    "a first run, and no reply": (
+        lies((1, None, nothing_comes)),
+        [run_of_words("watch 61 -", 0)],
+        Ending(["stale 0"], 3, ["no reply"]),
+    ),
+    "a first look-up that is refused": (
+        lies((1, "lookup", look_up_is_refused_at(1))),
+        [run_of_words("watch 61 -", 7)],
+        Ending(["refused 10", "stale 0"], 3, [BEGINS, NO_EPOCH]),
+    ),
+    "a name that was not watched before": (
+        lies(),
+        [BEGUN, run_of_lines("close 3", "close 4"), run_of_words("watch 62 -", 3)],
+        Ending(["kept 62 4"], 0, []),
+    ),
+    "a name that is not watched, and no reply": (
+        lies((2, None, nothing_comes)),
+        [BEGUN, run_of_words("watch 62 -", 1)],
+        Ending(["stale 0"], 3, ["no reply"]),
+    ),
+    "an alarm that is late enough": (
+        lies((2, None, key_is_robbed)),
+        [BEGUN, run_of_lines("close 3"), run_of_words("watch 61 6b31", 2)],
+        Ending([ALARM], 3, []),
+    ),
+    "an alarm of an earlier run, and no new epoch": (
+        lies((2, None, key_is_robbed)),
+        [BEGUN, run_of_lines("close 3", "watch 61 6b31"), run_of_words("watch 61 6b31", 3)],
+        Ending([ALARM, "watched 61 3", "stale 3"], 3, [EARLIER_ALARM]),
+    ),
+    "evidence of an earlier run, no reply, and no new epoch": (
+        lies((2, None, directory_goes_back(1)), (3, None, nothing_comes)),
+        [BEGUN, WATCH, run_of_words("watch 61 6b31", 2)],
+        Ending([FORKED, "stale 2"], 3, [EARLIER_EVIDENCE, "no reply"]),
+    ),
+    "a directory that went back, and no new epoch": (
+        lies((2, None, directory_goes_back(0))),
+        [run_of_lines("register 61 6b31", "close 2", "close 3", "watch 61 6b31"), run_of_words("watch 61 6b31", 3)],
+        Ending(["client refuses root 3", "watched 61 3", "stale 3"], 3, [ROOT_3]),
+    ),
+    "a fork, and no new epoch": (
+        lies((2, None, directory_goes_back(1))),
+        [run_of_lines("register 61 6b31", "close 2", "close 3", "watch 61 6b31"), run_of_words("watch 61 6b31", 3)],
+        Ending([FORKED, "client refuses root 21", "watched 61 3", "stale 3"], 3, [ROOT_21]),
+    ),
+    "a head that is late enough": (
+        lies(),
+        [BEGUN, run_of_lines("close 3"), run_of_words("head", 2)],
+        Ending(["root 3 after 2"], 0, []),
+    ),
+    "a head that is not late enough": (
+        lies(),
+        [BEGUN, run_of_words("head", 2)],
+        Ending(["root 2 after 1", "stale 2"], 3, []),
+    ),
+    "a head, and new roots that are refused": (
+        lies((2, "head", epochs_end), (2, "history", list_is_altered)),
+        [BEGUN, run_of_words("head", 2)],
+        Ending(["client refuses root 2", "stale 2"], 3, [ROOT_2, "no root is taken after epoch 2"]),
+    ),
+    "a head, and no reply": (
+        lies((2, None, nothing_comes)),
+        [BEGUN, run_of_words("head", 2)],
+        Ending(["stale 2"], 3, ["no reply"]),
+    ),
+    "a first head, and no reply": (
+        lies((1, None, nothing_comes)),
+        [run_of_words("head", 0)],
+        Ending(["stale 0"], 3, ["no reply"]),
+    ),
+    "words that are no command, and an epoch that is wanted": (
+        lies(),
+        [BEGUN, run_of_words("watch 6 6b31", 9)],
+        Ending([], 1, ["line 1: not a command"]),
+    ),
 }
 
 
@@ -877,6 +1044,21 @@ def older_form(program):
     return None if found == wanted else f"a mark of the older form: wanted {wanted}, got {found}"
 
 
+def changes_turned_round(program):
+    """Changes are expected in the order of their epochs, whatever the order of the lines is."""
+    provider = Provider(lies()())
+    changes = run_of_lines("close 3", "change 61 6b32", "close 4", "change 61 6b33", "close 5")
+    with tempfile.TemporaryDirectory() as folder:
+        state = f"{folder}/state"
+        for script, words in (BEGUN, changes, WATCH):
+            provider.begin()
+            got = ran(program, provider, b"" if words else script, state, words)
+            kept = paths(state)[1]
+            kept.write_text("".join(reversed(kept.read_text().splitlines(True))))
+    wanted = ["kept 61 3", "kept 61 4", "kept 61 5"], [], 0
+    return None if got == wanted else f"changes in another order: wanted {wanted}, got {got}"
+
+
 def settled_alone(program):
     """The directory is not asked, so it need not be there."""
     provider = Provider(lies((2, None, key_is_robbed))())
@@ -888,6 +1070,54 @@ def settled_alone(program):
         run = subprocess.run(order, capture_output=True, timeout=SECONDS)
     got = run.stdout, run.stderr, run.returncode
     return None if got == (b"settled 61 1\n", b"", 0) else f"settle without a directory: {got}"
+
+
+def unconnected(program):
+    """Where no connection comes about, evidence of an earlier run is told, and whether the last epoch is late enough."""
+    provider, got = Provider(lies((2, None, directory_goes_back(1)))()), []
+
+    def ended(*words, path="state"):
+        order = asking(program, f"{folder}/{path}", "127.0.0.1:1", *words)
+        run = subprocess.run(order, capture_output=True, timeout=SECONDS)
+        got.append(Ending(run.stdout.decode().splitlines(), run.returncode, run.stderr.decode().replace(f"{folder}/state", "FILE").splitlines()))
+
+    with tempfile.TemporaryDirectory() as folder:
+        for script, words in BEGUN, WATCH:
+            provider.begin()
+            ran(program, provider, b"" if words else script, f"{folder}/state", words)
+            for after in ("--after=1",), ("--after=2",), ():
+                ended("watch", "61", "6b31", *after)
+            ended("head", "--after=2")
+        ended("watch", "61", "-", "--after=0", path="new")
+        ended("head", "--after=0", path="new")
+        ended("watch", "61", "-", path="new")
+    none, stale = Ending([], 1, ["cannot connect"]), Ending(["stale 2"], 3, ["cannot connect"])
+    again = [Ending([FORKED, *each.text], 3, [EARLIER_EVIDENCE, "cannot connect"]) for each in (none, stale, none, stale)]
+    new = Ending(["stale 0"], 3, ["cannot connect"])
+    wanted = [none, stale, none, stale, *again, new, new, none]
+    return None if got == wanted else f"no connection: wanted {wanted}, got {got}"
+
+
+def without_state(program):
+    """Without a state the last epoch is the one that this run watched."""
+    server, address = listening(program, 4)
+    order, got = [program, "ask", "--provider", PROVIDER_FILE, address], []
+    for words in ("watch 61 - --after=0", "watch 61 - --after=1", "head --after=0", "head --after=1"):
+        run = subprocess.run([*order, *words.split(" ")], capture_output=True, timeout=SECONDS)
+        got.append((run.stdout, run.returncode))
+    server.wait(60)
+    wanted = [(b"kept 61 1\n", 0), (b"kept 61 1\nstale 1\n", 3), (b"root 1 after 0\n", 0), (b"root 1 after 0\nstale 1\n", 3)]
+    return None if got == wanted else f"no state: wanted {wanted}, got {got}"
+
+
+def stale_unwritten(program):
+    """The status of a last epoch that is not late enough stays if its line cannot be written."""
+    provider = Provider()
+    with tempfile.TemporaryDirectory() as folder, open("/dev/full", "wb") as full:
+        for (script, words), how in ((BEGUN, {}), (run_of_words("watch 61 6b31", 2), {"stdout": full})):
+            provider.begin()
+            _, said, status = ran(program, provider, b"" if words else script, f"{folder}/state", words, **how)
+    return None if (said[-1:], status) == (["cannot write"], 3) else f"a last epoch that was not written: {said}, {status}"
 
 
 # Words with a name that is text, and what they print.
@@ -939,7 +1169,8 @@ def settled_badly(program):
 
 OTHERS = (
     changed_by_another, alarm_unwritten, change_unwritten, alarm_and_fault, line_by_line, input_of_others,
-    evidence_unwritten, evidence_and_fault, older_form, settled_alone, settled_badly, names_as_text,
+    evidence_unwritten, evidence_and_fault, older_form, changes_turned_round, settled_alone, settled_badly, names_as_text, unconnected, without_state,
+    stale_unwritten,
 )
 
 

@@ -11,6 +11,7 @@ failed`, and the status is 0 where none failed.
 
 import argparse
 import contextlib
+import itertools
 import os
 import pathlib
 import random
@@ -630,6 +631,36 @@ def left_over(program):
             yield otherwise(program, provider, provider.copied(), script, state)
 
 
+# Memory -----------------------------------------------------------------------------------------------------------------
+
+
+def no_memory(program, library):
+    """Wherever memory runs out once the state was read, and before the new epoch is told, it is told that the last epoch
+    is not late enough."""
+    with tempfile.TemporaryDirectory() as folder:
+        begun, provider, found = f"{folder}/begun", Provider(), []
+        for script in (b"register 61 6b31\nclose 2\nwatch 61 6b31\n", b"close 3\n"):
+            provider.begin()
+            ran(program, provider, script, begun)
+        for place in itertools.count(1):
+            state, other = f"{folder}/{place}", provider.copied()
+            for old, new in zip(paths(begun), paths(state)):
+                shutil.copy(old, new)
+            other.begin()
+            # The library's count goes where nobody reads it.
+            output, errors, status = ran(program, other, b"", state, ("watch", "61", "6b31", "--after=2"), **preloaded(library, FAIL_NTH=place))
+            found.append((output, status))
+            if (output, errors, status) == (["kept 61 3"], [], 0):
+                break
+    ends = [end for place, end in enumerate(found) if place == 0 or found[place - 1] != end]
+    yield different("memory that runs out", None, next((end for end in found if end not in NO_MEMORY_ENDS), None))
+    yield different("the order of them", sorted(ends, key=NO_MEMORY_ENDS.index), ends)
+
+
+# Before the state is read; up to where the new epoch is told; and behind that.
+NO_MEMORY_ENDS = [([], 1), (["stale 2"], 3), (["kept 61 3"], 1), (["kept 61 3"], 0)]
+
+
 # The order of calls ---------------------------------------------------------------------------------------------------
 
 
@@ -651,31 +682,40 @@ def logged(program, provider, library, folder, script):
 
 
 def ordered(program, library):
-    """A line is printed once its roots and promises are on the disk, and so are the entries of files that are new."""
+    """A line is printed once its roots and promises are on the disk, and so are the entries of the files: of FILE, and of
+    FILE.kept if it is there, at the beginning, or else once there is something to keep."""
     adds, keeps, marks = ["write FILE", "sync FILE"], ["write KEPT", "sync KEPT"], ["print", "write KEPT", "sync KEPT"]
-    anew = ["write NEW", "sync NEW", "rename KEPT", "sync FOLDER"]
+    anew, entry = ["write NEW", "sync NEW", "rename KEPT", "sync FOLDER"], ["sync FOLDER"]
+    both = [*entry, *entry]
     runs = [
-        ("a beginning", b"head\n", ["sync FOLDER", *adds, "print"]),
-        ("nothing new", b"head\nlookup 61 0\nhistory 0 1\n", ["print"] * 3),
-        ("a registration", b"register 61 6b31\n", ["sync FOLDER", *keeps, "print"]),
-        ("two lines", b"register 62 6b31\nlookup 61 0\nregister 63 6b31\n", [*keeps, "print", "print", *keeps, "print"]),
-        ("a watch", b"watch 61 -\n", [*keeps, *marks, *anew]),
-        ("no more to watch", b"watch 61 -\nhead\n", ["print", "print"]),
-        ("a closing", b"close 2\n", [*adds, "print", *anew]),
-        ("a change and a closing", b"change 61 6b32\nclose 3\nchange 62 6b32\n", [*keeps, "print", *adds, "print", *keeps, "print"]),
-        ("two names", b"watch 61 6b31\nwatch 62 6b31\n", [*marks, *keeps, *marks, *anew]),
+        ("a beginning", b"head\n", [*entry, *adds, "print"]),
+        ("nothing new", b"head\nlookup 61 0\nhistory 0 1\n", [*entry, *["print"] * 3]),
+        ("a registration", b"register 61 6b31\n", [*entry, *entry, *keeps, "print"]),
+        ("two lines", b"register 62 6b31\nlookup 61 0\nregister 63 6b31\n", [*both, *keeps, "print", "print", *keeps, "print"]),
+        ("a watch", b"watch 61 -\n", [*both, *keeps, *marks, *anew]),
+        ("no more to watch", b"watch 61 -\nhead\n", [*both, "print", "print"]),
+        ("a closing", b"close 2\n", [*both, *adds, "print", *anew]),
+        ("a change and a closing", b"change 61 6b32\nclose 3\nchange 62 6b32\n", [*both, *keeps, "print", *adds, "print", *keeps, "print"]),
+        ("two names", b"watch 61 6b31\nwatch 62 6b31\n", [*both, *marks, *keeps, *marks, *anew]),
     ]
     with tempfile.TemporaryDirectory() as folder:
         provider = Provider()
-        for name, script, wanted in runs:
-            found, status = logged(program, provider, library, folder, script)
+
+        def calls(name, script, wanted, status=0):
+            found, ended = logged(program, provider, library, folder, script)
             # What goes over in one call or several is the same.
             found = [call for place, call in enumerate(found) if not call.startswith("write ") or found[place - 1 : place] != [call]]
-            yield different(f"the calls of {name}", (wanted, 0), (found, status))
-        others = provider.copied()
-        others.hub.directory.rotate(4, bytes([5]) * 32)
-        found, status = logged(program, others, library, folder, b"head\nregister 64 6b31\n")
-        yield different("the calls of a root and a promise", ([*adds, "print", *keeps, "print"], 0), (found, status))
+            return different(f"the calls of {name}", (wanted, status), (found, ended))
+
+        for run in runs:
+            yield calls(*run)
+        forked = provider.copied()
+        provider.hub.directory.rotate(4, bytes([5]) * 32)
+        yield calls("a root and a promise", b"head\nregister 64 6b31\n", [*both, *adds, "print", *keeps, "print"])
+        yield calls("an alarm", b"watch 63 6b32\n", [*both, *keeps, *marks, *anew], 3)
+        provider = forked
+        provider.hub.directory.close(4)
+        yield calls("evidence", b"head\n", [*both, *keeps, "print", "print"], 3)
 
 
 def main():
@@ -686,7 +726,7 @@ def main():
     words = parser.parse_args()
     program = os.path.abspath(words.program)
     with tempfile.TemporaryDirectory() as folder:
-        fail_disk, sync_order = built("fail_disk", folder), built("sync_order", folder)
+        fail_disk, sync_order, fail_nth = (built(name, folder) for name in ("fail_disk", "sync_order", "fail_nth"))
         runs = {
             "kills": lambda: kills(program, fail_disk, words.seed, words.kills),
             "full disk": lambda: full_disk(program, fail_disk),
@@ -699,6 +739,7 @@ def main():
             "beginnings": lambda: beginnings(program),
             "old states": lambda: old_states(program, words.seed),
             "left over": lambda: left_over(program),
+            "no memory": lambda: no_memory(program, fail_nth),
         }
         found = {name: list(run()) for name, run in runs.items()}
     failures = [(name, difference) for name, differences in found.items() for difference in differences if difference is not None]

@@ -152,7 +152,7 @@ helps listen --help -- "--count <N>" "How many connections are answered; 0 for n
     "<ADDR>" "The address to listen on"
 helps ask --help -- "Usage: directoryd ask [OPTIONS] <ADDR> [COMMAND] [WORD] [WORD]" "--provider <FILE>" "--token <HEX>" \
     "The file of the provider's public keys, which everybody may read" "A file of secret keys: lines of " \
-    "--keys <FILE>" "--state <FILE>" "register NAME KEY" "--text " "Take NAME of the words as text, such as alice" \
+    "--keys <FILE>" "--state <FILE>" "register NAME KEY" "--text " "Take NAME of the words as text, such as alice" "--after <EPOCH>" \
     "NAME and KEY are hexadecimal digits, here and in what is printed" "--text without words is refused" \
     "Status 3: the provider was caught" "Status 1: nothing can be said today" \
     "Example: directoryd ask "
@@ -220,7 +220,7 @@ refused "unexpected argument '--count' found" serve $keys --count 1
 refused "unexpected argument 'here:1' found" serve $keys here:1
 refused "the following required arguments were not provided:" listen $keys
 refused "the following required arguments were not provided:" ask --provider file
-refused "unexpected argument 'more' found" ask --provider file here:1 change2 61 6b open more
+refused "unexpected argument 'more' found" ask --provider file here:1 lookup 61 0 more
 refused "unexpected argument '--journal' found" ask --journal file here:1
 refused "unexpected argument 'here:2' found" listen $keys here:1 here:2
 refused "invalid value 'few' for '--count <N>': invalid digit found in string" listen $keys --count few here:1
@@ -347,6 +347,21 @@ given "head\n" ask --provider "$folder/secret" --text nowhere
 ends 2 "" "error: '--text' is for a COMMAND of the words; names in the lines of the input are hexadecimal digits"
 given "" ask --provider "$folder/public" --text nowhere watch alice -
 ends 1 "" "cannot connect"
+# `--after` is for words that have a last epoch.
+for words in "" "lookup 61 0" "history 1 1" "settle 61" "register 61 62"; do
+    given "head\n" ask --provider "$folder/secret" --after 7 nowhere $words
+    ends 2 "" "error: '--after' is for the COMMAND 'watch' or 'head' of the words"
+done
+given "" ask --provider "$folder/public" --after 0 127.0.0.1:1 watch 61 -
+ends 3 "stale 0" "cannot connect"
+given "" ask --provider "$folder/public" --after 18446744073709551615 127.0.0.1:1 head
+ends 3 "stale 0" "cannot connect"
+given "" ask --provider "$folder/public" --after 7 127.0.0.1:1 watch 6 -
+ends 1 "" "cannot connect"
+refused "invalid value '-1' for '--after <EPOCH>': invalid digit found in string" ask --after=-1 nowhere
+refused "invalid value 'soon' for '--after <EPOCH>': invalid digit found in string" ask --after soon nowhere
+refused "the argument '--after <EPOCH>' cannot be used multiple times" ask --after 1 --after 2 nowhere
+refused "unexpected argument '--after' found" listen $keys --after 1 nowhere
 refused "the argument '--text' cannot be used multiple times" ask --text --text nowhere
 refused "unexpected value 'alice' for '--text' found; no more were expected" ask --text=alice nowhere
 refused "unexpected argument '--text' found" listen $keys --text nowhere
@@ -514,7 +529,8 @@ given "" ask --provider "$folder/public" --state "$folder/state" nowhere settle 
 ends 3 "$(<"$folder/fork.json")
 settled 61 0" "state: $folder/state.kept: evidence of an earlier run"
 given "" ask --provider "$folder/public" --state "$folder/state" nowhere head
-ends 1 "" "cannot connect"
+ends 3 "$(cat "$folder/state.kept")" "state: $folder/state.kept: evidence of an earlier run
+cannot connect"
 
 # Other spellings of one file: spelled SCRIPT, where SCRIPT changes the parts, a dict.
 spelled() {

@@ -226,12 +226,13 @@ class Trial:
     def crontab(self, begin):
         """The command of a line of the crontab, as cron hands it to sh."""
         line = next(line for line in self.block("Every ten minutes", "*/10")[0].splitlines() if line.startswith(begin))
-        self.same("a crontab line without %", False, "%" in line)
-        return line.split(None, 1 if begin == "@reboot" else 5)[-1]
+        self.same("a crontab line without a bare %", False, "%" in line.replace("\\%", ""))
+        return line.split(None, 1 if begin == "@reboot" else 5)[-1].replace("\\%", "%")
 
-    def cron(self, what, wanted):
-        """What cron's line prints, which is mailed."""
-        output, errors, _ = self.sh(self.crontab("*/10"), where=self.home, PATH="/usr/bin:/bin")
+    def cron(self, what, wanted, later=0):
+        """What cron's line prints, which is mailed, now or so many seconds later."""
+        line = self.crontab("*/10").replace("- 7200", f"- 7200 + {later}")
+        output, errors, _ = self.sh(line, where=self.home, PATH="/usr/bin:/bin")
         self.same(f"{what}, by cron ({errors})", like(wanted), like(output))
 
     def systemd(self):
@@ -239,7 +240,7 @@ class Trial:
         self.sh(self.block("Every ten minutes", "mkdir -p ~/.config")[0])
         units = sorted((self.home / ".config/systemd/user").iterdir())
         self.same("files of systemd", 4, len(units))
-        service = dict(line.split("=", 1) for line in units[-2].read_text().replace("%h", str(self.home)).splitlines() if "=" in line)
+        service = dict(line.split("=", 1) for line in units[-2].read_text().replace("%h", str(self.home)).replace("%%", "%").replace("$$", "$").splitlines() if "=" in line)
         self.prints("systemd's command", 0, "watched 616c696365 1\n", service["ExecStart"], where=service["WorkingDirectory"])
         tools = [shutil.which(tool, path=self.environment["PATH"]) for tool in ("systemd-analyze", "socat")]
         if all(tools):
@@ -271,8 +272,11 @@ def watched(trial):
     trial.systemd()
     trial.close()
     trial.cron("a new epoch", "")
+    trial.cron("an hour later", "", later=3600)
+    trial.cron("two hours later", "status 3: watched 616c696365 3\nstale 3\n", later=7200)
     end()
     trial.cron("no socat", "status 1: cannot connect\n")
+    trial.cron("no socat for two hours", "status 3: cannot connect\nstale 3\n", later=7200)
     end = trial.tunnel(trial.crontab("@reboot"), trial.home)
     trial.cron("socat again", "")
     return ask, directory, end
@@ -326,7 +330,8 @@ def forked(trial, ask, directory, end):
     trial.same(f"a fork, by cron ({errors})", "status 3: {", output[:11])
     trial.shown("Evidence", "judge", before=ask)
     end()
-    trial.prints("no socat", 1, "", ask + "$ask watch alice 6b31")
+    output, errors, status = trial.sh(ask + "$ask watch alice 6b31")
+    trial.same(f"evidence, and no socat ({errors})", ("{", 3), (output[:1], status))
 
 
 def main(program):

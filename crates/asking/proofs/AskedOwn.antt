@@ -13,13 +13,15 @@ use Rattle.memory.specs.Taking.{either, Takes}
 use Rattle.memory.specs.declared.item.Item.{Item}
 use Rattle.memory.specs.declared.item.Item.TheVariants.{Promised, Watched, Alarm, Evidence}
 use Rattle.memory.specs.declared.kind.Kind.{Kind}
+use Rattle.memory.specs.declared.mark.Mark.{Mark}
 use Rattle.memory.specs.declared.kind.Kind.TheVariants.{Alarms, EvidenceLines}
 use Rattle.memory.specs.declared.promised.Promised.{Promised as PromisedMade}
 use Rattle.asking.specs.Saves.{IsAskedChange, IsOwnPromise, WasOwn}
-use Rattle.asking.specs.Standing.{AddsNoOwn, AddsOwn, AreAsked}
+use Rattle.asking.specs.Standing.{AddsNoOwn, AddsOwn, AreAsked, AreLate, Fits}
 use Rattle.asking.proofs.Adding.{all-self, drop-among}
 use Rattle.asking.proofs.PutMarks.{cons-cases, cons-front}
 use Rattle.asking.proofs.Stood.{all-in, OwnAsked}
+use Rattle.asking.proofs.ToldScenes.{all-map}
 
 -- ---- what learns no promise
 
@@ -138,10 +140,10 @@ not-own : false ≡ true → ⊥
 not-own e = cc
 
 -- those for changes are learned first, and then some of others
-pub learns-changes : (changes own : List SignedPromise) (count : ℕ) (before after : Memory) → own ≡ drop count changes → EachOfSome LearnsOne (map (promised_item true) own) before after → AddsOwn changes before after
+pub learns-changes : (changes own : List SignedPromise) (count : ℕ) (before after : Memory) → own ≡ drop count changes → EachOfSome LearnsOne (map (promised_item true) own) before after → AddsOwn (drop count changes) before after
 learns-changes changes own count before after is learns signed was = elim (some-own true own before after learns signed was) [
   | inl old ↦ inl old
-  | inr (so, new) ↦ inr (all-in (Contains changes) (drop count changes) signed (drop-among count changes) (subst (λ (all : List SignedPromise). Contains all signed) is new))
+  | inr (so, new) ↦ inr (subst (λ (all : List SignedPromise). Contains all signed) is new)
 ]
 
 pub learns-others : (changes others : List SignedPromise) (before middle after : Memory) → AddsOwn changes before middle → EachOfSome LearnsOne (map (promised_item false) others) middle after → AddsOwn changes before after
@@ -155,11 +157,29 @@ whole-of Does xs before after news each = (xs, [], news, sym (append-nil xs), ea
 
 -- ---- what was asked for
 
-pub changes-asked : (lines : Option (List (List ℕ))) (start : Memory) (changes : List SignedPromise) (before after : Memory) → AreAsked lines start changes → AddsOwn changes before after → OwnAsked lines start before after
-changes-asked lines start changes before after asked adds signed own = elim (adds signed own) [
+new-among : (changes : List SignedPromise) (count : ℕ) (signed : SignedPromise) → Contains (drop count changes) signed → Contains changes signed
+new-among changes count signed new = all-in (Contains changes) (drop count changes) signed (drop-among count changes) new
+
+pub changes-asked : (lines : Option (List (List ℕ))) (start : Memory) (changes : List SignedPromise) (count : ℕ) (before after : Memory) → AreAsked lines start changes → AreLate before (drop count changes) → AddsOwn (drop count changes) before after
+    → OwnAsked lines start before after
+changes-asked lines start changes count before after asked late adds signed own = elim (adds signed own) [
   | inl old ↦ inl old
-  | inr new ↦ inr (all-in (λ (s : SignedPromise). IsSignedPromise s × (WasOwn start s ⊎ IsAskedChange lines s)) changes signed asked new).1
+  | inr new ↦ inr (
+    (all-in (λ (s : SignedPromise). IsSignedPromise s × (WasOwn start s ⊎ IsAskedChange lines s)) changes signed asked (new-among changes count signed new)).1,
+    all-in (λ (s : SignedPromise). Fits s.promise.epoch before) (drop count changes) signed late new,
+  )
 ]
+
+pub changes-add : (changes : List SignedPromise) (count : ℕ) (before after : Memory) → AddsOwn (drop count changes) before after → AddsOwn changes before after
+changes-add changes count before after adds signed own = elim (adds signed own) [
+  | inl old ↦ inl old
+  | inr new ↦ inr (new-among changes count signed new)
+]
+
+-- where the marks stay, those that are late are
+pub late-stays : (known known' : Memory) (changes : List SignedPromise) (count count' : ℕ) → known'.marks ≡ known.marks → count' ≡ count → AreLate known (drop count changes) → AreLate known' (drop count' changes)
+late-stays known known' changes count count' same at late = subst (λ (n : ℕ). AreLate known' (drop n changes)) (sym at)
+    (all-map (λ (s : SignedPromise). Fits s.promise.epoch known) (λ (s : SignedPromise). Fits s.promise.epoch known') (drop count changes) (λ signed fits mark has. fits mark (subst (λ (ms : List Mark). Contains ms mark) same has)) late)
 
 pub asked-of : (verified : List ℕ → List ℕ → List ℕ → Type 0) (key : List ℕ) (lines : Option (List (List ℕ))) (known : Memory) (promises : List SignedPromise) → AllByRecursion (IsOwnPromise verified key lines known) promises → AreAsked lines known promises
 asked-of verified key lines known [] all = tt

@@ -1,7 +1,8 @@
 -- How a run begins that has a state.
-use Rattle.std.proofs.Common.{◌≡◌, ◌∙◌, ℕ, List, [], ◌∷◌, ◌++◌, Contains, Option, Some, None, Result, Ok, Err, ap, append-nil, arith, inl, inr, refl, subst, sym}
+use Rattle.std.proofs.Common.{◌≡◌, ◌∙◌, ℕ, List, [], ◌∷◌, ◌++◌, length, Contains, Option, Some, None, Result, Ok, Err, ap, append-nil, arith, inl, inr, refl, subst, sym}
 use Rattle.std.specs.Prelude.{IfErr, IfOk, OnErr}
 use Rattle.std.specs.List.{AllByRecursion}
+use Rattle.std.specs.List.Sorted.{IsNonDecreasingBy}
 use Rattle.rootchain.specs.Chains.{IsChain, KeyedRoots}
 use Rattle.rootchain.specs.SignedRoots.{IsSignedRoot}
 use Rattle.rootchain.specs.declared.signed_promise.SignedPromise.{SignedPromise}
@@ -14,8 +15,8 @@ use Rattle.monitor.specs.Monitors.{Monitor}
 use Rattle.asking.specs.Owning.{Owns}
 use Rattle.asking.specs.Remembering.{AreWithin}
 use Rattle.asking.specs.Runs.{background_of, new_background, Background, IsSoundFor, KeepsAll}
-use Rattle.asking.specs.Saves.{stored_nothing, Act, AreEarlier, Found, HasOneOfEachName, IsAsked, IsAskedChange, IsHeadEpoch, IsOwnPromise, Loads, WasOwn}
-use Rattle.asking.specs.Standing.{standing, Fits, HasBegun, HasFailed, HasLoaded, IsFresh, IsKept, IsLeft, IsReady, RunStands, Stands}
+use Rattle.asking.specs.Saves.{noting, stored_nothing, Act, AreEarlier, Found, HasOneOfEachName, IsAsked, IsAskedChange, IsHeadEpoch, IsOwnPromise, Loads, WasOwn}
+use Rattle.asking.specs.Standing.{standing, Fits, HasBegun, HasFailed, HasLoaded, HasNoChanges, IsCurrent, IsFresh, IsInStep, IsKept, IsLeft, IsReady, RunStands, Stands}
 use Rattle.wire.specs.Frames.{Frame}
 use Rattle.wire.specs.Requests.{RequestContent}
 use Rattle.asking.specs.Scenes.{StartsAtHead}
@@ -24,6 +25,7 @@ use Rattle.asking.specs.declared.state.State.{State}
 use Rattle.asking.proofs.Adding.{all-self}
 use Rattle.asking.proofs.Ended.{err_so}
 use Rattle.asking.proofs.KeptTold.{loads-kept}
+use Rattle.asking.proofs.Noting.{noted-cases, was-more}
 use Rattle.asking.proofs.OwnedRoots.{one-chain}
 use Rattle.asking.proofs.OwnRoots.{some-same}
 use Rattle.asking.proofs.Stood.{all-in}
@@ -64,6 +66,9 @@ kept-rooted : (hash : List ℕ → List ℕ) (accepted verified : List ℕ → L
 kept-rooted hash accepted verified client sound promises keeps signed has =
     (all-in (IsPromised hash verified client.chain) client.promises signed sound.promises (all-in (Contains client.promises) promises signed keeps has)).rooted
 
+none-ascends : IsNonDecreasingBy (λ (signed : SignedPromise). signed.promise.epoch) []
+none-ascends i j d low within = absurd (omega (arith, within))
+
 -- nothing has no promise
 none-own : (signed : SignedPromise) → WasOwn nothing signed → ⊥
 none-own signed (promised, has, this, own) = omega (arith, has.1)
@@ -95,12 +100,15 @@ module _ (hash : List ℕ → List ℕ) (accepted verified : List ℕ → List �
   -- and a client without monitors stands so to it
   owns-all : (start : Found) (client : Client) (said : List ℕ) → IsChain hash verified client.chain → AllByRecursion IsSignedRoot client.chain.roots → AllByRecursion (Contains client.chain.roots) start.roots → AreWithin client.chain start.known
       → ((signed : SignedPromise) → WasOwn start.known signed → HasRootOf hash client.chain signed.promise)
-      → Owns hash accepted verified (IsAsked lines) (IsOwnPromise verified key lines start.known) start.known [] start.roots start.known.marks start.known.marks (standing client [] said)
+      → Owns hash accepted verified (IsAsked lines) (IsOwnPromise verified key lines start.known) (noting start.known []) [] start.roots start.known.marks start.known.marks (standing client [] said)
   owns-all start client said chain formed stores within rooted = record {
     chain = chain;
     formed = formed;
     stores = stores;
-    rooted = rooted;
+    rooted = λ signed was. elim (noted-cases start.known [] signed was) [
+      | inl old ↦ rooted signed old
+      | inr new ↦ absurd (omega (arith, new.1))
+    ];
     watched = tt;
     held = λ mark has. record {
       low = inr (within mark has);
@@ -108,6 +116,14 @@ module _ (hash : List ℕ → List ℕ) (accepted verified : List ℕ → List �
       link = inl has;
     };
   }
+
+  -- no change is noted yet, and there is no monitor
+  begun-step : {H V S : Type 0} (asker : Asker H V S) (state : Option State) → HasNoChanges state → asker.changes.items ≡ [] → asker.monitors.items ≡ [] → IsInStep state asker
+  begun-step asker None uncounted changes none = tt
+  begun-step asker (Some state) uncounted changes none = (
+    uncounted ∙ ap (λ (all : List SignedPromise). length all) (sym changes),
+    subst (AllByRecursion (IsCurrent asker.key asker.client.chain)) (sym none) tt,
+  )
 
   -- ---- a state that is loaded
 
@@ -128,19 +144,23 @@ module _ (hash : List ℕ → List ℕ) (accepted verified : List ℕ → List �
           (loads-all (found_by asker) text (λ done. After (done ++ acts)) state.epoch (goes acts before) whole spells (within-fits asker.client.chain asker.known state.epoch within at) once),
     )
 
-    pub loaded-stands : (state : Option State) (said : List ℕ) → HasLoaded Before After asker state → IsSoundFor hash accepted verified key asker.client → KeepsAll asker.client asker.earlier.items → asker.key ≡ key → asker.monitors.items ≡ []
+    pub loaded-stands : (state : Option State) (said : List ℕ) → HasLoaded Before After asker state → HasNoChanges state → IsSoundFor hash accepted verified key asker.client → KeepsAll asker.client asker.earlier.items → asker.key ≡ key → asker.monitors.items ≡ []
         → (start : Found) × RunStands hash accepted verified lines start old (λ done. After (done ++ acts)) asker said state (Some old)
     unfolding loads-all
-    loaded-stands None said loaded sound keeps same-key none = absurd loaded
-    loaded-stands (Some state) said ((text, whole, spells, goes), same, marks, changes, within, once, at, own) (keyed, chain, is) keeps same-key none = (
+    loaded-stands None said loaded uncounted sound keeps same-key none = absurd loaded
+    loaded-stands (Some state) said ((text, whole, spells, goes), same, marks, changes, within, once, at, own) uncounted (keyed, chain, is) keeps same-key none = (
       found_by asker,
       (
-        subst (λ (k : List ℕ). Stands hash accepted verified lines k (found_by asker) old (λ done. After (done ++ acts)) state.epoch state.memory [] (Some old) (standing asker.client asker.monitors.items said)) (sym same-key)
-            (subst (λ (known : Memory). Stands hash accepted verified lines key (found_by asker) old (λ done. After (done ++ acts)) state.epoch known [] (Some old) (standing asker.client asker.monitors.items said)) (sym same) (record {
+        subst (λ (k : List ℕ). Stands hash accepted verified lines k (found_by asker) old (λ done. After (done ++ acts)) state.epoch state.memory [] (Some old) asker.changes.items (standing asker.client asker.monitors.items said)) (sym same-key)
+            (subst (λ (known : Memory). Stands hash accepted verified lines key (found_by asker) old (λ done. After (done ++ acts)) state.epoch known [] (Some old) asker.changes.items (standing asker.client asker.monitors.items said)) (sym same)
+            (subst (λ (noted : List SignedPromise). Stands hash accepted verified lines key (found_by asker) old (λ done. After (done ++ acts)) state.epoch asker.known [] (Some old) noted (standing asker.client asker.monitors.items said)) (sym changes) (record {
               kept = loads-all (found_by asker) text (λ done. After (done ++ acts)) state.epoch (goes acts before) whole spells (within-fits asker.client.chain asker.known state.epoch within at) once;
-              owns = subst (λ (ms : List Monitor). Owns hash accepted verified (IsAsked lines) (IsOwnPromise verified key lines asker.known) asker.known [] asker.client.chain.roots asker.known.marks asker.known.marks (standing asker.client ms said)) (sym none)
+              owns = subst (λ (ms : List Monitor). Owns hash accepted verified (IsAsked lines) (IsOwnPromise verified key lines asker.known) (noting asker.known []) [] asker.client.chain.roots asker.known.marks asker.known.marks (standing asker.client ms said)) (sym none)
                   (owns-all (found_by asker) asker.client said chain is.roots (all-self asker.client.chain.roots) within (λ signed was. kept-rooted hash accepted verified asker.client is asker.earlier.items keeps signed (own.all signed was)));
-            })),
+              own = λ signed was. was-more asker.known [] signed was;
+              ascend = none-ascends;
+              later = λ earlier later was has. absurd (omega (arith, has.1));
+            }))),
         sym marks,
         (
           keyed ∙ sym same-key,
@@ -150,6 +170,7 @@ module _ (hash : List ℕ → List ℕ) (accepted verified : List ℕ → List �
               (kept-own hash accepted verified asker.client is lines asker.known asker.earlier.items keeps own.were))),
           own,
         ),
+        begun-step asker (Some state) uncounted changes none,
       ),
     )
 
@@ -190,23 +211,28 @@ module _ (hash : List ℕ → List ℕ) (accepted verified : List ℕ → List �
         ap (λ (c : Client). c.chain.key) starts.2 ∙ sym same-key,
         subst (λ (old : List SignedPromise). AllByRecursion (IsOwnPromise verified asker.key lines nothing) (old ++ asker.changes.items)) (sym earlier-none)
             (subst (λ (new : List SignedPromise). AllByRecursion (IsOwnPromise verified asker.key lines nothing) new) (sym knows.2) tt),
-        subst (AreEarlier nothing) (sym earlier-none) (record { were = tt; all = λ signed was. absurd (none-own signed was) }),
+        subst (AreEarlier nothing) (sym earlier-none) (record { were = tt; all = λ signed was. absurd (none-own signed was); ascend = λ i j d low within. absurd (omega (arith, within)) }),
       )
 
-      pub begun-stands : (first state : Option State) → IsFresh first → HasBegun Before After first state → (start : Found) × RunStands hash accepted verified lines start old (λ done. After (done ++ acts)) asker said state (Some old)
+      pub begun-stands : (first state : Option State) → IsFresh first → HasNoChanges state → HasBegun Before After first state → (start : Found) × RunStands hash accepted verified lines start old (λ done. After (done ++ acts)) asker said state (Some old)
       unfolding loads-all
-      begun-stands None state fresh (none, goes) = (found_nothing, subst (λ (s : Option State). RunStands hash accepted verified lines found_nothing old (λ done. After (done ++ acts)) asker said s (Some old)) (sym none) (goes acts before, sym marks-none, begun-ready))
-      begun-stands (Some was) state fresh (now, is, goes, same, at) = (
+      begun-stands None state fresh uncounted (none, goes) = (found_nothing, subst (λ (s : Option State). RunStands hash accepted verified lines found_nothing old (λ done. After (done ++ acts)) asker said s (Some old)) (sym none) (goes acts before, sym marks-none, begun-ready, tt))
+      begun-stands (Some was) state fresh uncounted (now, is, goes, same, at) = (
         found_nothing,
         subst (λ (s : Option State). RunStands hash accepted verified lines found_nothing old (λ done. After (done ++ acts)) asker said s (Some old)) (sym is) (
-          subst (λ (k : List ℕ). Stands hash accepted verified lines k found_nothing old (λ done. After (done ++ acts)) now.epoch now.memory [] (Some old) (standing asker.client asker.monitors.items said)) (sym same-key)
-              (subst (λ (known : Memory). Stands hash accepted verified lines key found_nothing old (λ done. After (done ++ acts)) now.epoch known [] (Some old) (standing asker.client asker.monitors.items said)) (sym (same ∙ fresh.0)) (record {
+          subst (λ (k : List ℕ). Stands hash accepted verified lines k found_nothing old (λ done. After (done ++ acts)) now.epoch now.memory [] (Some old) asker.changes.items (standing asker.client asker.monitors.items said)) (sym same-key)
+              (subst (λ (known : Memory). Stands hash accepted verified lines key found_nothing old (λ done. After (done ++ acts)) now.epoch known [] (Some old) asker.changes.items (standing asker.client asker.monitors.items said)) (sym (same ∙ fresh.0))
+              (subst (λ (noted : List SignedPromise). Stands hash accepted verified lines key found_nothing old (λ done. After (done ++ acts)) now.epoch nothing [] (Some old) noted (standing asker.client asker.monitors.items said)) (sym knows.2) (record {
                 kept = loads-all found_nothing [] (λ done. After (done ++ acts)) now.epoch (goes acts before) (inl refl) refl (none-fits now.epoch) tt;
-                owns = subst (λ (ms : List Monitor). Owns hash accepted verified (IsAsked lines) (IsOwnPromise verified key lines nothing) nothing [] [] [] [] (standing asker.client ms said)) (sym knows.1)
+                owns = subst (λ (ms : List Monitor). Owns hash accepted verified (IsAsked lines) (IsOwnPromise verified key lines nothing) (noting nothing []) [] [] [] [] (standing asker.client ms said)) (sym knows.1)
                     (owns-all found_nothing asker.client said is-chain is-formed tt none-within (λ signed was. absurd (none-own signed was)));
-              })),
+                own = λ signed was. absurd (none-own signed was);
+                ascend = none-ascends;
+                later = λ earlier later was has. absurd (omega (arith, has.1));
+              }))),
           sym marks-none,
           begun-ready,
+          begun-step asker (Some now) (subst HasNoChanges is uncounted) knows.2 knows.1,
         ),
       )
 
@@ -220,9 +246,9 @@ module _ (hash : List ℕ → List ℕ) (accepted verified : List ℕ → List �
 
   pub begun_run : {H V S T E : Type 0} (result : Result (Asker H V S) E) (exchanged : T → RequestContent → Frame → T → Type 0) (stream after : T) (said token : List ℕ)
       → IfOk result (λ asker. StartsAtHead verified exchanged key stream asker.client after) → IfOk result (λ asker. (background_of asker ≡ new_background key token) × (asker.monitors.items ≡ []))
-      → IfOk result (λ asker. asker.changes.items ≡ []) → HasBegun Before After first state
+      → IfOk result (λ asker. asker.changes.items ≡ []) → (IsFresh first → HasNoChanges state) → HasBegun Before After first state
       → IfOk result (λ asker. IsFresh first → (lines : Option (List (List ℕ))) (old : List ℕ) (acts : List Act) → Before acts
       → (start : Found) × RunStands hash accepted verified lines start old (λ done. After (done ++ acts)) asker said state (Some old))
-  begun_run (Ok asker) exchanged stream after said token (frame, exchange, answers, starts) knows changes begun = λ fresh lines old acts has.
-      begun-stands hash accepted verified lines key old Before After acts has asker said (ap (λ (b : Background). b.key) knows.0) token (knows.0, knows.1, changes) frame.body starts first state fresh begun
-  begun_run (Err fault) exchanged stream after said token starts knows changes begun = tt
+  begun_run (Ok asker) exchanged stream after said token (frame, exchange, answers, starts) knows changes counts begun = λ fresh lines old acts has.
+      begun-stands hash accepted verified lines key old Before After acts has asker said (ap (λ (b : Background). b.key) knows.0) token (knows.0, knows.1, changes) frame.body starts first state fresh (counts fresh) begun
+  begun_run (Err fault) exchanged stream after said token starts knows changes counts begun = tt

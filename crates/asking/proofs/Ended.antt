@@ -1,8 +1,7 @@
 -- How a run ends before all is asked.
-use Rattle.std.proofs.Common.{◌≡◌, ◌≢◌, ◌∙◌, ◌<◌, ◌≤◌, ℕ, true, List, [], ◌∷◌, ◌++◌, Bor, Option, None, Some, Result, Ok, Err, ap, option_map, append-nil, append_assoc, inl, inr, refl, rules, subst, sym}
+use Rattle.std.proofs.Common.{◌≡◌, ◌≢◌, ◌⊎◌, ◌∙◌, ◌<◌, ◌≤◌, ℕ, true, List, [], ◌∷◌, ◌++◌, Bor, Option, None, Some, Result, Ok, Err, ap, option_map, append-nil, append_assoc, inl, inr, refl, rules, subst, sym}
 use Rattle.std.specs.Prelude.{IfErr, IfOk, IfSome, OnErr, OnOk}
 use Rattle.std.proofs.KnownBytes.{Appends-nil, Appends-trans, Keeps-refl}
-use Rattle.std.specs.declared.net.tcp.TcpStream.{TcpStream}
 use Rattle.nodehash.specs.Sha256.{sha256}
 use Rattle.vrfiface.specs.StandIns.{KeyedAccepts}
 use Rattle.sigiface.specs.StandIn.{KeyedVerifies}
@@ -12,7 +11,6 @@ use Rattle.textio.specs.Output.{WritesSome}
 use Rattle.textio.specs.declared.program_fault.ProgramFault.{ProgramFault}
 use Rattle.textio.specs.declared.program_fault.ProgramFault.TheVariants.{CannotWrite}
 use Rattle.std.specs.Io.KnownBytes.{Appends}
-use Rattle.encoding.specs.declared.bound_key.BoundKey.{BoundKey}
 use Rattle.asking.specs.declared.ask_fault.RunFault.{RunFault}
 use Rattle.asking.specs.declared.ask_fault.RunFault.TheVariants.{Program}
 use Rattle.wire.specs.Frames.{Frame}
@@ -26,11 +24,16 @@ use Rattle.asking.specs.declared.asker.Asker.{Asker}
 use Rattle.memory.specs.declared.mark.Mark.{Mark}
 use Rattle.asking.specs.declared.order.AskOrder.{AskOrder}
 use Rattle.asking.specs.declared.run.RunEnd.{RunEnd}
-use Rattle.asking.specs.declared.run.RunEnd.TheVariants.{Whole, Stopped, Unwritten}
+use Rattle.asking.specs.declared.run.RunEnd.TheVariants.{Whole, Stopped, Unwritten, Stale}
 use Rattle.asking.specs.declared.said.Said.{Said}
 use Rattle.asking.specs.AskOptions.{AskOptions, ask_keys_of, ask_values}
 use Rattle.asking.specs.Asking.{AsksDirectory, AsksSome, FindsSome, StopsAsking}
-use Rattle.asking.specs.Ending.{AsksNext, AsksOverSocket, AsksPart, AsksSomeLine, BeginsNone, DoesSome, end_status, EndsEarly, EndsWith, FailsAs, FailsOverSocket, FailsWith, HoldsBack, PreparesSome, RunEndsAt, RunsAs, stopped_status, TakesSomeNew, WritesUnless}
+use Rattle.asking.specs.Lateness.{stale_line, subject_in, HasEpoch, IsLast}
+use Rattle.asking.specs.RunFaults.{IsFaultOfSaving, IsFaultOfState}
+use Rattle.asking.specs.declared.lateness.Limit.{Limit}
+use Rattle.asking.specs.declared.lateness.Subject.{Subject}
+use Rattle.asking.specs.declared.connecting.Connection.{Connection}
+use Rattle.asking.specs.Ending.{AsksAs, AsksNext, AsksOverSocket, AsksPart, AsksSomeLine, BeginsNone, DoesSome, end_status, EndsEarly, EndsStale, EndsWith, FailsAs, FailsLate, FailsOverSocket, FailsWith, HasFirst, HasLast, HoldsBack, IsUnknown, LoadsNone, PreparesSome, RunEndsAt, RunsAs, RunsLate, Sees, stopped_status, TakesSomeNew, WritesUnless}
 use Rattle.asking.specs.Exchanges.{ExchangesFrames}
 use Rattle.asking.specs.Following.{StopsAfter, TakesSome}
 use Rattle.asking.specs.Joining.{own_for, BeginsSome, BeginsWatch}
@@ -39,6 +42,14 @@ use Rattle.asking.specs.Runs.{AsksLines, BeginsAsking, StartsRun, emptied, Backg
 use Rattle.asking.specs.Scenes.{HaltsAfter, Scene, StopsAtHead}
 use Rattle.asking.specs.Visiting.{TestsAll, TestsSome}
 use Rattle.asking.proofs.Ran.{LeadsOn, none_before}
+
+same-fault : (one other : ProgramFault) → ◌≡◌ {A = Result (Unit {0}) RunFault} (Err (Program one)) (Err (Program other)) → one ≡ other
+same-fault one other e = cc
+
+-- what is so of a last epoch is so in other words
+epoch-held : (options : AskOptions) (Is : Subject → ℕ → Type 0) (Holds Holds' : ℕ → ℕ → Type 0)
+    → ((after epoch : ℕ) (about : Subject) → options.after ≡ Some after → subject_in options.words ≡ Some about → Holds after epoch → Holds' after epoch) → HasEpoch options Is Holds → HasEpoch options Is Holds'
+epoch-held options Is Holds Holds' more at = λ after given about words. let (epoch, is, holds) = at after given about words in (epoch, is, more after epoch about given words holds)
 
 no-reply : fault.NoReply ≢ fault.Stopped
 no-reply same = search (rules, same)
@@ -168,20 +179,20 @@ module _ (hash : List ℕ → List ℕ) (accepted verified : List ℕ → List �
     pub asked_reaches : {H V S A : Type 0} (asked : RequestContent) (noted noted' : List SignedPromise) (result : Result A AskFault) (before after : Scene T) (asker : Asker H V S) (said : Said) → report_of said ≡ after.told
         → OnOk result (AsksDirectory hash accepted verified exchanged background.marks background.token asked noted noted' before after)
         → (result ≡ Err fault.Stopped → StopsAsking hash accepted verified exchanged background.token asked before after)
-        → IfErr result (λ why. why ≢ fault.Stopped → HaltsAfter (AsksSome hash accepted verified exchanged background.marks background.token asked noted noted' before) why asker said)
+        → IfErr result (λ why. why ≢ fault.Stopped → HaltsAfter (AsksSome hash accepted verified exchanged why background.marks background.token asked noted noted' before) why asker said)
         → (reached : Scene T) × DoesSome hash accepted verified exchanged background (Ask asked) before reached × (report_of said ≡ reached.told)
     asked_reaches asked noted noted' (Ok done) before after asker said same asks stops halts = (after, inr (inl (noted, noted', asks)), same)
-    asked_reaches asked noted noted' (Err fault.NoReply) before after asker said same asks stops halts = let (reached, some, halted) = halts no-reply in (reached, inr (inr (inr (noted, noted', some))), halted.0)
+    asked_reaches asked noted noted' (Err fault.NoReply) before after asker said same asks stops halts = let (reached, some, halted) = halts no-reply in (reached, inr (inr (inr (fault.NoReply, noted, noted', some))), halted.0)
     asked_reaches asked noted noted' (Err fault.Stopped) before after asker said same asks stops halts = (after, inr (inr (inl (stops refl))), same)
-    asked_reaches asked noted noted' (Err fault.OutOfMemory) before after asker said same asks stops halts = let (reached, some, halted) = halts no-memory in (reached, inr (inr (inr (noted, noted', some))), halted.0)
+    asked_reaches asked noted noted' (Err fault.OutOfMemory) before after asker said same asks stops halts = let (reached, some, halted) = halts no-memory in (reached, inr (inr (inr (fault.OutOfMemory, noted, noted', some))), halted.0)
 
     -- a name is watched, or some of its epochs
-    pub watched_reaches : {H V S A : Type 0} (name : List ℕ) (given given' : Option BoundKey) (noted : List SignedPromise) (result : Result A AskFault) (before after : Scene T) (asker : Asker H V S) (said : Said) → given ≡ given' → report_of said ≡ after.told
+    pub watched_reaches : {H V S A : Type 0} (name : List ℕ) (given given' : Option (List ℕ)) (noted : List SignedPromise) (result : Result A AskFault) (before after : Scene T) (asker : Asker H V S) (said : Said) → given ≡ given' → report_of said ≡ after.told
         → OnOk result (BeginsWatch hash accepted verified exchanged background.known background.marks background.key (own_for background.marks name background.earlier noted) name given before after)
         → IfErr result (λ why. HaltsAfter (BeginsSome hash accepted verified exchanged background.known background.marks background.key (own_for background.marks name background.earlier noted) name given before) why asker said)
         → (reached : Scene T) × DoesSome hash accepted verified exchanged background (Watch name given') before reached × (report_of said ≡ reached.told)
     watched_reaches name given given' noted (Ok done) before after asker said is same begins halts =
-        (after, inr (inl (noted, subst (λ (g : Option BoundKey). BeginsWatch hash accepted verified exchanged background.known background.marks background.key (own_for background.marks name background.earlier noted) name g before after) is begins)), same)
+        (after, inr (inl (noted, subst (λ (g : Option (List ℕ)). BeginsWatch hash accepted verified exchanged background.known background.marks background.key (own_for background.marks name background.earlier noted) name g before after) is begins)), same)
     watched_reaches name given given' noted (Err why) before after asker said is same begins (reached, some, halted) =
         (reached, inr (inr (noted, subst (λ (g : Option (List ℕ)). BeginsSome hash accepted verified exchanged background.known background.marks background.key (own_for background.marks name background.earlier noted) name g before reached) is some)), halted.0)
 
@@ -264,31 +275,48 @@ module _ (hash : List ℕ → List ℕ) (accepted verified : List ℕ → List �
 
   module _ (key token : List ℕ) (options : AskOptions) (HasNoState : Type 0) (stream : T) (input old : Option (List ℕ)) where
     -- it does not begin
-    pub early_none : (Failed : Type 0) (first : Report) (said : Said) → BeginsNone verified exchanged key stream first (report_of said) → first ≡ emptied 0
-        → EndsEarly hash accepted verified exchanged key token options HasNoState stream input old (HoldsBack Failed old said)
-    early_none Failed first said begins none =
-        (report_of said, old, leaves_same Failed old said (report_of said) refl, inl (subst (λ (r : Report). BeginsNone verified exchanged key stream r (report_of said)) none begins, refl))
+    pub early_none : (Failed : Type 0) (Holds : ℕ → ℕ → Type 0) (Unknown : Type 0) (first : Report) (said : Said) → BeginsNone verified exchanged key stream first (report_of said)
+        → Unknown ⊎ HasFirst hash accepted verified exchanged key options HasNoState Holds → first ≡ emptied 0
+        → EndsEarly hash accepted verified exchanged key token options HasNoState stream input old Holds Unknown (HoldsBack Failed old said)
+    early_none Failed Holds Unknown first said begins known none =
+        (report_of said, old, leaves_same Failed old said (report_of said) refl, inl (subst (λ (r : Report). BeginsNone verified exchanged key stream r (report_of said)) none begins, refl, known))
+
+    -- what is so of the last epoch is so in other words
+    pub early_held : (Holds Holds' : ℕ → ℕ → Type 0) (Unknown Unknown' : Type 0) (Then : Report → Option (List ℕ) → Type 0)
+        → ((after epoch : ℕ) (about : Subject) → options.after ≡ Some after → subject_in options.words ≡ Some about → Holds after epoch → Holds' after epoch) → (Unknown → Unknown')
+        → EndsEarly hash accepted verified exchanged key token options HasNoState stream input old Holds Unknown Then → EndsEarly hash accepted verified exchanged key token options HasNoState stream input old Holds' Unknown' Then
+    early_held Holds Holds' Unknown Unknown' Then more leads (told, now, holds, inl (none, same, inl unknown)) = (told, now, holds, inl (none, same, inl (leads unknown)))
+    early_held Holds Holds' Unknown Unknown' Then more leads (told, now, holds, inl (none, same, inr (inl at))) =
+        (told, now, holds, inl (none, same, inr (inl (epoch-held options (λ about epoch. epoch ≡ 0) Holds Holds' more at))))
+    early_held Holds Holds' Unknown Unknown' Then more leads (told, now, holds, inl (none, same, inr (inr (some, (marks, client, sound, at))))) =
+        (told, now, holds, inl (none, same, inr (inr (some, (marks, client, sound, epoch-held options (IsLast marks client []) Holds Holds' more at)))))
+    early_held Holds Holds' Unknown Unknown' Then more leads (told, now, holds, inr (background, start, begun, at, (seen, sees, last))) =
+        (told, now, holds, inr (background, start, begun, at, (seen, sees, epoch-held options (IsLast background.marks seen.client seen.monitors) Holds Holds' more last)))
 
     -- it ends with another fault than its questions did
-    pub part_left : (Failed Failed' : Type 0) (left : Result (Unit {0}) RunFault) (new : Option (List ℕ)) (said : Said) (first : Report) → OnErr left (Failed → Failed')
-        → (first ≡ emptied 0 → EndsEarly hash accepted verified exchanged key token options HasNoState stream input old (HoldsBack Failed new said))
-        → OnErr left (first ≡ emptied 0 → EndsEarly hash accepted verified exchanged key token options HasNoState stream input old (HoldsBack Failed' new said))
-    part_left Failed Failed' (Ok done) new said first leads part = tt
-    part_left Failed Failed' (Err why) new said first leads part = λ none. let (told, now, leaves, at) = part none in (told, now, leaves_with Failed Failed' new said told now leads leaves, at)
+    pub part_left : (Failed Failed' Limited : Type 0) (Holds : ℕ → ℕ → Type 0) (Unknown Unknown' : Type 0) (left : Result (Unit {0}) RunFault) (new : Option (List ℕ)) (said : Said) (first : Report) → OnErr left (Failed → Failed') → OnErr left (Unknown → Unknown')
+        → (first ≡ emptied 0 → Limited → EndsEarly hash accepted verified exchanged key token options HasNoState stream input old Holds Unknown (HoldsBack Failed new said))
+        → OnErr left (first ≡ emptied 0 → Limited → EndsEarly hash accepted verified exchanged key token options HasNoState stream input old Holds Unknown' (HoldsBack Failed' new said))
+    part_left Failed Failed' Limited Holds Unknown Unknown' (Ok done) new said first leads unknown part = tt
+    part_left Failed Failed' Limited Holds Unknown Unknown' (Err why) new said first leads unknown part = λ none limited.
+        let (told, now, leaves, at) = early_held Holds Holds Unknown Unknown' (HoldsBack Failed new said) (λ after epoch about given words holds. holds) unknown (part none limited) in
+        (told, now, leaves_with Failed Failed' new said told now leads leaves, at)
 
     module _ (background : Background) (start : Scene T) (new : Option (List ℕ)) (said : Said) (first : Report) (begun : first ≡ emptied 0 → StartsRun hash accepted verified exchanged key token HasNoState stream background start) where
       -- it ends while what is new is followed
-      pub early_preparing : (Failed : Type 0) → (reached : Scene T) × PreparesSome hash accepted verified exchanged background HasNoState start reached × HoldsBack Failed new said reached.told old
-          → first ≡ emptied 0 → EndsEarly hash accepted verified exchanged key token options HasNoState stream input old (HoldsBack Failed new said)
-      early_preparing Failed (reached, some, leaves) none = (reached.told, old, leaves, inr (background, start, begun none, inl (reached, some, refl, refl)))
+      pub early_preparing : (Failed : Type 0) (Holds : ℕ → ℕ → Type 0) (Unknown : Type 0) → (reached : Scene T) × PreparesSome hash accepted verified exchanged background HasNoState start reached × HoldsBack Failed new said reached.told old
+          → (seen : Scene T) × Sees hash accepted verified exchanged background options HasNoState start seen × HasLast hash accepted verified exchanged options background.marks seen Holds
+          → first ≡ emptied 0 → EndsEarly hash accepted verified exchanged key token options HasNoState stream input old Holds Unknown (HoldsBack Failed new said)
+      early_preparing Failed Holds Unknown (reached, some, leaves) late none = (reached.told, old, leaves, inr (background, start, begun none, inl (reached, some, refl, refl), late))
 
       -- it ends at a line
-      pub early_asking : (Failed : Type 0) (background' : Background) (ready : Scene T) (now : Option (List ℕ)) → Writes (Prepares hash accepted verified exchanged background HasNoState) start old now ready → background' ≡ background
+      pub early_asking : (Failed : Type 0) (Holds : ℕ → ℕ → Type 0) (Unknown : Type 0) (background' : Background) (ready : Scene T) (now : Option (List ℕ)) → Writes (Prepares hash accepted verified exchanged background HasNoState) start old now ready → background' ≡ background
           → IfSome (lines_asked options.words input) (λ lines. (told : Report) × (next : Option (List ℕ)) × AsksPart hash accepted verified exchanged background' lines ready told now next × HoldsBack Failed new said told next)
-          → first ≡ emptied 0 → EndsEarly hash accepted verified exchanged key token options HasNoState stream input old (HoldsBack Failed new said)
-      early_asking Failed background' ready now prepares same part none =
+          → (seen : Scene T) × Sees hash accepted verified exchanged background options HasNoState start seen × HasLast hash accepted verified exchanged options background.marks seen Holds
+          → first ≡ emptied 0 → EndsEarly hash accepted verified exchanged key token options HasNoState stream input old Holds Unknown (HoldsBack Failed new said)
+      early_asking Failed Holds Unknown background' ready now prepares same part late none =
           let (told, next, leaves, at) = by (lines_asked options.words input) part in
-          (told, next, leaves, inr (background, start, begun none, inr (ready, now, prepares, subst (λ (k : Background). IfSome (lines_asked options.words input) (λ lines. AsksPart hash accepted verified exchanged k lines ready told now next)) same at)))
+          (told, next, leaves, inr (background, start, begun none, inr (ready, now, prepares, subst (λ (k : Background). IfSome (lines_asked options.words input) (λ lines. AsksPart hash accepted verified exchanged k lines ready told now next)) same at), late))
         where
           by : (asked : Option (List (List ℕ)))
               → IfSome asked (λ lines. (told : Report) × (next : Option (List ℕ)) × AsksPart hash accepted verified exchanged background' lines ready told now next × HoldsBack Failed new said told next)
@@ -299,7 +327,7 @@ module _ (hash : List ℕ → List ℕ) (accepted verified : List ℕ → List �
   -- ---- with the state that an order names
 
   module _ (key token : List ℕ) (options : AskOptions) (NoState None' : Type 0) (without : None' → NoState) (within : NoState → None') where
-    begun-with : (background : Background) (stream : T) (start : Scene T) → StartsRun hash accepted verified exchanged key token NoState stream background start → StartsRun hash accepted verified exchanged key token None' stream background start
+    pub begun-with : (background : Background) (stream : T) (start : Scene T) → StartsRun hash accepted verified exchanged key token NoState stream background start → StartsRun hash accepted verified exchanged key token None' stream background start
     begun-with background stream start begun = record { again = begun.again; begins = by begun.begins; knows = begun.knows }
       where
         by : BeginsAsking hash accepted verified exchanged key token NoState stream background start.client start.stream → BeginsAsking hash accepted verified exchanged key token None' stream background start.client start.stream
@@ -331,7 +359,7 @@ module _ (hash : List ℕ → List ℕ) (accepted verified : List ℕ → List �
     ends-with background input start old told now (inl (reached, some, is, same)) = inl (reached, some_prepares_with background start reached some, is, same)
     ends-with background input start old told now (inr (ready, next, prepares, asks)) = inr (ready, next, writes_with background start old next ready prepares, asks)
 
-    whole-with : (stream stream' : T) (input old new : Option (List ℕ)) (status : ℕ)
+    abbrev whole-with : (stream stream' : T) (input old new : Option (List ℕ)) (status : ℕ)
         → RunsWhole hash accepted verified exchanged key token options NoState stream stream' input status old new → RunsWhole hash accepted verified exchanged key token options None' stream stream' input status old new
     whole-with stream stream' input old new status run = record {
       background = run.background;
@@ -346,74 +374,123 @@ module _ (hash : List ℕ → List ℕ) (accepted verified : List ℕ → List �
       left = run.left;
     }
 
-    early-with : (Before After : Report → Option (List ℕ) → Type 0) (stream : T) (input old : Option (List ℕ)) → ((told : Report) (now : Option (List ℕ)) → Before told now → After told now)
-        → EndsEarly hash accepted verified exchanged key token options NoState stream input old Before → EndsEarly hash accepted verified exchanged key token options None' stream input old After
-    early-with Before After stream input old leads (told, now, holds, inl none) = (told, now, leads told now holds, inl none)
-    early-with Before After stream input old leads (told, now, holds, inr (background, start, begun, at)) = (told, now, leads told now holds, inr (background, start, begun-with background stream start begun, ends-with background input start old told now at))
+    sees-with : (background : Background) (start seen : Scene T) → Sees hash accepted verified exchanged background options NoState start seen → Sees hash accepted verified exchanged background options None' start seen
+    sees-with background start seen (inl same) = inl same
+    sees-with background start seen (inr (inl some)) = inr (inl (some_prepares_with background start seen some))
+    sees-with background start seen (inr (inr (done, prepares, asks))) = inr (inr (done, prepares-with background start done prepares, asks))
 
-    pub runs_with : (stream stream' : T) (input old new : Option (List ℕ)) (ended : RunEnd)
-        → RunsAs hash accepted verified exchanged key token options NoState stream stream' input ended old new → RunsAs hash accepted verified exchanged key token options None' stream stream' input ended old new
-    runs_with stream stream' input old new (Whole status) run = whole-with stream stream' input old new status run
-    runs_with stream stream' input old new (Stopped status) run =
-        early-with (λ told now. (status ≡ stopped_status told.status) × Appends now new told.lines) (λ told now. (status ≡ stopped_status told.status) × Appends now new told.lines) stream input old (λ told now holds. holds) run
-    runs_with stream stream' input old new Unwritten run =
-        early-with (λ told now. (3 ≤ told.status) × WritesSome now new told.lines) (λ told now. (3 ≤ told.status) × WritesSome now new told.lines) stream input old (λ told now holds. holds) run
+    early-with : (Before After : Report → Option (List ℕ) → Type 0) (Holds : ℕ → ℕ → Type 0) (Unknown Unknown' : Type 0) (stream : T) (input old : Option (List ℕ)) → ((told : Report) (now : Option (List ℕ)) → Before told now → After told now) → (Unknown → Unknown')
+        → EndsEarly hash accepted verified exchanged key token options NoState stream input old Holds Unknown Before → EndsEarly hash accepted verified exchanged key token options None' stream input old Holds Unknown' After
+    early-with Before After Holds Unknown Unknown' stream input old leads more (told, now, holds, inl (none, same, inl unknown)) = (told, now, leads told now holds, inl (none, same, inl (more unknown)))
+    early-with Before After Holds Unknown Unknown' stream input old leads more (told, now, holds, inl (none, same, inr (inl at))) = (told, now, leads told now holds, inl (none, same, inr (inl at)))
+    early-with Before After Holds Unknown Unknown' stream input old leads more (told, now, holds, inl (none, same, inr (inr (some, at)))) = (told, now, leads told now holds, inl (none, same, inr (inr ((λ no. some (without no)), at))))
+    early-with Before After Holds Unknown Unknown' stream input old leads more (told, now, holds, inr (background, start, begun, at, (seen, sees, last))) =
+        (told, now, leads told now holds, inr (background, start, begun-with background stream start begun, ends-with background input start old told now at, (seen, sees-with background start seen sees, last)))
+
+    unknown-with : (fault : ProgramFault) → IsUnknown NoState fault → IsUnknown None' fault
+    unknown-with fault (inl memory) = inl memory
+    unknown-with fault (inr (some, state)) = inr ((λ no. some (without no)), state)
+
+    late-with : (stream stream' : T) (input old new : Option (List ℕ)) (Holds : ℕ → ℕ → Type 0) (status : ℕ)
+        → RunsLate hash accepted verified exchanged key token options NoState stream stream' input Holds status old new → RunsLate hash accepted verified exchanged key token options None' stream stream' input Holds status old new
+    late-with stream stream' input old new Holds status (run, late) = (whole-with stream stream' input old new status run, late)
+
+    asks-with : (stream stream' : T) (input old new : Option (List ℕ)) (Holds : ℕ → ℕ → Type 0) (ended : RunEnd)
+        → AsksAs hash accepted verified exchanged key token options NoState stream stream' input Holds ended old new → AsksAs hash accepted verified exchanged key token options None' stream stream' input Holds ended old new
+    asks-with stream stream' input old new Holds (Whole status) run = late-with stream stream' input old new Holds status run
+    asks-with stream stream' input old new Holds (Stopped status) run =
+        early-with (λ told now. (status ≡ stopped_status told.status) × Appends now new told.lines) (λ told now. (status ≡ stopped_status told.status) × Appends now new told.lines) Holds ⊥ ⊥ stream input old (λ told now holds. holds) (λ no. no) run
+    asks-with stream stream' input old new Holds Unwritten run =
+        early-with (λ told now. (3 ≤ told.status) × WritesSome now new told.lines) (λ told now. (3 ≤ told.status) × WritesSome now new told.lines) Holds ⊥ ⊥ stream input old (λ told now holds. holds) (λ no. no) run
+    asks-with stream stream' input old new Holds (Stale epoch) run = absurd run
+
+    fails-late-with : (stream : T) (input : Option (List ℕ)) (Holds : ℕ → ℕ → Type 0) (Unknown Unknown' : Type 0) (fault : ProgramFault) (old new : Option (List ℕ)) → (Unknown → Unknown')
+        → FailsLate hash accepted verified exchanged key token options NoState stream input Holds Unknown fault old new → FailsLate hash accepted verified exchanged key token options None' stream input Holds Unknown' fault old new
+    fails-late-with stream input Holds Unknown Unknown' fault old new more run =
+        early-with (λ told now. (told.status < 3) × WritesUnless (fault ≡ CannotWrite) now new told.lines) (λ told now. (told.status < 3) × WritesUnless (fault ≡ CannotWrite) now new told.lines) Holds Unknown Unknown' stream input old (λ told now holds. holds) more run
 
     pub fails_with : (stream : T) (input : Option (List ℕ)) (fault : ProgramFault) (old new : Option (List ℕ))
         → FailsAs hash accepted verified exchanged key token options NoState stream input fault old new → FailsAs hash accepted verified exchanged key token options None' stream input fault old new
-    fails_with stream input fault old new run =
-        early-with (λ told now. (told.status < 3) × WritesUnless (fault ≡ CannotWrite) now new told.lines) (λ told now. (told.status < 3) × WritesUnless (fault ≡ CannotWrite) now new told.lines) stream input old (λ told now holds. holds) run
+    fails_with stream input fault old new run = fails-late-with stream input (λ after last. after < last) (IsUnknown NoState fault) (IsUnknown None' fault) fault old new (unknown-with fault) run
+
+    stale-with : (stream stream' : T) (input old : Option (List ℕ)) (epoch : ℕ) (Then : Option (List ℕ) → Type 0)
+        → EndsStale hash accepted verified exchanged key token options NoState stream stream' input epoch old Then → EndsStale hash accepted verified exchanged key token options None' stream stream' input epoch old Then
+    stale-with stream stream' input old epoch Then (stale, (now, holds, inl (ended, run))) = (stale, (now, holds, inl (ended, asks-with stream stream' input old now (λ after last. last ≡ epoch) ended run)))
+    stale-with stream stream' input old epoch Then (stale, (now, holds, inr (fault, run))) = (stale, (now, holds, inr (fault, fails-late-with stream input (λ after last. last ≡ epoch) ⊥ ⊥ fault old now (λ no. no) run)))
+
+    pub runs_with : (stream stream' : T) (input old new : Option (List ℕ)) (ended : RunEnd)
+        → RunsAs hash accepted verified exchanged key token options NoState stream stream' input ended old new → RunsAs hash accepted verified exchanged key token options None' stream stream' input ended old new
+    runs_with stream stream' input old new (Whole status) run = asks-with stream stream' input old new (λ after last. after < last) (Whole status) run
+    runs_with stream stream' input old new (Stopped status) run = asks-with stream stream' input old new (λ after last. after < last) (Stopped status) run
+    runs_with stream stream' input old new Unwritten (inl run) = inl (asks-with stream stream' input old new (λ after last. after < last) Unwritten run)
+    runs_with stream stream' input old new Unwritten (inr (epoch, run)) = inr (epoch, stale-with stream stream' input old epoch (λ now. WritesSome now new (stale_line epoch)) run)
+    runs_with stream stream' input old new (Stale epoch) run = stale-with stream stream' input old epoch (λ now. Appends now new (stale_line epoch)) run
 
     -- ---- the end
 
     module _ (outcome : Result (Unit {0}) RunFault) (result : Result RunEnd ProgramFault) (stream stream' : T) (input old new new' : Option (List ℕ)) (said : Said) (first : Report) (empty : first ≡ emptied 0) where
-      pub ends_so : OnOk outcome (first ≡ emptied 0 → RunsWhole hash accepted verified exchanged key token options NoState stream stream' input said.status old new)
-          → OnErr outcome (first ≡ emptied 0 → EndsEarly hash accepted verified exchanged key token options NoState stream input old (HoldsBack (WriteFailed outcome) new said))
+      pub ends_so : (Holds : ℕ → ℕ → Type 0) (before after : Limit) → OnOk outcome (first ≡ emptied 0 → RunsLate hash accepted verified exchanged key token options NoState stream stream' input Holds said.status old new)
+          → OnErr outcome (first ≡ emptied 0 → EndsEarly hash accepted verified exchanged key token options NoState stream input old Holds (LoadsNone NoState outcome before after said.status) (HoldsBack (WriteFailed outcome) new said))
+          → ((fault : ProgramFault) → outcome ≡ Err (Program fault) → said.status < 3 → IfOk result (λ ended. ⊥))
           → OnOk outcome ((result ≡ Ok (Whole said.status)) × (new' ≡ new)) → OnErr outcome (IfOk result (λ ended. EndsWith (WriteFailed outcome) said new new' ended))
-          → IfOk result (λ ended. RunsAs hash accepted verified exchanged key token options None' stream stream' input ended old new')
-      ends_so = by outcome result
+          → IfOk result (λ ended. AsksAs hash accepted verified exchanged key token options None' stream stream' input Holds ended old new')
+      ends_so Holds before after = by outcome result
         where
-          by : (outcome : Result (Unit {0}) RunFault) (result : Result RunEnd ProgramFault) → OnOk outcome (first ≡ emptied 0 → RunsWhole hash accepted verified exchanged key token options NoState stream stream' input said.status old new)
-              → OnErr outcome (first ≡ emptied 0 → EndsEarly hash accepted verified exchanged key token options NoState stream input old (HoldsBack (WriteFailed outcome) new said))
+          by : (outcome : Result (Unit {0}) RunFault) (result : Result RunEnd ProgramFault) → OnOk outcome (first ≡ emptied 0 → RunsLate hash accepted verified exchanged key token options NoState stream stream' input Holds said.status old new)
+              → OnErr outcome (first ≡ emptied 0 → EndsEarly hash accepted verified exchanged key token options NoState stream input old Holds (LoadsNone NoState outcome before after said.status) (HoldsBack (WriteFailed outcome) new said))
+              → ((fault : ProgramFault) → outcome ≡ Err (Program fault) → said.status < 3 → IfOk result (λ ended. ⊥))
               → OnOk outcome ((result ≡ Ok (Whole said.status)) × (new' ≡ new)) → OnErr outcome (IfOk result (λ ended. EndsWith (WriteFailed outcome) said new new' ended))
-              → IfOk result (λ ended. RunsAs hash accepted verified exchanged key token options None' stream stream' input ended old new')
-          by (Err why) (Err given) whole early ends stops = tt
-          by (Err why) (Ok (Whole status)) whole early ends stops = absurd stops
-          by (Err why) (Ok (Stopped status)) whole early ends (is, well, wrote) =
-              early-with (HoldsBack (WriteFailed (Err why)) new said) (λ told now. (status ≡ stopped_status told.status) × Appends now new' told.lines) stream input old
-              (λ told now leaves. (is ∙ ap (λ (n : ℕ). stopped_status n) leaves.0, written_all (WriteFailed (Err why)) now new new' said told leaves well wrote)) (early empty)
-          by (Err why) (Ok Unwritten) whole early ends (high, wrote) =
-              early-with (HoldsBack (WriteFailed (Err why)) new said) (λ told now. (3 ≤ told.status) × WritesSome now new' told.lines) stream input old
-              (λ told now leaves. (subst (λ (n : ℕ). 3 ≤ n) leaves.0 high, written_then (WriteFailed (Err why)) now new new' said told leaves wrote)) (early empty)
-          by (Ok done) result whole early (is, same) stops =
-              subst (λ (r : Result RunEnd ProgramFault). IfOk r (λ ended. RunsAs hash accepted verified exchanged key token options None' stream stream' input ended old new')) (sym is) (
-              subst (λ (text : Option (List ℕ)). RunsWhole hash accepted verified exchanged key token options None' stream stream' input said.status old text) (sym same)
-              (whole-with stream stream' input old new said.status (whole empty)))
+              → IfOk result (λ ended. AsksAs hash accepted verified exchanged key token options None' stream stream' input Holds ended old new')
+          by (Err why) (Err given) whole early fails ends stops = tt
+          by (Err why) (Ok (Whole status)) whole early fails ends stops = absurd stops
+          by (Err why) (Ok (Stopped status)) whole early fails ends (is, well, wrote) =
+              early-with (HoldsBack (WriteFailed (Err why)) new said) (λ told now. (status ≡ stopped_status told.status) × Appends now new' told.lines) Holds (LoadsNone {A = Unit {0}} NoState (Err why) before after said.status) ⊥ stream input old
+              (λ told now leaves. (is ∙ ap (λ (n : ℕ). stopped_status n) leaves.0, written_all (WriteFailed (Err why)) now new new' said told leaves well wrote))
+              (λ (fault, was, some, state, last, low). fails fault was low) (early empty)
+          by (Err why) (Ok (Stale epoch)) whole early fails ends stops = absurd stops
+          by (Err why) (Ok Unwritten) whole early fails ends (high, wrote) =
+              early-with (HoldsBack (WriteFailed (Err why)) new said) (λ told now. (3 ≤ told.status) × WritesSome now new' told.lines) Holds (LoadsNone {A = Unit {0}} NoState (Err why) before after said.status) ⊥ stream input old
+              (λ told now leaves. (subst (λ (n : ℕ). 3 ≤ n) leaves.0 high, written_then (WriteFailed (Err why)) now new new' said told leaves wrote))
+              (λ (fault, was, some, state, last, low). fails fault was low) (early empty)
+          by (Ok done) result whole early fails (is, same) stops =
+              subst (λ (r : Result RunEnd ProgramFault). IfOk r (λ ended. AsksAs hash accepted verified exchanged key token options None' stream stream' input Holds ended old new')) (sym is) (
+              subst (λ (text : Option (List ℕ)). RunsLate hash accepted verified exchanged key token options None' stream stream' input Holds said.status old text) (sym same)
+              (late-with stream stream' input old new Holds said.status (whole empty)))
 
-      pub fails_so : OnErr outcome (first ≡ emptied 0 → EndsEarly hash accepted verified exchanged key token options NoState stream input old (HoldsBack (WriteFailed outcome) new said))
+      -- the fault that is given for a state that could not be read is one that leaves the last epoch unknown
+      unknown-given : (before after : Limit) (why : RunFault) (given : ProgramFault) → before.last ≡ None → IsFaultOfSaving given ⊎ (◌≡◌ {A = Result (Unit {0}) RunFault} (Err why) (Err (Program given))) → LoadsNone {A = Unit {0}} NoState (Err why) before after said.status
+          → IsUnknown None' given × (after.last ≡ None)
+      unknown-given before after why given none (inl (inl is)) (fault, was, some, state, last, low) = (inr ((λ no. some (without no)), subst (λ (f : ProgramFault). IsFaultOfState f) (sym is) (inl tt)), last ∙ none)
+      unknown-given before after why given none (inl (inr is)) (fault, was, some, state, last, low) = (inl is, last ∙ none)
+      unknown-given before after why given none (inr is) (fault, was, some, state, last, low) =
+          (inr ((λ no. some (without no)), subst (λ (f : ProgramFault). IsFaultOfState f) (same-fault fault given (sym was ∙ is)) state), last ∙ none)
+
+      pub fails_so : (Holds : ℕ → ℕ → Type 0) (before after : Limit) → before.last ≡ None → OnErr outcome (first ≡ emptied 0 → EndsEarly hash accepted verified exchanged key token options NoState stream input old Holds (LoadsNone NoState outcome before after said.status) (HoldsBack (WriteFailed outcome) new said))
+          → IfErr result (λ given. IsFaultOfSaving given ⊎ (outcome ≡ Err (Program given)))
           → OnOk outcome ((result ≡ Ok (Whole said.status)) × (new' ≡ new)) → OnErr outcome (IfErr result (λ given. FailsWith (WriteFailed outcome) said new new' given))
-          → IfErr result (λ given. FailsAs hash accepted verified exchanged key token options None' stream input given old new')
-      fails_so = by outcome result
+          → IfErr result (λ given. FailsLate hash accepted verified exchanged key token options None' stream input Holds (IsUnknown None' given × (after.last ≡ None)) given old new')
+      fails_so Holds before after none = by outcome result
         where
-          by : (outcome : Result (Unit {0}) RunFault) (result : Result RunEnd ProgramFault) → OnErr outcome (first ≡ emptied 0 → EndsEarly hash accepted verified exchanged key token options NoState stream input old (HoldsBack (WriteFailed outcome) new said))
+          by : (outcome : Result (Unit {0}) RunFault) (result : Result RunEnd ProgramFault) → OnErr outcome (first ≡ emptied 0 → EndsEarly hash accepted verified exchanged key token options NoState stream input old Holds (LoadsNone NoState outcome before after said.status) (HoldsBack (WriteFailed outcome) new said))
+              → IfErr result (λ given. IsFaultOfSaving given ⊎ (outcome ≡ Err (Program given)))
               → OnOk outcome ((result ≡ Ok (Whole said.status)) × (new' ≡ new)) → OnErr outcome (IfErr result (λ given. FailsWith (WriteFailed outcome) said new new' given))
-              → IfErr result (λ given. FailsAs hash accepted verified exchanged key token options None' stream input given old new')
-          by (Err why) (Ok ended) early ends fails = tt
-          by (Err why) (Err given) early ends (low, inl (well, wrote)) =
-              early-with (HoldsBack (WriteFailed (Err why)) new said) (λ told now. (told.status < 3) × WritesUnless (given ≡ CannotWrite) now new' told.lines) stream input old
-              (λ told now leaves. (subst (λ (n : ℕ). n < 3) leaves.0 low, inl (written_all (WriteFailed (Err why)) now new new' said told leaves well wrote))) (early empty)
-          by (Err why) (Err given) early ends (low, inr (failed, wrote)) =
-              early-with (HoldsBack (WriteFailed (Err why)) new said) (λ told now. (told.status < 3) × WritesUnless (given ≡ CannotWrite) now new' told.lines) stream input old
-              (λ told now leaves. (subst (λ (n : ℕ). n < 3) leaves.0 low, inr (failed, written_then (WriteFailed (Err why)) now new new' said told leaves wrote))) (early empty)
-          by (Ok done) result early (is, same) fails = subst (λ (r : Result RunEnd ProgramFault). IfErr r (λ given. FailsAs hash accepted verified exchanged key token options None' stream input given old new')) (sym is) tt
+              → IfErr result (λ given. FailsLate hash accepted verified exchanged key token options None' stream input Holds (IsUnknown None' given × (after.last ≡ None)) given old new')
+          by (Err why) (Ok ended) early gives ends fails = tt
+          by (Err why) (Err given) early gives ends (low, inl (well, wrote)) =
+              early-with (HoldsBack (WriteFailed (Err why)) new said) (λ told now. (told.status < 3) × WritesUnless (given ≡ CannotWrite) now new' told.lines) Holds (LoadsNone {A = Unit {0}} NoState (Err why) before after said.status) (IsUnknown None' given × (after.last ≡ None)) stream input old
+              (λ told now leaves. (subst (λ (n : ℕ). n < 3) leaves.0 low, inl (written_all (WriteFailed (Err why)) now new new' said told leaves well wrote))) (unknown-given before after why given none gives) (early empty)
+          by (Err why) (Err given) early gives ends (low, inr (failed, wrote)) =
+              early-with (HoldsBack (WriteFailed (Err why)) new said) (λ told now. (told.status < 3) × WritesUnless (given ≡ CannotWrite) now new' told.lines) Holds (LoadsNone {A = Unit {0}} NoState (Err why) before after said.status) (IsUnknown None' given × (after.last ≡ None)) stream input old
+              (λ told now leaves. (subst (λ (n : ℕ). n < 3) leaves.0 low, inr (failed, written_then (WriteFailed (Err why)) now new new' said told leaves wrote))) (unknown-given before after why given none gives) (early empty)
+          by (Ok done) result early gives (is, same) fails = subst (λ (r : Result RunEnd ProgramFault). IfErr r (λ given. FailsLate hash accepted verified exchanged key token options None' stream input Holds (IsUnknown None' given × (after.last ≡ None)) given old new')) (sym is) tt
 
 -- ---- a socket
 
-pub over_socket : (order : AskOrder) (key token : List ℕ) (socket socket' : TcpStream) (input old new : Option (List ℕ)) (ended : RunEnd) → ask_keys_of (ask_values order) ≡ Some (key, token)
-    → RunsAs sha256 KeyedAccepts KeyedVerifies (ExchangesFrames {T = TcpStream} (λ _. None) (λ _. None)) key token (ask_values order) (order.state ≡ None) socket socket' input ended old new
+pub over_socket : (order : AskOrder) (key token : List ℕ) (socket socket' : Connection) (input old new : Option (List ℕ)) (ended : RunEnd) → ask_keys_of (ask_values order) ≡ Some (key, token)
+    → RunsAs sha256 KeyedAccepts KeyedVerifies (ExchangesFrames {T = Connection} (λ _. None) (λ _. None)) key token (ask_values order) (order.state ≡ None) socket socket' input ended old new
     → AsksOverSocket (ask_values order) input (end_status ended) old new
 over_socket order key token socket socket' input old new ended are run =
-    inr (inr (
+    inr (
       key,
       token,
       are,
@@ -421,12 +498,12 @@ over_socket order key token socket socket' input old new ended are run =
       socket',
       ended,
       refl,
-      runs_with sha256 KeyedAccepts KeyedVerifies (ExchangesFrames {T = TcpStream} (λ _. None) (λ _. None)) key token (ask_values order) (order.state ≡ None) ((ask_values order).state ≡ None)
+      runs_with sha256 KeyedAccepts KeyedVerifies (ExchangesFrames {T = Connection} (λ _. None) (λ _. None)) key token (ask_values order) (order.state ≡ None) ((ask_values order).state ≡ None)
           (none_before (λ text. text.now) order.state) (λ none. ap (λ (state : Option (Bor (List ℕ))). option_map (λ text. text.now) state) none) socket socket' input old new ended run,
-    ))
+    )
 
-pub fails_over_socket : (order : AskOrder) (key token : List ℕ) (socket : TcpStream) (input : Option (List ℕ)) (fault : ProgramFault) (old new : Option (List ℕ)) → ask_keys_of (ask_values order) ≡ Some (key, token)
-    → FailsAs sha256 KeyedAccepts KeyedVerifies (ExchangesFrames {T = TcpStream} (λ _. None) (λ _. None)) key token (ask_values order) (order.state ≡ None) socket input fault old new
+pub fails_over_socket : (order : AskOrder) (key token : List ℕ) (socket : Connection) (input : Option (List ℕ)) (fault : ProgramFault) (old new : Option (List ℕ)) → ask_keys_of (ask_values order) ≡ Some (key, token)
+    → FailsAs sha256 KeyedAccepts KeyedVerifies (ExchangesFrames {T = Connection} (λ _. None) (λ _. None)) key token (ask_values order) (order.state ≡ None) socket input fault old new
     → FailsOverSocket (ask_values order) input fault old new
 fails_over_socket order key token socket input fault old new are run =
     inr (inr (
@@ -434,7 +511,7 @@ fails_over_socket order key token socket input fault old new are run =
       token,
       are,
       socket,
-      fails_with sha256 KeyedAccepts KeyedVerifies (ExchangesFrames {T = TcpStream} (λ _. None) (λ _. None)) key token (ask_values order) (order.state ≡ None) ((ask_values order).state ≡ None)
+      fails_with sha256 KeyedAccepts KeyedVerifies (ExchangesFrames {T = Connection} (λ _. None) (λ _. None)) key token (ask_values order) (order.state ≡ None) ((ask_values order).state ≡ None)
           (none_before (λ text. text.now) order.state) (λ none. ap (λ (state : Option (Bor (List ℕ))). option_map (λ text. text.now) state) none) socket input fault old new run,
     ))
 

@@ -1,6 +1,5 @@
 -- What each single step keeps, every relation between the scenes of a run keeps.
 use Rattle.std.proofs.Common.{◌≡◌, ◌⊎◌, ℕ, zero, suc, true, false, Bool, List, [], ◌∷◌, ◌++◌, length, Option, Some, None, inl, inr, refl, subst, sym}
-use Rattle.encoding.specs.declared.bound_key.BoundKey.{BoundKey}
 use Rattle.rootchain.specs.declared.signed_promise.SignedPromise.{SignedPromise}
 use Rattle.rootchain.specs.declared.signed_root.SignedRoot.{SignedRoot}
 use Rattle.commands.specs.Operations.{Head}
@@ -10,6 +9,7 @@ use Rattle.play.specs.Scripts.{ScriptLine, Pass, Ask, Watch, Piece, End}
 use Rattle.memory.specs.Memories.{Memory}
 use Rattle.memory.specs.declared.mark.Mark.{Mark}
 use Rattle.monitor.specs.Monitors.{Monitor}
+use Rattle.asking.specs.declared.ask_fault.AskFault.{AskFault}
 use Rattle.asking.specs.Asking.{replied, AsksDirectory, AsksOn, AsksSome, CatchesSome, CatchesUp, FindsHead, FindsSome, GoesOnAbove, HearsOne, HearsOnly, HearsSome, Notes, StopsAsking}
 use Rattle.asking.specs.Checking.{HearsFrame}
 use Rattle.asking.specs.Following.{Follows, StopsAfter, StopsList, TakesList, TakesLists, TakesSome}
@@ -22,18 +22,18 @@ use Rattle.asking.specs.Visiting.{AsksDue, TestsAll, TestsFrom, TestsSome, Visit
 use Rattle.asking.specs.Watching.{AllStep, AsksEpoch, GoesOn, GoesSome, SomeStep, StepsOn, StepsOnce, StepsSome, StepsThrough}
 
 module _ {T : Type 0} (hash : List ℕ → List ℕ) (accepted verified : List ℕ → List ℕ → List ℕ → Type 0) (exchanged : T → RequestContent → Frame → T → Type 0) (marks : List Mark) where
-  -- Each single step keeps it, where what is noted of the client's own changes is MayNote, and a monitor joins as MayJoin
-  -- says.
-  pub record EachKeeps (MayNote : List SignedPromise → Type 0) (MayJoin : List ℕ → List SignedPromise → List ℕ → Option (List ℕ) → Type 0) (Keeps : Scene T → Scene T → Type 0) : Type 0 where
+  -- Each single step keeps it, where what is noted of the client's own changes is MayNote, a monitor joins as MayJoin says, and
+  -- a frame may stop the taking of roots if MayStop is so.
+  pub record EachKeeps (MayNote : List SignedPromise → Type 0) (MayJoin : List ℕ → List SignedPromise → List ℕ → Option (List ℕ) → Type 0) (MayStop : Type 0) (Keeps : Scene T → Scene T → Type 0) : Type 0 where
     pub none : (before : Scene T) → Keeps before before
     pub both : (before middle after : Scene T) → Keeps before middle → Keeps middle after → Keeps before after
     pub sends : (before : Scene T) (stream : T) → Keeps before (record before { stream = stream })
     pub tells : (before : Scene T) (told : Report) → Keeps before (record before { told = told_after before.told told })
     pub takes : (before after : Scene T) → TakesList hash verified exchanged before true after → Keeps before after
-    pub stops : (before after : Scene T) → StopsList hash verified exchanged before after → Keeps before after
+    pub stops : (before after : Scene T) → MayStop → StopsList hash verified exchanged before after → Keeps before after
     pub tests : (before : Scene T) (name : List ℕ) (kept : Bool) (after : Scene T) → AsksDue hash accepted exchanged before name kept after → Keeps before after
     pub steps : (before : Scene T) (place : ℕ) (went : Bool) (after : Scene T) → AsksEpoch hash accepted exchanged before place went after → Keeps before after
-    pub joins : (before : Scene T) (key : List ℕ) (promised : List SignedPromise) (name : List ℕ) (given : Option BoundKey) (first : SignedRoot) (monitor : Monitor) → MayJoin key promised name given
+    pub joins : (before : Scene T) (key : List ℕ) (promised : List SignedPromise) (name : List ℕ) (given : Option (List ℕ)) (first : SignedRoot) (monitor : Monitor) → MayJoin key promised name given
         → IsUnwatched before.client.chain name marks (Some first) → IsJoined hash accepted verified marks key promised before.client.chain first name given monitor
         → Keeps before (record before { monitors = before.monitors ++ monitor ∷ [] })
     pub hears : (before after : Scene T) (held : ℕ) (asked : RequestContent) (frame : Frame) (heard told : Report) → HearsFrame hash accepted verified held before.client asked frame heard after.client
@@ -41,7 +41,7 @@ module _ {T : Type 0} (hash : List ℕ → List ℕ) (accepted verified : List �
     pub hands : (before after : Scene T) (held : ℕ) (asked : RequestContent) (frame : Frame) (noted noted' : List SignedPromise) → HearsOne hash accepted verified exchanged held asked frame before after
         → Notes asked before.client.promises after.client.promises noted noted' → MayNote noted' → Keeps before after
 
-  module _ {MayNote : List SignedPromise → Type 0} {MayJoin : List ℕ → List SignedPromise → List ℕ → Option (List ℕ) → Type 0} {Keeps : Scene T → Scene T → Type 0} (each : EachKeeps MayNote MayJoin Keeps) where
+  module _ {MayNote : List SignedPromise → Type 0} {MayJoin : List ℕ → List SignedPromise → List ℕ → Option (List ℕ) → Type 0} {MayStop : Type 0} {Keeps : Scene T → Scene T → Type 0} (each : EachKeeps MayNote MayJoin MayStop Keeps) where
     same-keeps : (before after : Scene T) → after ≡ before → Keeps before after
     same-keeps before after same = subst (Keeps before) (sym same) (each.none before)
 
@@ -62,9 +62,9 @@ module _ {T : Type 0} (hash : List ℕ → List ℕ) (accepted verified : List �
     pub takes_some-keeps : (before after : Scene T) → TakesSome hash verified exchanged before after → Keeps before after
     takes_some-keeps before after (count, takes) = lists-keep count before after takes
 
-    pub stops-keep : (count : ℕ) (before after : Scene T) → StopsAfter hash verified exchanged count before after → Keeps before after
-    stops-keep zero before after stops = each.stops before after stops
-    stops-keep (suc count) before after (middle, takes, more) = each.both before middle after (each.takes before middle takes) (stops-keep count middle after more)
+    pub stops-keep : (may : MayStop) (count : ℕ) (before after : Scene T) → StopsAfter hash verified exchanged count before after → Keeps before after
+    stops-keep may zero before after stops = each.stops before after may stops
+    stops-keep may (suc count) before after (middle, takes, more) = each.both before middle after (each.takes before middle takes) (stops-keep may count middle after more)
 
     -- ---- promises
 
@@ -124,7 +124,7 @@ module _ {T : Type 0} (hash : List ℕ → List ℕ) (accepted verified : List �
 
     -- ---- a monitor that joins
 
-    module _ (key : List ℕ) (promised : List SignedPromise) (name : List ℕ) (given : Option BoundKey) (may : MayJoin key promised name given) where
+    module _ (key : List ℕ) (promised : List SignedPromise) (name : List ℕ) (given : Option (List ℕ)) (may : MayJoin key promised name given) where
       pub begins_at-keeps : (first : SignedRoot) (before after : Scene T) → IsUnwatched before.client.chain name marks (Some first) → BeginsAt hash accepted verified exchanged marks key promised name given first before after → Keeps before after
       begins_at-keeps first before after is (inl (monitor, joined, (count, steps))) =
           let added : Scene T = record before { monitors = before.monitors ++ monitor ∷ [] } in
@@ -168,10 +168,10 @@ module _ {T : Type 0} (hash : List ℕ → List ℕ) (accepted verified : List �
     above-keeps epoch before after (head, is, inl (low, same)) = same-keeps before after same
     above-keeps epoch before after (head, is, inr (high, goes)) = goes_on-keeps before after goes
 
-    pub hears_only-keeps : (held : ℕ) (asked : RequestContent) (frame : Frame) (noted noted' : List SignedPromise) (before after : Scene T) → HearsOnly hash accepted verified exchanged held asked frame noted noted' before after → Keeps before after
+    pub hears_only-keeps : {fault : AskFault} (held : ℕ) (asked : RequestContent) (frame : Frame) (noted noted' : List SignedPromise) (before after : Scene T) → HearsOnly hash accepted verified exchanged fault held asked frame noted noted' before after → Keeps before after
     hears_only-keeps held asked frame noted noted' before after (notes, told, hears, tells, monitors, stream) = each.hears before after held asked frame told told hears tells monitors
 
-    pub hears_some-keeps : (epoch : ℕ) (asked : RequestContent) (frame : Frame) (noted noted' : List SignedPromise) (before after : Scene T) → MayNote noted' → HearsSome hash accepted verified exchanged marks epoch asked frame noted noted' before after
+    pub hears_some-keeps : {fault : AskFault} (epoch : ℕ) (asked : RequestContent) (frame : Frame) (noted noted' : List SignedPromise) (before after : Scene T) → MayNote noted' → HearsSome hash accepted verified exchanged fault marks epoch asked frame noted noted' before after
         → Keeps before after
     hears_some-keeps epoch asked frame noted noted' before after may (inl (none, same)) = same-keeps before after same
     hears_some-keeps epoch asked frame noted noted' before after may (inr (inl hears)) = hears_only-keeps epoch asked frame noted noted' before after hears
@@ -196,22 +196,22 @@ module _ {T : Type 0} (hash : List ℕ → List ℕ) (accepted verified : List �
         (each.both (replied finds.reply) finds.ready after (catches_up-keeps finds.reply.epoch (replied finds.reply) finds.ready finds.catches)
         (each.hears finds.ready after finds.reply.head.body.epoch (Query Head) finds.reply.frame finds.told (unless_fine finds.told) finds.hears finds.tells finds.same.0))
 
-    pub stops_asking-keeps : (token : List ℕ) (asked : RequestContent) (before after : Scene T) → StopsAsking hash accepted verified exchanged token asked before after → Keeps before after
-    stops_asking-keeps token asked before after asks =
+    pub stops_asking-keeps : (may : MayStop) (token : List ℕ) (asked : RequestContent) (before after : Scene T) → StopsAsking hash accepted verified exchanged token asked before after → Keeps before after
+    stops_asking-keeps may token asked before after asks =
         let (head, is, high, (count, stops)) = asks.stops in
-        behind before after asks.reply.stream (stops-keep count (replied asks.reply) after stops)
+        behind before after asks.reply.stream (stops-keep may count (replied asks.reply) after stops)
 
-    pub asks_on-keeps : (token : List ℕ) (asked : RequestContent) (noted noted' : List SignedPromise) (before after : Scene T) → MayNote noted' → AsksOn hash accepted verified exchanged marks token asked noted noted' before after → Keeps before after
-    asks_on-keeps token asked noted noted' before after may asks = behind before after asks.reply.stream (by asks.steps)
+    pub asks_on-keeps : {fault : AskFault} (token : List ℕ) (asked : RequestContent) (noted noted' : List SignedPromise) (before after : Scene T) → MayNote noted' → AsksOn hash accepted verified exchanged fault marks token asked noted noted' before after → Keeps before after
+    asks_on-keeps {fault} token asked noted noted' before after may asks = behind before after asks.reply.stream (by asks.steps)
       where
         by : ((noted' ≡ noted) × CatchesSome hash accepted verified exchanged asks.reply.epoch (replied asks.reply) after)
-            ⊎ ((ready : Scene T) × CatchesUp hash accepted verified exchanged asks.reply.epoch (replied asks.reply) ready × HearsSome hash accepted verified exchanged marks asks.reply.head.body.epoch asked asks.reply.frame noted noted' ready after)
+            ⊎ ((ready : Scene T) × CatchesUp hash accepted verified exchanged asks.reply.epoch (replied asks.reply) ready × HearsSome hash accepted verified exchanged fault marks asks.reply.head.body.epoch asked asks.reply.frame noted noted' ready after)
             → Keeps (replied asks.reply) after
         by (inl (none, (head, is, high, some))) = takes_some-keeps (replied asks.reply) after some
         by (inr (ready, catches, hears)) = each.both (replied asks.reply) ready after (catches_up-keeps asks.reply.epoch (replied asks.reply) ready catches)
             (hears_some-keeps asks.reply.head.body.epoch asked asks.reply.frame noted noted' ready after may hears)
 
-    pub asks_some-keeps : (token : List ℕ) (asked : RequestContent) (noted noted' : List SignedPromise) (before after : Scene T) → MayNote noted' → AsksSome hash accepted verified exchanged marks token asked noted noted' before after → Keeps before after
+    pub asks_some-keeps : {fault : AskFault} (token : List ℕ) (asked : RequestContent) (noted noted' : List SignedPromise) (before after : Scene T) → MayNote noted' → AsksSome hash accepted verified exchanged fault marks token asked noted noted' before after → Keeps before after
     asks_some-keeps token asked noted noted' before after may (inl (none, same)) = same-keeps before after same
     asks_some-keeps token asked noted noted' before after may (inr asks) = asks_on-keeps token asked noted noted' before after may asks
 
@@ -223,8 +223,8 @@ module _ {T : Type 0} (hash : List ℕ → List ℕ) (accepted verified : List �
 -- ---- before the lines, and a line
 
 module _ {T : Type 0} (hash : List ℕ → List ℕ) (accepted verified : List ℕ → List ℕ → List ℕ → Type 0) (exchanged : T → RequestContent → Frame → T → Type 0) (background : Background)
-    {MayNote : List SignedPromise → Type 0} {MayJoin : List ℕ → List SignedPromise → List ℕ → Option (List ℕ) → Type 0} {Keeps : Scene T → Scene T → Type 0}
-    (each : EachKeeps hash accepted verified exchanged background.marks MayNote MayJoin Keeps) where
+    {MayNote : List SignedPromise → Type 0} {MayJoin : List ℕ → List SignedPromise → List ℕ → Option (List ℕ) → Type 0} {MayStop : Type 0} {Keeps : Scene T → Scene T → Type 0}
+    (each : EachKeeps hash accepted verified exchanged background.marks MayNote MayJoin MayStop Keeps) where
   module _ (HasNoState : Type 0) where
     takes_new-keeps : (before after : Scene T) → TakesNew hash accepted verified exchanged background HasNoState before after → Keeps before after
     takes_new-keeps before after (inl (none, count, follows)) = follows-keeps hash accepted verified exchanged background.marks each count before after follows
@@ -233,35 +233,35 @@ module _ {T : Type 0} (hash : List ℕ → List ℕ) (accepted verified : List �
     pub prepares-keeps : (before after : Scene T) → Prepares hash accepted verified exchanged background HasNoState before after → Keeps before after
     prepares-keeps before after (middle, takes, tests) = each.both before middle after (takes_new-keeps before middle takes) (tests_all-keeps hash accepted verified exchanged background.marks each middle after tests)
 
-    takes_some_new-keeps : (before after : Scene T) → TakesSomeNew hash accepted verified exchanged background HasNoState before after → Keeps before after
-    takes_some_new-keeps before after (inl (none, inl some)) = takes_some-keeps hash accepted verified exchanged background.marks each before after some
-    takes_some_new-keeps before after (inl (none, inr (count, stops))) = stops-keep hash accepted verified exchanged background.marks each count before after stops
-    takes_some_new-keeps before after (inr (there, inl some)) = finds_some-keeps hash accepted verified exchanged background.marks each background.token before after some
-    takes_some_new-keeps before after (inr (there, inr stops)) = stops_asking-keeps hash accepted verified exchanged background.marks each background.token (Query Head) before after stops
+    takes_some_new-keeps : (may : MayStop) (before after : Scene T) → TakesSomeNew hash accepted verified exchanged background HasNoState before after → Keeps before after
+    takes_some_new-keeps may before after (inl (none, inl some)) = takes_some-keeps hash accepted verified exchanged background.marks each before after some
+    takes_some_new-keeps may before after (inl (none, inr (count, stops))) = stops-keep hash accepted verified exchanged background.marks each may count before after stops
+    takes_some_new-keeps may before after (inr (there, inl some)) = finds_some-keeps hash accepted verified exchanged background.marks each background.token before after some
+    takes_some_new-keeps may before after (inr (there, inr stops)) = stops_asking-keeps hash accepted verified exchanged background.marks each may background.token (Query Head) before after stops
 
-    pub prepares_some-keeps : (before after : Scene T) → PreparesSome hash accepted verified exchanged background HasNoState before after → Keeps before after
-    prepares_some-keeps before after (inl prepares) = prepares-keeps before after prepares
-    prepares_some-keeps before after (inr (inl some)) = takes_some_new-keeps before after some
-    prepares_some-keeps before after (inr (inr (middle, takes, tests))) = each.both before middle after (takes_new-keeps before middle takes) (tests_some-keeps hash accepted verified exchanged background.marks each middle after tests)
+    pub prepares_some-keeps : (may : MayStop) (before after : Scene T) → PreparesSome hash accepted verified exchanged background HasNoState before after → Keeps before after
+    prepares_some-keeps may before after (inl prepares) = prepares-keeps before after prepares
+    prepares_some-keeps may before after (inr (inl some)) = takes_some_new-keeps may before after some
+    prepares_some-keeps may before after (inr (inr (middle, takes, tests))) = each.both before middle after (takes_new-keeps before middle takes) (tests_some-keeps hash accepted verified exchanged background.marks each middle after tests)
 
   -- ---- and what a line says
 
-  pub does_some-keeps : (said : ScriptLine) (noted noted' : List SignedPromise) (before after : Scene T) → MayNote noted'
-      → ((name : List ℕ) (given : Option BoundKey) → said ≡ Watch name given → MayJoin background.key (own_for background.marks name background.earlier noted) name given)
-      → DoesSomeNoting hash accepted verified exchanged background said noted noted' before after → Keeps before after
-  does_some-keeps said noted noted' before after may join (inl (same, none)) = subst (Keeps before) (sym same) (each.none before)
-  does_some-keeps Pass noted noted' before after may join (inr (inl (same, none))) = subst (Keeps before) (sym same) (each.none before)
-  does_some-keeps Pass noted noted' before after may join (inr (inr part)) = absurd part
-  does_some-keeps (Ask asked) noted noted' before after may join (inr (inl asks)) =
+  pub does_some-keeps : (fault : AskFault) (stop : MayStop) (said : ScriptLine) (noted noted' : List SignedPromise) (before after : Scene T) → MayNote noted'
+      → ((name : List ℕ) (given : Option (List ℕ)) → said ≡ Watch name given → MayJoin background.key (own_for background.marks name background.earlier noted) name given)
+      → DoesSomeNoting hash accepted verified exchanged background fault said noted noted' before after → Keeps before after
+  does_some-keeps fault stop said noted noted' before after may join (inl (same, none)) = subst (Keeps before) (sym same) (each.none before)
+  does_some-keeps fault stop Pass noted noted' before after may join (inr (inl (same, none))) = subst (Keeps before) (sym same) (each.none before)
+  does_some-keeps fault stop Pass noted noted' before after may join (inr (inr part)) = absurd part
+  does_some-keeps fault stop (Ask asked) noted noted' before after may join (inr (inl asks)) =
       asks_directory-keeps hash accepted verified exchanged background.marks each background.token asked noted noted' before after may asks
-  does_some-keeps (Ask asked) noted noted' before after may join (inr (inr (inl (stops, none)))) = stops_asking-keeps hash accepted verified exchanged background.marks each background.token asked before after stops
-  does_some-keeps (Ask asked) noted noted' before after may join (inr (inr (inr some))) =
+  does_some-keeps fault stop (Ask asked) noted noted' before after may join (inr (inr (inl (stops, none)))) = stops_asking-keeps hash accepted verified exchanged background.marks each stop background.token asked before after stops
+  does_some-keeps fault stop (Ask asked) noted noted' before after may join (inr (inr (inr some))) =
       asks_some-keeps hash accepted verified exchanged background.marks each background.token asked noted noted' before after may some
-  does_some-keeps (Watch name given) noted noted' before after may join (inr (inl (begins, none))) =
+  does_some-keeps fault stop (Watch name given) noted noted' before after may join (inr (inl (begins, none))) =
       begins_watch-keeps hash accepted verified exchanged background.marks each background.key (own_for background.marks name background.earlier noted) name given (join name given refl) background.known before after begins
-  does_some-keeps (Watch name given) noted noted' before after may join (inr (inr (begins, none))) =
+  does_some-keeps fault stop (Watch name given) noted noted' before after may join (inr (inr (begins, none))) =
       begins_some-keeps hash accepted verified exchanged background.marks each background.key (own_for background.marks name background.earlier noted) name given (join name given refl) background.known before after begins
-  does_some-keeps (Piece session piece) noted noted' before after may join (inr (inl none)) = absurd none
-  does_some-keeps (Piece session piece) noted noted' before after may join (inr (inr none)) = absurd none
-  does_some-keeps (End session) noted noted' before after may join (inr (inl none)) = absurd none
-  does_some-keeps (End session) noted noted' before after may join (inr (inr none)) = absurd none
+  does_some-keeps fault stop (Piece session piece) noted noted' before after may join (inr (inl none)) = absurd none
+  does_some-keeps fault stop (Piece session piece) noted noted' before after may join (inr (inr none)) = absurd none
+  does_some-keeps fault stop (End session) noted noted' before after may join (inr (inl none)) = absurd none
+  does_some-keeps fault stop (End session) noted noted' before after may join (inr (inr none)) = absurd none

@@ -1,7 +1,6 @@
 -- A fault that comes between the steps of a line.
 use Rattle.std.proofs.Common.{◌≡◌, ◌≢◌, ◌∙◌, ◌⊎◌, ◌<◌, ℕ, List, ◌++◌, [], ◌∷◌, length, Option, Some, Result, Ok, Err, Global, Vec, ap, refl, rules, subst, inl, inr}
 use Rattle.std.specs.Prelude.{IfErr}
-use Rattle.encoding.specs.declared.bound_key.BoundKey.{BoundKey}
 use Rattle.rootchain.specs.Chains.{IsHead}
 use Rattle.rootchain.specs.declared.signed_promise.SignedPromise.{SignedPromise}
 use Rattle.rootchain.specs.declared.signed_root.SignedRoot.{SignedRoot}
@@ -54,18 +53,18 @@ module _ {H V S T : Type 0} (hash : List ℕ → List ℕ) (accepted verified : 
   halts_above (Err fault) marks asker last said said' stream head epoch is high (reached, goes, halts) = (reached, (head, is, high, goes), halts)
 
   module _ (marks : Vec Mark Global) (first : Asker H V S) (said : Said) (stream sent : T) (asked : RequestContent) (frame : Frame) (head : SignedRoot) (low epoch : ℕ) (at : low ≡ head.body.epoch) where
-    asks-on : (noted' : List SignedPromise) (after : Scene T) → IsHead first.client.chain head → exchanged stream (with_token first.token asked) frame sent → SpeaksOf low asked frame epoch
+    asks-on : (fault : AskFault) (noted' : List SignedPromise) (after : Scene T) → IsHead first.client.chain head → exchanged stream (with_token first.token asked) frame sent → SpeaksOf low asked frame epoch
         → ((noted' ≡ first.changes.items) × CatchesSome hash accepted verified exchanged epoch (scene first said sent) after)
-        ⊎ ((ready : Scene T) × CatchesUp hash accepted verified exchanged epoch (scene first said sent) ready × HearsSome hash accepted verified exchanged marks.items head.body.epoch asked frame first.changes.items noted' ready after)
-        → AsksSome hash accepted verified exchanged marks.items first.token asked first.changes.items noted' (scene first said stream) after
-    asks-on noted' after is exchange speaks steps = inr (record { reply = reply_to hash accepted verified exchanged first.token asked (scene first said stream) sent frame head low epoch is at exchange speaks; steps = steps })
+        ⊎ ((ready : Scene T) × CatchesUp hash accepted verified exchanged epoch (scene first said sent) ready × HearsSome hash accepted verified exchanged fault marks.items head.body.epoch asked frame first.changes.items noted' ready after)
+        → AsksSome hash accepted verified exchanged fault marks.items first.token asked first.changes.items noted' (scene first said stream) after
+    asks-on fault noted' after is exchange speaks steps = inr (record { reply = reply_to hash accepted verified exchanged first.token asked (scene first said stream) sent frame head low epoch is at exchange speaks; steps = steps })
 
     -- roots were taken
     pub halts_catching : (fault : AskFault) (last : Asker H V S) (said' : Said) → IsHead first.client.chain head → exchanged stream (with_token first.token asked) frame sent → SpeaksOf low asked frame epoch
         → last.changes ≡ first.changes → HaltsAfter (CatchesSome hash accepted verified exchanged epoch (scene first said sent)) fault last said'
-        → HaltsAfter (AsksSome hash accepted verified exchanged marks.items first.token asked first.changes.items last.changes.items (scene first said stream)) fault last said'
+        → HaltsAfter (AsksSome hash accepted verified exchanged fault marks.items first.token asked first.changes.items last.changes.items (scene first said stream)) fault last said'
     halts_catching fault last said' is exchange speaks still (reached, some, halts) =
-        (reached, asks-on last.changes.items reached is exchange speaks (inl (ap (λ (all : Vec SignedPromise Global). all.items) still, some)), halts)
+        (reached, asks-on fault last.changes.items reached is exchange speaks (inl (ap (λ (all : Vec SignedPromise Global). all.items) still, some)), halts)
 
     -- the latest root was asked for, and the chain is on its way to it
     pub halts_finding : (fault : AskFault) (last : Asker H V S) (said' : Said) → IsHead first.client.chain head → exchanged stream (with_token first.token (Query Head)) frame sent → SpeaksOf low (Query Head) frame epoch
@@ -84,20 +83,24 @@ module _ {H V S T : Type 0} (hash : List ℕ → List ℕ) (accepted verified : 
 
       -- the frame was heard, and perhaps told
       pub halts_hearing : (fault : AskFault) (last : Asker H V S) (said' : Said) → IsHead first.client.chain head → exchanged stream (with_token first.token asked) frame sent → SpeaksOf low asked frame epoch
-          → CatchesUp hash accepted verified exchanged epoch (scene first said sent) (scene ready caught later) → fault ≢ NoReply → ready.changes ≡ first.changes
+          → CatchesUp hash accepted verified exchanged epoch (scene first said sent) (scene ready caught later) → fault ≢ NoReply → fault ≡ OutOfMemory → ready.changes ≡ first.changes
           → (last.changes.items ≡ ready.changes.items) ⊎ Notes asked ready.client.promises last.client.promises ready.changes.items last.changes.items
           → ((report_of said' ≡ report_of caught) × (last.changes.items ≡ ready.changes.items)) ⊎ ((told : Report) × HearsFrame hash accepted verified low ready.client asked frame told last.client × (report_of said' ≡ told_after (report_of caught) told))
-          → HaltsAfter (AsksSome hash accepted verified exchanged marks.items first.token asked first.changes.items last.changes.items (scene first said stream)) fault last said'
-      halts_hearing fault last said' is exchange speaks catches not still noted (inl (same, none)) =
+          → HaltsAfter (AsksSome hash accepted verified exchanged fault marks.items first.token asked first.changes.items last.changes.items (scene first said stream)) fault last said'
+      halts_hearing fault last said' is exchange speaks catches not out still noted (inl (same, none)) =
           let here : Scene T = scene ready caught later in
           let unnoted : last.changes.items ≡ first.changes.items = none ∙ ap (λ (all : Vec SignedPromise Global). all.items) still in
-          (here, asks-on last.changes.items here is exchange speaks (inr (here, catches, inl (unnoted, refl))), (same, λ none. absurd (not none)))
-      halts_hearing fault last said' is exchange speaks catches not still noted (inr (told, hears, tells)) =
-          let notes = subst
+          (here, asks-on fault last.changes.items here is exchange speaks (inr (here, catches, inl (unnoted, refl))), (same, λ none. absurd (not none)))
+      halts_hearing fault last said' is exchange speaks catches not out still noted (inr (told, hears, tells)) =
+          let was = subst
           (λ (all : Vec SignedPromise Global). (last.changes.items ≡ all.items) ⊎ Notes asked ready.client.promises last.client.promises all.items last.changes.items) still noted in
+          let notes : (last.changes.items ≡ first.changes.items) ⊎ ((fault ≡ OutOfMemory) × Notes asked ready.client.promises last.client.promises first.changes.items last.changes.items) = elim was [
+            | inl none ↦ inl none
+            | inr more ↦ inr (out, more)
+          ] in
           let reached : Scene T = record { client = last.client; monitors = ready.monitors.items; told = report_of said'; stream = later } in (
             reached,
-            asks-on last.changes.items reached is exchange speaks (inr (scene ready caught later, catches, inr (inl (notes, told, subst (λ (n : ℕ). HearsFrame hash accepted verified n ready.client asked frame told last.client) at hears, tells, refl, refl)))),
+            asks-on fault last.changes.items reached is exchange speaks (inr (scene ready caught later, catches, inr (inl (notes, told, subst (λ (n : ℕ). HearsFrame hash accepted verified n ready.client asked frame told last.client) at hears, tells, refl, refl)))),
             (refl, λ none. absurd (not none)),
           )
 
@@ -111,7 +114,7 @@ module _ {H V S T : Type 0} (hash : List ℕ → List ℕ) (accepted verified : 
           → Notes asked ready.client.promises heard.client.promises first.changes.items last.changes.items → heard.marks ≡ marks
           → IfErr result (λ fault. HaltsAfter (GoesSomeAbove hash accepted verified exchanged heard.marks.items low (scene heard told_to later)) fault last said')
           → IfErr result (λ fault. fault ≢ Stopped
-          → HaltsAfter (AsksSome hash accepted verified exchanged marks.items first.token asked first.changes.items last.changes.items (scene first said stream)) fault last said')
+          → HaltsAfter (AsksSome hash accepted verified exchanged fault marks.items first.token asked first.changes.items last.changes.items (scene first said stream)) fault last said')
       halts_going (Ok done) heard last told_to said' told handed is exchange speaks catches hears hands tells notes same halts = tt
       halts_going (Err fault) heard last told_to said' told handed is exchange speaks catches hears hands tells notes same (reached, goes, halts) =
           let there : Scene T = scene heard told_to later in
@@ -119,7 +122,7 @@ module _ {H V S T : Type 0} (hash : List ℕ → List ℕ) (accepted verified : 
           let from_head = subst (λ (n : ℕ). GoesSomeAbove hash accepted verified exchanged marks.items n there reached) at above in
           λ unstopped. (
             reached,
-            asks-on last.changes.items reached is exchange speaks (inr (
+            asks-on fault last.changes.items reached is exchange speaks (inr (
               scene ready caught later,
               catches,
               inr (inr (there, record { told = told; hears = subst (λ (n : ℕ). HearsFrame hash accepted verified n ready.client asked frame told heard.client) at hears; handed = handed; hands = hands; tells = tells; stream = refl }, notes, from_head)),
@@ -127,7 +130,7 @@ module _ {H V S T : Type 0} (hash : List ℕ → List ℕ) (accepted verified : 
             halts,
           )
 
-  module _ (key : List ℕ) (promised : List SignedPromise) (name : List ℕ) (given : Option BoundKey) (asker : Asker H V S) (said : Said) (stream : T) (first : SignedRoot) where
+  module _ (key : List ℕ) (promised : List SignedPromise) (name : List ℕ) (given : Option (List ℕ)) (asker : Asker H V S) (said : Said) (stream : T) (first : SignedRoot) where
     -- a monitor was added, and took some steps
     pub halts_stepping : {A : Type 0} (marks : List Mark) (result : Result A AskFault) (added last : Asker H V S) (said' : Said) (monitor : Monitor) (place : ℕ) → added.client ≡ asker.client
         → added.monitors.items ≡ asker.monitors.items ++ monitor ∷ [] → place ≡ length asker.monitors.items → IsJoined hash accepted verified marks key promised asker.client.chain first name given monitor

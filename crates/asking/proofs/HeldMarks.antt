@@ -4,7 +4,6 @@ use Rattle.std.specs.Prelude.{AllPairs, nat_lt, if◌then◌else◌}
 use Rattle.std.specs.List.{AllByRecursion}
 use Rattle.std.proofs.lemmas.Bool.{cases_lt}
 use Rattle.std.proofs.lemmas.List.Elements.{All-cons, All-contains, All-from_recursion, All-weaker, Contains-get_or}
-use Rattle.encoding.specs.declared.bound_key.BoundKey.{BoundKey}
 use Rattle.client.proofs.Unlikes.{at-place, is-among}
 use Rattle.rootchain.proofs.Chains.{ascend-linked}
 use Rattle.rootchain.proofs.Places.{ends}
@@ -27,7 +26,7 @@ use Rattle.memory.specs.Taking.{PutsMark}
 use Rattle.memory.specs.Watching.{IsWatchedUpTo}
 use Rattle.memory.specs.declared.mark.Mark.{Mark}
 use Rattle.asking.specs.Owning.{HasJoined, IsHeld, IsLeastAbove, IsOwn, IsOwnChange, IsOwners, WasWatched}
-use Rattle.asking.specs.Saves.{Counts}
+use Rattle.asking.specs.Saves.{Counts, IsOwnAhead}
 use Rattle.asking.specs.Told.{ExpectsAt, HasBody, HasLines, IsToldAt, TellsEpoch}
 use Rattle.asking.specs.Watching.{step_told}
 use Rattle.asking.proofs.OwnRoots.{covers-chain, not-between}
@@ -89,46 +88,55 @@ since-is mark since epoch is above below = elim (earlier-of mark.epoch since) [
 
 -- ---- what an owner expects
 
-module _ (Given : List ℕ → Option BoundKey → Type 0) (Own : SignedPromise → Type 0) (start : Memory) (name : List ℕ) (first : SignedRoot) (watch : Watch) (owners : IsOwners Given Own start name first watch) (epoch : ℕ) where
-  -- a change that was promised before an epoch: what counts there is no later
-  counts-changed : (change : ℕ × BoundKey) → Contains watch.changes change → ((other : ℕ × BoundKey) → Contains watch.changes other → other.0 < epoch → other.0 ≤ change.0)
-      → (other : SignedPromise) → Counts start epoch other → other.promise.name ≡ name → other.promise.epoch ≤ change.0
-  counts-changed change has greatest other (was, awaited, all) named = elim (cases_lt other.promise.epoch first.body.epoch) [
-    | inl early ↦ let later = all-in (λ (c : ℕ × BoundKey). first.body.epoch ≤ c.0) watch.changes change owners.later has in omega (arith, early, later)
+module _ (Given : List ℕ → Option (List ℕ) → Type 0) (Own : SignedPromise → Type 0) (start : Memory) (name : List ℕ) (first : SignedRoot) (watch : Watch) (owners : IsOwners Given Own start name first watch) (epoch : ℕ) where
+  -- a change that was promised before an epoch: what counts before that is no later
+  counts-changed : (change : ℕ × List ℕ) → Contains watch.changes change → ((other : ℕ × List ℕ) → Contains watch.changes other → other.0 < epoch → other.0 ≤ change.0)
+      → (other : SignedPromise) → Counts start other → other.promise.name ≡ name → other.promise.epoch < epoch → other.promise.epoch ≤ change.0
+  counts-changed change has greatest other (was, awaited) named low = elim (cases_lt other.promise.epoch first.body.epoch) [
+    | inl early ↦ let later = all-in (λ (c : ℕ × List ℕ). first.body.epoch ≤ c.0) watch.changes change owners.later has in omega (arith, early, later)
     | inr late ↦
-        let (one, there, high, (own, were, same, at)) = owners.covers other was named late in
-        let low = all own were (same ∙ sym named) in
-        omega (arith, high, greatest one there (omega (arith, low, at)))
+        let (one, there, at) = owners.covers other (was, awaited) named late in
+        omega (arith, at, greatest one there (omega (arith, at, low)))
   ]
 
-  -- where no change was, what counts there counts at the first root
-  counts-first : All (λ change. epoch ≤ change.0) watch.changes → (other : SignedPromise) → Counts start epoch other → other.promise.name ≡ name → Counts start first.body.epoch other
-  counts-first none other (was, awaited, all) named = (
-    was,
-    awaited,
-    λ own were same. elim (cases_lt own.promise.epoch first.body.epoch) [
-      | inl early ↦ early
-      | inr late ↦
-          let (one, there, high, (that, been, alike, at)) = owners.covers own were (same ∙ named) late in
-          let low = all that been (alike ∙ sym named) in
-          absurd (omega (arith, low, at, All-contains (λ (c : ℕ × BoundKey). epoch ≤ c.0) watch.changes one none there))
-    ],
-  )
+  -- where no change was, what counts before the epoch is from before the first root
+  counts-first : All (λ change. epoch ≤ change.0) watch.changes → (other : SignedPromise) → Counts start other → other.promise.name ≡ name → other.promise.epoch < epoch → other.promise.epoch < first.body.epoch
+  counts-first none other (was, awaited) named low = elim (cases_lt other.promise.epoch first.body.epoch) [
+    | inl early ↦ early
+    | inr late ↦
+        let (one, there, at) = owners.covers other (was, awaited) named late in
+        absurd (omega (arith, low, at, All-contains (λ (c : ℕ × List ℕ). epoch ≤ c.0) watch.changes one none there))
+  ]
 
   -- so the watch expects what the owner does, from the first root on
-  owner-expects : AllPairs (λ earlier later. earlier.0 < later.0) watch.changes → first.body.epoch ≤ epoch → ExpectsAt Given Own (Counts start) name epoch (expected watch epoch)
+  owner-expects : AllPairs (λ earlier later. earlier.0 < later.0) watch.changes → first.body.epoch ≤ epoch → ExpectsAt Given (IsOwnAhead Own start) (Counts start) name epoch (expected watch epoch)
   owner-expects up low = elim (expected-greatest watch epoch up) [
     | inl (change, has, below, greatest, key) ↦
         let (signed, owns, named, made, keyed) = all-in (IsOwnChange Given Own start name) watch.changes change owners.changes has in
-        inl (signed, owns, named, omega (arith, made, below), key ∙ ap Some (sym keyed), λ other counts same. let least = counts-changed change has greatest other counts same in omega (arith, least, made))
+        inl (
+          signed,
+          owns,
+          named,
+          omega (arith, made, below),
+          key ∙ ap Some (sym keyed),
+          λ other counts same before. let least = counts-changed change has greatest other counts same before in omega (arith, least, made),
+        )
     | inr (none, key) ↦ elim owners.begins [
       | inl (signed, owns, named, before, keyed, last) ↦
-          inl (signed, owns, named, omega (arith, before, low), key ∙ keyed, λ other counts same. last other (counts-first none other counts same) same)
-      | inr (given, nothing) ↦ inr (subst (Given name) (sym key) given, λ other counts same. nothing other (counts-first none other counts same) same)
+          inl (signed, owns, named, omega (arith, before, low), key ∙ keyed, λ other counts same early. last other counts same (counts-first none other counts same early))
+      | inr (given, nothing) ↦ inr (
+        subst (Given name) (sym key) given,
+        λ other counts same. elim (cases_lt other.promise.epoch epoch) [
+          | inl early ↦
+              let before = counts-first none other counts same early in
+              absurd (omega (arith, before, nothing other counts same))
+          | inr late ↦ late
+        ],
+      )
     ]
   ]
 
-module _ (hash : List ℕ → List ℕ) (accepted verified : List ℕ → List ℕ → List ℕ → Type 0) (Given : List ℕ → Option BoundKey → Type 0) (Own : SignedPromise → Type 0) (start : Memory) where
+module _ (hash : List ℕ → List ℕ) (accepted verified : List ℕ → List ℕ → List ℕ → Type 0) (Given : List ℕ → Option (List ℕ) → Type 0) (Own : SignedPromise → Type 0) (start : Memory) where
   told-same : (text name : List ℕ) (watch : Watch) (one other : SignedRoot) → one.body ≡ other.body → IsToldAt hash accepted text name watch one → IsToldAt hash accepted text name watch other
   told-same text name watch one other same (bytes, reply, step, is, tells, has) =
       let P = λ (body : Body). IsAcceptedReply hash accepted body name bytes reply × StepTells watch body.epoch (stated reply.end) step × HasLines text (step_told name body.epoch step).lines in
@@ -203,7 +211,7 @@ module _ (hash : List ℕ → List ℕ) (accepted verified : List ℕ → List �
 
         -- so it is told of each root of the client's from its first one on up to there
         tells-between : (epoch : ℕ) (first c : SignedRoot) → IsWatchedUpTo monitor epoch → IsFirst monitor.client.chain first → Contains chain.roots c → 0 < c.body.epoch → first.body.epoch ≤ c.body.epoch → c.body.epoch ≤ epoch
-            → TellsEpoch Given Own (Counts start) hash accepted text monitor.name c
+            → TellsEpoch Given (IsOwnAhead Own start) (Counts start) hash accepted text monitor.name c
         tells-between epoch first c watched at has some low high =
             let both = ends monitor.client.chain.roots owns.told.chain.first in
             let up-to-head = watched-low epoch both.head watched both.at-head in
@@ -217,7 +225,7 @@ module _ (hash : List ℕ → List ℕ) (accepted verified : List ℕ → List �
             )
 
         tells-least : (epoch above : ℕ) (c : SignedRoot) → IsWatchedUpTo monitor epoch → ((first : SignedRoot) → IsFirst monitor.client.chain first → IsLeastAbove chain above first)
-            → Contains chain.roots c → above < c.body.epoch → c.body.epoch ≤ epoch → TellsEpoch Given Own (Counts start) hash accepted text monitor.name c
+            → Contains chain.roots c → above < c.body.epoch → c.body.epoch ≤ epoch → TellsEpoch Given (IsOwnAhead Own start) (Counts start) hash accepted text monitor.name c
         tells-least epoch above c watched least has low high =
             let both = ends monitor.client.chain.roots owns.told.chain.first in
             tells-between epoch both.first c watched both.at-first has (omega (arith, low)) (least both.first both.at-first c has low) high
@@ -256,7 +264,7 @@ module _ (hash : List ℕ → List ℕ) (accepted verified : List ℕ → List �
     own-of monitor has = all-in (IsOwn hash accepted verified Given Own start text chain marks) monitors monitor owns has
 
     abbrev TellsName : List ℕ → SignedRoot → Type 0
-    TellsName name root = TellsEpoch Given Own (Counts start) hash accepted text name root ⊎ WasWatched marks name root
+    TellsName name root = TellsEpoch Given (IsOwnAhead Own start) (Counts start) hash accepted text name root ⊎ WasWatched marks name root
 
     named : (one other : List ℕ) (root : SignedRoot) → one ≡ other → TellsName one root → TellsName other root
     named one other root same tells = subst (λ (name : List ℕ). TellsName name root) same tells

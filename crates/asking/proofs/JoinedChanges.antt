@@ -1,11 +1,11 @@
--- A monitor that joins expects each promise of earlier runs for its name that is of its chain, or a later one of them.
-use Rattle.std.proofs.Common.{◌≡◌, ◌∙◌, ◌⊎◌, ◌<◌, ◌≤◌, ℕ, suc, List, [], ◌∷◌, ◌++◌, All, Any, Contains, Option, None, Some, ap, append-nil, append_assoc, arith, inl, inr, refl, subst, sym}
+-- A monitor that joins expects a change of the epoch of each promise of earlier runs for its name that is of its chain.
+use Rattle.std.proofs.Common.{◌≡◌, ◌∙◌, ◌⊎◌, ◌<◌, ◌≤◌, ℕ, zero, suc, List, [], ◌∷◌, ◌++◌, All, Any, Contains, get_or, Option, None, Some, ap, append-nil, append_assoc, arith, inl, inr, refl, subst, sym}
 use Rattle.std.specs.List.{AllByRecursion}
+use Rattle.std.specs.List.Sorted.{IsNonDecreasingBy}
 use Rattle.std.proofs.lemmas.Bool.{cases_lt}
-use Rattle.std.proofs.lemmas.List.Elements.{All-cons, All-nil, Contains-append_left, Contains-push}
-use Rattle.encoding.specs.declared.bound_key.BoundKey.{BoundKey}
+use Rattle.std.proofs.lemmas.List.Elements.{All-cons, All-contains, All-nil, Contains-append_cases, Contains-append_left, Contains-get_or, Contains-push}
 use Rattle.rootchain.specs.Chains.{KeyedRoots}
-use Rattle.rootchain.specs.Promises.{signed_promise_bytes, IsSignedPromise, PromiseVerifies}
+use Rattle.rootchain.specs.Promises.{signed_promise_bytes, IsSignedPromise, PromiseVerifies, SpellsPromise}
 use Rattle.rootchain.specs.declared.signed_promise.SignedPromise.{SignedPromise}
 use Rattle.client.specs.Clients.{HasRootOf}
 use Rattle.client.specs.declared.client_refusal.Refusal.TheVariants as client
@@ -19,6 +19,7 @@ use Rattle.monitor.specs.declared.monitor_refusal.Refusal.TheVariants.{Client, O
 use Rattle.play.proofs.Calling.{one-promise}
 use Rattle.asking.specs.Asking.{HandsTo}
 use Rattle.asking.specs.Joining.{AllHand, IsLaterPromise, IsLatest}
+use Rattle.asking.specs.Owning.{HasChange}
 use Rattle.asking.proofs.OwnedRoots.{all-has, has-cases}
 use Rattle.asking.proofs.ToldScenes.{all-push, stays-change}
 
@@ -65,7 +66,7 @@ pub record HasMore (before after : Monitor) : Type 0 where
   pub name : after.name ≡ before.name
   pub start : after.watch.start ≡ before.watch.start
   pub watched : after.watched ≡ before.watched
-  pub changes : (more : List (ℕ × BoundKey)) × (after.watch.changes ≡ before.watch.changes ++ more)
+  pub changes : (more : List (ℕ × List ℕ)) × (after.watch.changes ≡ before.watch.changes ++ more)
 
 none-more : (monitor : Monitor) → HasMore monitor monitor
 none-more monitor = record { chain = refl; name = refl; start = refl; watched = refl; changes = ([], sym (append-nil monitor.watch.changes)) }
@@ -78,27 +79,54 @@ both-more before middle after one other = record {
   watched = other.watched ∙ one.watched;
   changes = (
     one.changes.0 ++ other.changes.0,
-    other.changes.1 ∙ ap (λ (cs : List (ℕ × BoundKey)). cs ++ other.changes.0) one.changes.1 ∙ append_assoc before.watch.changes one.changes.0 other.changes.0,
+    other.changes.1 ∙ ap (λ (cs : List (ℕ × List ℕ)). cs ++ other.changes.0) one.changes.1 ∙ append_assoc before.watch.changes one.changes.0 other.changes.0,
   );
 }
 
 -- all changes are of earlier epochs, or one is not
-all-or-any : (changes : List (ℕ × BoundKey)) (epoch : ℕ) → All (λ change. change.0 < epoch) changes ⊎ ((change : ℕ × BoundKey) × Contains changes change × (epoch ≤ change.0))
-all-or-any [] epoch = inl (All-nil (λ (change : ℕ × BoundKey). change.0 < epoch))
+all-or-any : (changes : List (ℕ × List ℕ)) (epoch : ℕ) → All (λ change. change.0 < epoch) changes ⊎ ((change : ℕ × List ℕ) × Contains changes change × (epoch ≤ change.0))
+all-or-any [] epoch = inl (All-nil (λ (change : ℕ × List ℕ). change.0 < epoch))
 all-or-any (change ∷ changes) epoch = elim (cases_lt change.0 epoch) [
   | inr high ↦ inr (change, (0, omega arith, refl), high)
   | inl low ↦ elim (all-or-any changes epoch) [
-    | inl all ↦ inl (All-cons (λ (c : ℕ × BoundKey). c.0 < epoch) change changes low all)
+    | inl all ↦ inl (All-cons (λ (c : ℕ × List ℕ). c.0 < epoch) change changes low all)
     | inr (other, has, high) ↦ inr (other, (suc has.0, omega (arith, has.1), has.2), high)
   ]
 ]
+
+-- of promises that ascend by their epochs none is earlier than the first, and the others ascend
+pub first-least : (first : SignedPromise) (promises : List SignedPromise) → IsNonDecreasingBy (λ (one : SignedPromise). one.promise.epoch) (first ∷ promises) → (other : SignedPromise) → Contains promises other → first.promise.epoch ≤ other.promise.epoch
+first-least first promises up other has =
+    All-contains (λ (one : SignedPromise). first.promise.epoch ≤ one.promise.epoch) promises other (λ k d within. up 0 (suc k) d (omega arith) (omega (arith, within))) has
+
+pub rest-ascends : (first : SignedPromise) (promises : List SignedPromise) → IsNonDecreasingBy (λ (one : SignedPromise). one.promise.epoch) (first ∷ promises) → IsNonDecreasingBy (λ (one : SignedPromise). one.promise.epoch) promises
+rest-ascends first promises up i j d low within = up (suc i) (suc j) d (omega (arith, low)) (omega (arith, within))
+
+-- and the other way round
+cons-ascends : (first : SignedPromise) (promises : List SignedPromise) → ((other : SignedPromise) → Contains promises other → first.promise.epoch ≤ other.promise.epoch) → IsNonDecreasingBy (λ (one : SignedPromise). one.promise.epoch) promises
+    → IsNonDecreasingBy (λ (one : SignedPromise). one.promise.epoch) (first ∷ promises)
+cons-ascends first promises least up zero zero d low within = omega arith
+cons-ascends first promises least up zero (suc j) d low within = least (get_or promises j d) (Contains-get_or promises j d (omega (arith, within)))
+cons-ascends first promises least up (suc i) zero d low within = absurd (omega (arith, low))
+cons-ascends first promises least up (suc i) (suc j) d low within = up i j d (omega (arith, low)) (omega (arith, within))
+
+-- promises that ascend, behind others that do, and that are not later
+pub join-ascends : (promises more : List SignedPromise) → IsNonDecreasingBy (λ (one : SignedPromise). one.promise.epoch) promises → IsNonDecreasingBy (λ (one : SignedPromise). one.promise.epoch) more
+    → ((one other : SignedPromise) → Contains promises one → Contains more other → one.promise.epoch ≤ other.promise.epoch) → IsNonDecreasingBy (λ (one : SignedPromise). one.promise.epoch) (promises ++ more)
+join-ascends [] more up up' low = up'
+join-ascends (first ∷ promises) more up up' low = cons-ascends first (promises ++ more)
+    (λ other has. elim (Contains-append_cases promises more other has) [
+      | inl there ↦ first-least first promises up other there
+      | inr behind ↦ low first other (0, omega arith, refl) behind
+    ])
+    (join-ascends promises more (rest-ascends first promises up) up' (λ one other has. low one other (suc has.0, omega (arith, has.1), has.2)))
 
 -- one of these promises, signed under this key
 abbrev pub IsSignedOf : (List ℕ → List ℕ → List ℕ → Type 0) → (SignedPromise → Type 0) → List ℕ → SignedPromise → Type 0
 IsSignedOf verified Was key signed = Was signed × IsSignedPromise signed × PromiseVerifies verified key signed
 
 module _ (hash : List ℕ → List ℕ) (accepted verified : List ℕ → List ℕ → List ℕ → Type 0) where
-  handed-more : (signed : SignedPromise) (promise : List ℕ) (before : Monitor) (why : Option Refusal) (after : Monitor) → HandsTo hash accepted verified signed promise before why after → HasMore before after
+  pub handed-more : (signed : SignedPromise) (promise : List ℕ) (before : Monitor) (why : Option Refusal) (after : Monitor) → HandsTo hash accepted verified signed promise before why after → HasMore before after
   handed-more signed promise before None after (inl (named, (given, is, same))) =
       subst (HasMore before) (sym same) (record { chain = refl; name = refl; start = refl; watched = refl; changes = ((given.promise.epoch, given.promise.key) ∷ [], refl) })
   handed-more signed promise before None after (inr (other, same)) = subst (HasMore before) (sym same) (none-more before)
@@ -116,96 +144,109 @@ module _ (hash : List ℕ → List ℕ) (accepted verified : List ℕ → List �
       let (middle, first, second) = all-parted one other next after rest in
       (middle, (why, next, hands, first), second)
 
+  -- what a monitor makes of a promise under its key over a root of its chain, where it watched no epoch above it and expects
+  -- no later change: a change of its epoch is expected then
+  module _ (key : List ℕ) (signed : SignedPromise) (promise : List ℕ) (spelled : SpellsPromise promise signed) (verifies : PromiseVerifies verified key signed) (before : Monitor) (same-name : before.name ≡ signed.promise.name)
+      (keyed : before.client.chain.key ≡ key) (unwatched : before.watched ≤ signed.promise.epoch) (up-to : AllByRecursion (λ (change : ℕ × List ℕ). change.0 ≤ signed.promise.epoch) before.watch.changes) (rooted : HasRootOf hash before.client.chain signed.promise) where
+    given-as : (given : SignedPromise) → SpellsPromise promise given → signed ≡ given
+    given-as given spells = one-promise promise signed given spelled spells
+
+    -- the promise may be expected, or one of its epoch is
+    may-or-has : ¬ MayExpect before signed.promise.key signed.promise → HasChange before.watch.changes signed.promise.epoch
+    may-or-has not = elim (all-or-any before.watch.changes signed.promise.epoch) [
+      | inl all ↦ absurd (not (record { named = sym same-name; keyed = refl; later = all; unwatched = unwatched }))
+      | inr (change, has, high) ↦
+          let low = all-has (λ (c : ℕ × List ℕ). c.0 ≤ signed.promise.epoch) before.watch.changes change up-to has in
+          (change, has, omega (arith, high, low))
+    ]
+
+    pub expects-handed : (why : Option Refusal) (after : Monitor) → HandsTo hash accepted verified signed promise before why after → HasChange after.watch.changes signed.promise.epoch
+    expects-handed None after (inl (named, (given, (gives, may), same))) =
+        let one = given-as given gives.0.0 in
+        subst (λ (m : Monitor). HasChange m.watch.changes signed.promise.epoch) (sym same)
+        ((given.promise.epoch, given.promise.key), Contains-push before.watch.changes (given.promise.epoch, given.promise.key), ap (λ (s : SignedPromise). s.promise.epoch) (sym one))
+    expects-handed None after (inr (other, same)) = absurd (other same-name)
+    expects-handed (Some OtherPromise) after (named, enough, ((given, gives, not), same)) =
+        let one = given-as given gives.0.0 in
+        subst (λ (m : Monitor). HasChange m.watch.changes signed.promise.epoch) (sym same) (may-or-has (subst (λ (s : SignedPromise). ¬ MayExpect before signed.promise.key s.promise) (sym one) not))
+    expects-handed (Some (Client client.Memory)) after (named, enough, expects) = absurd (enough refl)
+    expects-handed (Some (Client (client.Root root.Malformed))) after (named, enough, (not, same)) = absurd (not signed spelled)
+    expects-handed (Some (Client (client.Root root.BadSignature))) after (named, enough, ((given, spells, not), same)) =
+        absurd (subst (λ (s : SignedPromise). ¬ PromiseVerifies verified before.client.chain.key s) (sym (given-as given spells)) not (subst (λ (k : List ℕ). PromiseVerifies verified k signed) (sym keyed) verifies))
+    expects-handed (Some (Client (client.Root root.NotLater))) after (named, enough, expects) = absurd expects.0
+    expects-handed (Some (Client (client.Root root.BadLink))) after (named, enough, expects) = absurd expects.0
+    expects-handed (Some (Client client.UnknownRoot)) after (named, enough, ((given, spells, not), same)) =
+        absurd (subst (λ (s : SignedPromise). ¬ HasRootOf hash before.client.chain s.promise) (sym (given-as given spells.0)) not rooted)
+    expects-handed (Some (Client (client.Proof why))) after (named, enough, expects) = absurd expects
+    expects-handed (Some (Client (client.RootDiffers evidence))) after (named, enough, expects) = absurd expects
+    expects-handed (Some (Client client.NoPromise)) after (named, enough, expects) = absurd expects
+
   module _ (Was : SignedPromise → Type 0) (key name : List ℕ) where
-    -- a change that was such a promise
-    abbrev pub IsOfThem : ℕ × BoundKey → Type 0
-    IsOfThem change = (was : SignedPromise) × Was was × (was.promise.name ≡ name) × (was.promise.epoch ≡ change.0)
-
-    -- one of them is expected that is of no earlier epoch
-    abbrev pub HasChange : Monitor → ℕ → Type 0
-    HasChange monitor epoch = (change : ℕ × BoundKey) × Contains monitor.watch.changes change × (epoch ≤ change.0) × IsOfThem change
-
-    change-stays : (before after : Monitor) (epoch : ℕ) → HasMore before after → HasChange before epoch → HasChange after epoch
-    change-stays before after epoch more (change, has, high, of) =
-        (change, subst (λ (cs : List (ℕ × BoundKey)). Contains cs change) (sym more.changes.1) (Contains-append_left before.watch.changes more.changes.0 change has), high, of)
+    change-stays : (before after : Monitor) (epoch : ℕ) → HasMore before after → HasChange before.watch.changes epoch → HasChange after.watch.changes epoch
+    change-stays before after epoch more (change, has, at) =
+        (change, subst (λ (cs : List (ℕ × List ℕ)). Contains cs change) (sym more.changes.1) (Contains-append_left before.watch.changes more.changes.0 change has), at)
 
     abbrev IsSigned : SignedPromise → Type 0
     IsSigned = IsSignedOf verified Was key
 
-    -- a monitor that has watched nothing, and expects only such promises
-    pub record IsNew (monitor : Monitor) : Type 0 where
+    -- no change is later than this
+    abbrev UpTo : ℕ → List (ℕ × List ℕ) → Type 0
+    UpTo epoch = AllByRecursion (λ (change : ℕ × List ℕ). change.0 ≤ epoch)
+
+    -- a monitor that has watched nothing, and expects no change that is later than any of these promises
+    pub record IsNew (promises : List SignedPromise) (monitor : Monitor) : Type 0 where
       pub named : monitor.name ≡ name
       pub keyed : monitor.client.chain.key ≡ key
       pub none : monitor.watched ≡ 0
-      pub all : AllByRecursion IsOfThem monitor.watch.changes
+      pub low : (other : SignedPromise) → Contains promises other → UpTo other.promise.epoch monitor.watch.changes
 
-    module _ (signed : SignedPromise) (is : IsSigned signed) (before : Monitor) (new : IsNew before) where
+    module _ (signed : SignedPromise) (promises : List SignedPromise) (is : IsSigned signed) (up : IsNonDecreasingBy (λ (one : SignedPromise). one.promise.epoch) (signed ∷ promises)) (before : Monitor) (new : IsNew (signed ∷ promises) before) where
       given-same : (given : SignedPromise) → (signed_promise_bytes signed ≡ signed_promise_bytes given) × IsSignedPromise given → signed ≡ given
       given-same given spells = one-promise (signed_promise_bytes signed) signed given (refl, is.1) spells
 
-      of-given : (given : SignedPromise) → signed ≡ given → signed.promise.name ≡ name → IsOfThem (given.promise.epoch, given.promise.key)
-      of-given given one named = (signed, is.0, named, ap (λ (s : SignedPromise). s.promise.epoch) one)
+      low-behind : (other : SignedPromise) → Contains promises other → UpTo other.promise.epoch before.watch.changes
+      low-behind other has = new.low other (suc has.0, omega (arith, has.1), has.2)
 
       -- it is new again
-      new-handed : (why : Option Refusal) (after : Monitor) → HandsTo hash accepted verified signed (signed_promise_bytes signed) before why after → IsNew after
+      new-handed : (why : Option Refusal) (after : Monitor) → HandsTo hash accepted verified signed (signed_promise_bytes signed) before why after → IsNew promises after
       new-handed None after (inl (named, (given, (gives, may), same))) =
           let one = given-same given gives.0.0 in
-          subst IsNew (sym same) (record {
+          subst (IsNew promises) (sym same) (record {
             named = new.named;
             keyed = new.keyed;
             none = new.none;
-            all = all-push IsOfThem before.watch.changes (given.promise.epoch, given.promise.key) new.all (of-given given one (sym named ∙ new.named));
+            low = λ other has. all-push (λ (change : ℕ × List ℕ). change.0 ≤ other.promise.epoch) before.watch.changes (given.promise.epoch, given.promise.key) (low-behind other has)
+                (subst (λ (s : SignedPromise). s.promise.epoch ≤ other.promise.epoch) one (first-least signed promises up other has));
           })
-      new-handed None after (inr (other, same)) = subst IsNew (sym same) new
+      new-handed None after (inr (other, same)) = subst (IsNew promises) (sym same) (record { named = new.named; keyed = new.keyed; none = new.none; low = low-behind })
       new-handed (Some why) after (named, enough, expects) =
-          subst IsNew (sym (stays-change hash accepted verified before signed.promise.key (signed_promise_bytes signed) why after expects)) new
+          subst (IsNew promises) (sym (stays-change hash accepted verified before signed.promise.key (signed_promise_bytes signed) why after expects))
+          (record { named = new.named; keyed = new.keyed; none = new.none; low = low-behind })
 
       module _ (named : signed.promise.name ≡ name) (rooted : HasRootOf hash before.client.chain signed.promise) where
-        -- the promise may be expected, or a later one is
-        may-or-has : ¬ MayExpect before signed.promise.key signed.promise → HasChange before signed.promise.epoch
-        may-or-has not = elim (all-or-any before.watch.changes signed.promise.epoch) [
-          | inl all ↦ absurd (not (record { named = named ∙ sym new.named; keyed = refl; later = all; unwatched = omega (arith, new.none) }))
-          | inr (change, has, high) ↦ (change, has, high, all-has IsOfThem before.watch.changes change new.all has)
-        ]
+        one-handed : (why : Option Refusal) (after : Monitor) → HandsTo hash accepted verified signed (signed_promise_bytes signed) before why after → HasChange after.watch.changes signed.promise.epoch
+        one-handed = expects-handed key signed (signed_promise_bytes signed) (refl, is.1) is.2 before (new.named ∙ sym named) new.keyed (omega (arith, new.none)) (new.low signed (0, omega arith, refl)) rooted
 
-        one-handed : (why : Option Refusal) (after : Monitor) → HandsTo hash accepted verified signed (signed_promise_bytes signed) before why after → HasChange after signed.promise.epoch
-        one-handed None after (inl (same-name, (given, (gives, may), same))) =
-            let one = given-same given gives.0.0 in
-            subst (λ (m : Monitor). HasChange m signed.promise.epoch) (sym same)
-            ((given.promise.epoch, given.promise.key), Contains-push before.watch.changes (given.promise.epoch, given.promise.key), omega (arith, ap (λ (s : SignedPromise). s.promise.epoch) one), of-given given one named)
-        one-handed None after (inr (other, same)) = absurd (other (new.named ∙ sym named))
-        one-handed (Some OtherPromise) after (same-name, enough, ((given, gives, not), same)) =
-            let one = given-same given gives.0.0 in
-            subst (λ (m : Monitor). HasChange m signed.promise.epoch) (sym same) (may-or-has (subst (λ (s : SignedPromise). ¬ MayExpect before signed.promise.key s.promise) (sym one) not))
-        one-handed (Some (Client client.Memory)) after (same-name, enough, expects) = absurd (enough refl)
-        one-handed (Some (Client (client.Root root.Malformed))) after (same-name, enough, (not, same)) = absurd (not signed (refl, is.1))
-        one-handed (Some (Client (client.Root root.BadSignature))) after (same-name, enough, ((given, spells, not), same)) =
-            absurd (subst (λ (s : SignedPromise). ¬ PromiseVerifies verified before.client.chain.key s) (sym (given-same given spells)) not (subst (λ (k : List ℕ). PromiseVerifies verified k signed) (sym new.keyed) is.2))
-        one-handed (Some (Client (client.Root root.NotLater))) after (same-name, enough, expects) = absurd expects.0
-        one-handed (Some (Client (client.Root root.BadLink))) after (same-name, enough, expects) = absurd expects.0
-        one-handed (Some (Client client.UnknownRoot)) after (same-name, enough, ((given, spelled, not), same)) =
-            absurd (subst (λ (s : SignedPromise). ¬ HasRootOf hash before.client.chain s.promise) (sym (given-same given spelled.0)) not rooted)
-        one-handed (Some (Client (client.Proof why))) after (same-name, enough, expects) = absurd expects
-        one-handed (Some (Client (client.RootDiffers evidence))) after (same-name, enough, expects) = absurd expects
-        one-handed (Some (Client client.NoPromise)) after (same-name, enough, expects) = absurd expects
-
-    -- each of them that is of the chain is expected, or a later one
-    pub each-handed : (promises : List SignedPromise) (before after : Monitor) → AllHand hash accepted verified promises before after → AllByRecursion IsSigned promises → IsNew before
-        → (other : SignedPromise) → Contains promises other → other.promise.name ≡ name → HasRootOf hash before.client.chain other.promise → HasChange after other.promise.epoch
-    each-handed [] before after hands all new other has named rooted = absurd (omega (arith, has.1))
-    each-handed (signed ∷ promises) before after (why, middle, hands, rest) all new other has named rooted = elim (has-cases signed promises other has) [
-      | inl same ↦ subst (λ (s : SignedPromise). HasChange after s.promise.epoch) same (change-stays middle after signed.promise.epoch (all-more promises middle after rest)
-          (one-handed signed all.0 before new (ap (λ (s : SignedPromise). s.promise.name) same ∙ named) (subst (λ (s : SignedPromise). HasRootOf hash before.client.chain s.promise) (sym same) rooted) why middle hands))
+    -- of the epoch of each of them that is of the chain a change is expected
+    pub each-handed : (promises : List SignedPromise) (before after : Monitor) → AllHand hash accepted verified promises before after → AllByRecursion IsSigned promises
+        → IsNonDecreasingBy (λ (one : SignedPromise). one.promise.epoch) promises → IsNew promises before
+        → (other : SignedPromise) → Contains promises other → other.promise.name ≡ name → HasRootOf hash before.client.chain other.promise → HasChange after.watch.changes other.promise.epoch
+    each-handed [] before after hands all up new other has named rooted = absurd (omega (arith, has.1))
+    each-handed (signed ∷ promises) before after (why, middle, hands, rest) all up new other has named rooted = elim (has-cases signed promises other has) [
+      | inl same ↦ subst (λ (s : SignedPromise). HasChange after.watch.changes s.promise.epoch) same (change-stays middle after signed.promise.epoch (all-more promises middle after rest)
+          (one-handed signed promises all.0 up before new (ap (λ (s : SignedPromise). s.promise.name) same ∙ named) (subst (λ (s : SignedPromise). HasRootOf hash before.client.chain s.promise) (sym same) rooted) why middle hands))
       | inr later ↦
           let more = handed-more signed (signed_promise_bytes signed) before why middle hands in
-          each-handed promises middle after rest all.1 (new-handed signed all.0 before new why middle hands) other later named (subst (λ (c : KeyedRoots). HasRootOf hash c other.promise) (sym more.chain) rooted)
+          each-handed promises middle after rest all.1 (rest-ascends signed promises up) (new-handed signed promises all.0 up before new why middle hands) other later named
+          (subst (λ (c : KeyedRoots). HasRootOf hash c other.promise) (sym more.chain) rooted)
     ]
 
     -- so it is for those of earlier runs, where those of this run are given behind them
     pub earlier-handed : (earlier noted : List SignedPromise) (before after : Monitor) → AllHand hash accepted verified (earlier ++ noted) before after → AllByRecursion IsSigned earlier
-        → before.name ≡ name → before.client.chain.key ≡ key → before.watched ≡ 0 → before.watch.changes ≡ []
-        → (other : SignedPromise) → Contains earlier other → other.promise.name ≡ name → HasRootOf hash before.client.chain other.promise → HasChange after other.promise.epoch
-    earlier-handed earlier noted before after hands all named keyed none empty other has same rooted =
+        → IsNonDecreasingBy (λ (one : SignedPromise). one.promise.epoch) earlier → before.name ≡ name → before.client.chain.key ≡ key → before.watched ≡ 0 → before.watch.changes ≡ []
+        → (other : SignedPromise) → Contains earlier other → other.promise.name ≡ name → HasRootOf hash before.client.chain other.promise → HasChange after.watch.changes other.promise.epoch
+    earlier-handed earlier noted before after hands all up named keyed none empty other has same rooted =
         let (middle, first, second) = all-parted earlier noted before after hands in
         change-stays middle after other.promise.epoch (all-more noted middle after second)
-        (each-handed earlier before middle first all (record { named = named; keyed = keyed; none = none; all = subst (AllByRecursion IsOfThem) (sym empty) tt }) other has same rooted)
+        (each-handed earlier before middle first all up
+        (record { named = named; keyed = keyed; none = none; low = λ one there. subst (AllByRecursion (λ (change : ℕ × List ℕ). change.0 ≤ one.promise.epoch)) (sym empty) tt }) other has same rooted)

@@ -2,6 +2,7 @@
 use Rattle.std.proofs.Common.{◌≡◌, ◌≢◌, ℕ, List, drop, length, Option, Some, Result, Err, Ok, refl, subst, sym, ◌∙◌}
 use Rattle.std.specs.Prelude.{OnOk}
 use Rattle.textio.specs.Lines.{lines_of}
+use Rattle.textio.specs.declared.program_fault.ProgramFault.{ProgramFault}
 use Rattle.rootchain.specs.declared.signed_promise.SignedPromise.{SignedPromise}
 use Rattle.monitor.specs.Monitors.{Monitor}
 use Rattle.memory.specs.Learning.{BeginsOne, Each, LearnsLine, MarksOne}
@@ -13,7 +14,7 @@ use Rattle.asking.specs.Saves.{IsHeadEpoch}
 use Rattle.asking.specs.declared.ask_fault.AskFault.{AskFault}
 use Rattle.asking.specs.declared.ask_fault.AskFault.TheVariants.{OutOfMemory}
 use Rattle.asking.specs.declared.ask_fault.RunFault.{RunFault}
-use Rattle.asking.specs.declared.ask_fault.RunFault.TheVariants.{Ask}
+use Rattle.asking.specs.declared.ask_fault.RunFault.TheVariants.{Ask, Program}
 use Rattle.asking.specs.declared.asker.Asker.{Asker}
 use Rattle.asking.specs.declared.state.State.{State}
 
@@ -54,6 +55,9 @@ not_settled {A} {B} asked result fault is gives settled none =
     let settled' = subst (λ (r : Result B RunFault). IsSettled r) gives settled in
     let same : fault ≡ OutOfMemory = same_fault fault OutOfMemory (sym is ∙ none) in
     subst (λ (f : AskFault). IsSettled {A = B} (Err (Ask f))) same settled'
+
+pub program_not : {B : Type 0} (result : Result B RunFault) (fault : ProgramFault) → result ≡ Err (Program fault) → IsSettled result → ⊥
+program_not {B} result fault is settled = subst (λ (r : Result B RunFault). IsSettled r) is settled
 
 all_not_err : {A E : Type 0} (done : A) (fault : E) → ◌≡◌ {A = Result A E} (Ok done) (Err fault) → ⊥
 all_not_err done fault e = cc

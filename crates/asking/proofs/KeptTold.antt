@@ -2,13 +2,13 @@
 use Rattle.std.proofs.Common.{◌≡◌, ◌∙◌, ◌⊎◌, ℕ, ◌<◌, ◌≤◌, List, [], ◌++◌, Contains, Option, ap, append-nil, append_assoc, arith, inl, inr, refl, subst, sym}
 use Rattle.std.specs.List.{AllByRecursion}
 use Rattle.std.proofs.lemmas.List.Elements.{All-contains, All-from_recursion, Contains-append_cases}
-use Rattle.encoding.specs.declared.bound_key.BoundKey.{BoundKey}
 use Rattle.rootchain.specs.declared.signed_promise.SignedPromise.{SignedPromise}
 use Rattle.rootchain.specs.declared.signed_root.SignedRoot.{SignedRoot}
 use Rattle.memory.specs.Memories.{Memory}
 use Rattle.memory.specs.declared.mark.Mark.{Mark}
-use Rattle.asking.specs.Saves.{Counts, Found, HasMark, KeepsTold, WasOwn, WasStored}
+use Rattle.asking.specs.Saves.{with_promises, Counts, Found, HasMark, IsOwnAhead, KeepsTold, WasOwn, WasStored}
 use Rattle.asking.specs.Told.{TellsEpoch}
+use Rattle.asking.proofs.Noting.{tells-counted, was-behind, was-cases, was-more}
 use Rattle.asking.proofs.Told.{epoch-more}
 
 -- a mark of which nothing was watched, or nothing above an epoch, has none of these roots
@@ -16,21 +16,37 @@ none-new : (mark : Mark) (bound epoch : ℕ) → (mark.epoch ≤ mark.since) ⊎
 none-new mark bound epoch (inl none) new above below = omega (arith, none, above, below)
 none-new mark bound epoch (inr low) new above below = omega (arith, low, new, below)
 
-module _ (hash : List ℕ → List ℕ) (accepted : List ℕ → List ℕ → List ℕ → Type 0) (Given : List ℕ → Option BoundKey → Type 0) (Own Asked : SignedPromise → Type 0) where
+module _ (hash : List ℕ → List ℕ) (accepted : List ℕ → List ℕ → List ℕ → Type 0) (Given : List ℕ → Option (List ℕ) → Type 0) (Own Asked : SignedPromise → Type 0) where
   abbrev Keeps : Found → List ℕ → Found → Type 0
   Keeps = KeepsTold hash accepted Given Own Asked
 
-  -- what is told of a root or was watched before
-  abbrev pub IsToldOrStored : Found → List ℕ → List ℕ → SignedRoot → Type 0
-  IsToldOrStored start text name root = TellsEpoch Given Own (Counts start.known) hash accepted text name root ⊎ WasStored start name root
+  -- What is told of a root or was watched before, where promises count that were remembered before or are.
+  abbrev pub IsToldOrStored : Found → Memory → List ℕ → List ℕ → SignedRoot → Type 0
+  IsToldOrStored start known text name root = TellsEpoch Given (IsOwnAhead Own start.known) (Counts (with_promises start.known known.promises)) hash accepted text name root ⊎ WasStored start name root
 
-  pub told-more : (start : Found) (text more name : List ℕ) (root : SignedRoot) → IsToldOrStored start text name root → IsToldOrStored start (text ++ more) name root
-  told-more start text more name root (inl tells) = inl (epoch-more Given Own (Counts start.known) hash accepted text more name root tells)
-  told-more start text more name root (inr stored) = inr stored
+  pub told-more : (start : Found) (known : Memory) (text more name : List ℕ) (root : SignedRoot) → IsToldOrStored start known text name root → IsToldOrStored start known (text ++ more) name root
+  told-more start known text more name root (inl tells) = inl (epoch-more Given (IsOwnAhead Own start.known) (Counts (with_promises start.known known.promises)) hash accepted text more name root tells)
+  told-more start known text more name root (inr stored) = inr stored
+
+  -- so it is where each of them that is from before the root's epoch did
+  pub told-counted : (start : Found) (known known' : Memory) (text name : List ℕ) (root : SignedRoot)
+      → ((signed : SignedPromise) → WasOwn known' signed → signed.promise.epoch < root.body.epoch → WasOwn start.known signed ⊎ WasOwn known signed)
+      → IsToldOrStored start known text name root → IsToldOrStored start known' text name root
+  told-counted start known known' text name root fewer (inr stored) = inr stored
+  told-counted start known known' text name root fewer (inl tells) = inl (tells-counted Given (IsOwnAhead Own start.known) (Counts (with_promises start.known known.promises)) (Counts (with_promises start.known known'.promises)) name hash accepted text root
+      (λ signed (was, awaited) same early. (by signed early (was-cases start.known known' signed was), awaited)) tells)
+    where
+      with-known : (signed : SignedPromise) → WasOwn start.known signed ⊎ WasOwn known signed → WasOwn (with_promises start.known known.promises) signed
+      with-known signed (inl old) = was-more start.known known.promises signed old
+      with-known signed (inr new) = was-behind start.known known signed new
+
+      by : (signed : SignedPromise) → signed.promise.epoch < root.body.epoch → WasOwn start.known signed ⊎ WasOwn known' signed → WasOwn (with_promises start.known known.promises) signed
+      by signed early (inl old) = was-more start.known known.promises signed old
+      by signed early (inr new) = with-known signed (fewer signed new early)
 
   pub keeps-told : (start : Found) (text : List ℕ) (roots more : List SignedRoot) (known : Memory) → roots ≡ start.roots ++ more
       → ((old : Mark) → Contains start.known.marks old → HasMark known.marks old)
-      → ((mark : Mark) → Contains known.marks mark → (root : SignedRoot) → Contains roots root → mark.since < root.body.epoch → root.body.epoch ≤ mark.epoch → IsToldOrStored start text mark.name root)
+      → ((mark : Mark) → Contains known.marks mark → (root : SignedRoot) → Contains roots root → mark.since < root.body.epoch → root.body.epoch ≤ mark.epoch → IsToldOrStored start known text mark.name root)
       → ((signed : SignedPromise) → WasOwn known signed → WasOwn start.known signed ⊎ Asked signed)
       → KeepsTold hash accepted Given Own Asked start text (record { roots = roots; known = known })
   keeps-told start text roots more known grown stays told own = record { grows = (more, grown); stays = stays; told = told; own = own }
@@ -61,16 +77,21 @@ module _ (hash : List ℕ → List ℕ) (accepted : List ℕ → List ℕ → Li
       own = keeps.own;
     }
 
-    -- new marks are of nothing watched
+    -- new marks are of nothing watched, and no mark is above a promise that is new
     pub remembers-kept : (known : Memory) → ((mark : Mark) → Contains known.marks mark → Contains stored.known.marks mark ⊎ (mark.since ≡ mark.epoch))
         → ((old : Mark) → Contains start.known.marks old → HasMark known.marks old)
         → ((signed : SignedPromise) → WasOwn known signed → WasOwn start.known signed ⊎ Asked signed)
+        → ((signed : SignedPromise) → WasOwn known signed → WasOwn stored.known signed ⊎ ((mark : Mark) → Contains stored.known.marks mark → (mark.epoch ≤ mark.since) ⊎ (mark.epoch ≤ signed.promise.epoch)))
         → KeepsTold hash accepted Given Own Asked start text (record { roots = stored.roots; known = known })
-    remembers-kept known from stays own = record {
+    remembers-kept known from stays own late = record {
       grows = keeps.grows;
       stays = stays;
       told = λ mark has root among above below. elim (from mark has) [
-        | inl old ↦ keeps.told mark old root among above below
+        | inl old ↦ told-counted start stored.known known text mark.name root
+            (λ signed was early. elim (late signed was) [
+              | inl there ↦ inr there
+              | inr new ↦ absurd (none-new mark signed.promise.epoch root.body.epoch (new mark old) early above below)
+            ]) (keeps.told mark old root among above below)
         | inr empty ↦ absurd (omega (arith, empty, above, below))
       ];
       own = own;
@@ -81,6 +102,6 @@ module _ (hash : List ℕ → List ℕ) (accepted : List ℕ → List ℕ → Li
     text-kept more = record {
       grows = keeps.grows;
       stays = keeps.stays;
-      told = λ mark has root among above below. told-more start text more mark.name root (keeps.told mark has root among above below);
+      told = λ mark has root among above below. told-more start stored.known text more mark.name root (keeps.told mark has root among above below);
       own = keeps.own;
     }

@@ -1,5 +1,5 @@
 -- What comes of a run once the files of its state are left.
-use Rattle.std.proofs.Common.{◌≡◌, ◌⊎◌, ◌∙◌, ℕ, ◌<◌, ◌≤◌, Bool, true, false, List, [], ◌∷◌, ◌++◌, Contains, Option, Some, None, Result, Ok, Err, ap, inl, inr, refl, subst, sym, zero, suc, arith}
+use Rattle.std.proofs.Common.{◌≡◌, ◌⊎◌, ◌∙◌, ℕ, ◌<◌, Bool, true, false, List, [], ◌∷◌, ◌++◌, Contains, Option, Some, None, Result, Ok, Err, ap, inl, inr, refl, subst, sym, zero, suc, arith}
 use Rattle.std.specs.Prelude.{IfErr, OnErr, OnOk}
 use Rattle.textio.specs.declared.program_fault.ProgramFault.{ProgramFault}
 use Rattle.rootchain.specs.declared.signed_promise.SignedPromise.{SignedPromise}
@@ -12,16 +12,18 @@ use Rattle.memory.specs.declared.mark.Mark.{Mark}
 use Rattle.memory.specs.declared.promised.Promised.{Promised}
 use Rattle.memory.proofs.Recalled.{spells-memory}
 use Rattle.memory.proofs.Sound.{leaves-once, leaves-sound, settles-once, settles-sound, spelled-once, spelled-sound, taken-once, taken-sound}
-use Rattle.asking.specs.Saves.{stored_after, Act, Counts, Found, HasMark, IsAsked, IsAskedChange, IsOwnPromise, KeepsTold, LeavesTold, WasStored, Writes}
+use Rattle.asking.specs.Saves.{stored_after, Act, Found, HasMark, IsAsked, IsAskedChange, IsOwnPromise, KeepsTold, LeavesTold, Writes}
 use Rattle.asking.specs.Standing.{IsLeft, LeavesState, SettlesState}
-use Rattle.asking.specs.Told.{TellsEpoch}
 use Rattle.asking.specs.declared.state.State.{State}
+use Rattle.asking.specs.Ending.{LoadsNone}
 use Rattle.asking.specs.RunFaults.{IsFaultOfSaving, StopsOr}
+use Rattle.asking.specs.declared.lateness.Limit.{Limit}
 use Rattle.asking.specs.declared.ask_fault.RunFault.{RunFault}
 use Rattle.asking.specs.declared.ask_fault.RunFault.TheVariants.{Program}
 use Rattle.textio.specs.declared.program_fault.ProgramFault.TheVariants.{CannotWrite}
 use Rattle.asking.proofs.AskedOwn.{leaves-own}
 use Rattle.asking.proofs.Faulty.{stops_more}
+use Rattle.asking.proofs.KeptTold.{told-counted}
 
 -- if all is well, all was asked
 pub asked_left : (P : Type 0) (asked left : Result (Unit {0}) RunFault) → OnOk left (asked ≡ Ok tt) → OnOk asked P → OnOk left P
@@ -35,6 +37,9 @@ faults_left Holds asked (Ok done) more is holds = tt
 faults_left Holds asked (Err why) more (inl is) holds = subst (λ (r : Result (Unit {0}) RunFault). IfErr r (StopsOr Holds)) is holds
 faults_left Holds asked (Err why) more (inr (is, saving)) holds = stops_more {A = Unit {0}} IsFaultOfSaving Holds (Err why) more saving
 
+asked-not : (asked : Result (Unit {0}) RunFault) (fault : ProgramFault) → asked ≡ Ok tt → asked ≡ Err (Program fault) → ⊥
+asked-not asked fault is failed = cc
+
 well-not : (asked : Result (Unit {0}) RunFault) → asked ≡ Ok tt → asked ≡ Err (Program CannotWrite) → ⊥
 well-not asked is failed = cc
 
@@ -44,6 +49,13 @@ failed_left asked (Ok done) more = tt
 failed_left asked (Err why) (inl is) = λ failed. sym is ∙ failed
 failed_left asked (Err why) (inr (is, saving)) = λ failed. absurd (well-not asked is failed)
 
+-- a state that could not be read still could not
+pub loads_left : (HasNoState : Type 0) (asked left : Result (Unit {0}) RunFault) (before after : Limit) (status : ℕ) → IfErr left (λ fault. (asked ≡ Err fault) ⊎ ((asked ≡ Ok tt) × StopsOr IsFaultOfSaving fault))
+    → OnErr left (LoadsNone HasNoState asked before after status → LoadsNone HasNoState left before after status)
+loads_left HasNoState asked (Ok done) before after status more = tt
+loads_left HasNoState asked (Err why) before after status (inl is) = λ (fault, was, some, state, last, low). (fault, sym is ∙ was, some, state, last, low)
+loads_left HasNoState asked (Err why) before after status (inr (is, saving)) = λ (fault, was, some, state, last, low). absurd (asked-not asked fault is was)
+
 not-both : (b : Bool) → b ≡ false → b ≡ true → ⊥
 not-both b one other = cc
 
@@ -51,7 +63,7 @@ not-both b one other = cc
 anew-spelled : (known left : Memory) (tested : List SignedPromise) → HoldsEachOnce known → HoldsSound known → Leaves tested known left → Spells (memory_text left) (Ok left)
 anew-spelled known left tested once sound leaves = spells-memory left (leaves-once tested known left leaves once) (leaves-sound tested known left leaves sound)
 
-left-spelled : (text : List ℕ) (saved known left : Memory) (unsaved : List Item) (tested : List SignedPromise) → Spells text (Ok saved) → TakesAll unsaved saved known → Leaves tested known left → Spells (memory_text left) (Ok left)
+pub left-spelled : (text : List ℕ) (saved known left : Memory) (unsaved : List Item) (tested : List SignedPromise) → Spells text (Ok saved) → TakesAll unsaved saved known → Leaves tested known left → Spells (memory_text left) (Ok left)
 left-spelled text saved known left unsaved tested spells takes =
     anew-spelled known left tested (taken-once unsaved saved known takes (spelled-once text saved spells)) (taken-sound unsaved saved known takes (spelled-sound text saved spells))
 
@@ -64,7 +76,7 @@ settled-spelled name text saved known settled left unsaved tested spells takes s
 
 -- what a run left is told, also once the memory is written anew
 module _ (hash : List ℕ → List ℕ) (accepted verified : List ℕ → List ℕ → List ℕ → Type 0) (lines : Option (List (List ℕ))) (key : List ℕ) (old : List ℕ) (Before After : List Act → Type 0) (acts : List Act) (out : Option (List ℕ)) where
-  left-told : (start : Found) (text : List ℕ) (roots : List SignedRoot) (known left : Memory) (tested : List SignedPromise) → Leaves tested known left
+  pub left-told : (start : Found) (text : List ℕ) (roots : List SignedRoot) (known left : Memory) (tested : List SignedPromise) → Leaves tested known left
       → KeepsTold hash accepted (IsAsked lines) (IsOwnPromise verified key lines start.known) (IsAskedChange lines) start text (record { roots = roots; known = known })
       → KeepsTold hash accepted (IsAsked lines) (IsOwnPromise verified key lines start.known) (IsAskedChange lines) start text (record { roots = roots; known = left })
   left-told start text roots known left tested leaves told =
@@ -72,8 +84,8 @@ module _ (hash : List ℕ → List ℕ) (accepted verified : List ℕ → List �
       record {
         grows = told.grows;
         stays = subst (λ (ms : List Mark). (mark : Mark) → Contains start.known.marks mark → HasMark ms mark) (sym same) told.stays;
-        told = subst (λ (ms : List Mark). (mark : Mark) → Contains ms mark → (root : SignedRoot) → Contains roots root → mark.since < root.body.epoch → root.body.epoch ≤ mark.epoch
-            → TellsEpoch (IsAsked lines) (IsOwnPromise verified key lines start.known) (Counts start.known) hash accepted text mark.name root ⊎ WasStored start mark.name root) (sym same) told.told;
+        told = λ mark has root among above below. told-counted hash accepted (IsAsked lines) (IsOwnPromise verified key lines start.known) (IsAskedChange lines) start known left text mark.name root
+            (λ signed was early. inr (leaves-own tested known left leaves signed was)) (told.told mark (subst (λ (ms : List Mark). Contains ms mark) same has) root among above below);
         own = λ signed was. told.own signed (leaves-own tested known left leaves signed was);
       }
 
@@ -117,8 +129,8 @@ module _ (hash : List ℕ → List ℕ) (accepted verified : List ℕ → List �
       record {
         grows = told.grows;
         stays = subst (λ (ms : List Mark). (mark : Mark) → Contains start.known.marks mark → HasMark ms mark) (sym same) told.stays;
-        told = subst (λ (ms : List Mark). (mark : Mark) → Contains ms mark → (root : SignedRoot) → Contains roots root → mark.since < root.body.epoch → root.body.epoch ≤ mark.epoch
-            → TellsEpoch (IsAsked lines) (IsOwnPromise verified key lines start.known) (Counts start.known) hash accepted text mark.name root ⊎ WasStored start mark.name root) (sym same) told.told;
+        told = λ mark has root among above below. told-counted hash accepted (IsAsked lines) (IsOwnPromise verified key lines start.known) (IsAskedChange lines) start known settled text mark.name root
+            (λ signed (promised, there, this, own) early. inr (promised, subst (λ (ps : List Promised). Contains ps promised) kept there, this, own)) (told.told mark (subst (λ (ms : List Mark). Contains ms mark) same has) root among above below);
         own = λ signed (promised, has, this, own). told.own signed (promised, subst (λ (ps : List Promised). Contains ps promised) kept has, this, own);
       }
 

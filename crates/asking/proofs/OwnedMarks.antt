@@ -2,7 +2,6 @@
 use Rattle.std.proofs.Common.{◌≡◌, ◌∙◌, ◌⊎◌, ◌-◌, ◌<◌, ◌≤◌, ℕ, zero, suc, List, [], ◌∷◌, ◌++◌, length, Contains, Option, Some, arith, ap, inl, inr, refl, slice_set, subst, sym}
 use Rattle.std.specs.Prelude.{slice_get, ⊤}
 use Rattle.std.specs.List.{AllByRecursion}
-use Rattle.encoding.specs.declared.bound_key.BoundKey.{BoundKey}
 use Rattle.rootchain.specs.Chains.{IsChain, KeyedRoots}
 use Rattle.rootchain.specs.Places.{IsFirst}
 use Rattle.rootchain.specs.declared.signed_promise.SignedPromise.{SignedPromise}
@@ -14,7 +13,7 @@ use Rattle.memory.specs.declared.mark.Mark.{Mark}
 use Rattle.monitor.specs.Monitors.{Monitor}
 use Rattle.asking.specs.Following.{MonitorUpdates}
 use Rattle.asking.specs.Owning.{HasJoined, IsHeld}
-use Rattle.asking.specs.Saves.{Counts}
+use Rattle.asking.specs.Saves.{Counts, IsOwnAhead}
 use Rattle.asking.proofs.OwnedMonitors.{own-first, Owned}
 use Rattle.asking.proofs.OwnedRoots.{all-has, has-cases, least-grown, taken-first, HasGrown}
 use Rattle.asking.proofs.Told.{epoch-more}
@@ -68,7 +67,7 @@ going (first ∷ before) (first' ∷ after) monitor all has = elim (has-cases fi
 
 -- ---- marks
 
-module _ (hash : List ℕ → List ℕ) (accepted verified : List ℕ → List ℕ → List ℕ → Type 0) (Given : List ℕ → Option BoundKey → Type 0) (Own : SignedPromise → Type 0) (start : Memory) (marks : List Mark) where
+module _ (hash : List ℕ → List ℕ) (accepted verified : List ℕ → List ℕ → List ℕ → Type 0) (Given : List ℕ → Option (List ℕ) → Type 0) (Own : SignedPromise → Type 0) (start : Memory) (marks : List Mark) where
   abbrev Held : List ℕ → KeyedRoots → List Monitor → Mark → Type 0
   Held text chain monitors mark = IsHeld hash accepted verified Given Own start text marks chain monitors mark
 
@@ -111,7 +110,7 @@ module _ (hash : List ℕ → List ℕ) (accepted verified : List ℕ → List �
   held-more text more chain monitors mark is = record {
     low = is.low;
     told = λ root has above low. elim (is.told root has above low) [
-      | inl tells ↦ inl (epoch-more Given Own (Counts start) hash accepted text more mark.name root tells)
+      | inl tells ↦ inl (epoch-more Given (IsOwnAhead Own start) (Counts start) hash accepted text more mark.name root tells)
       | inr watched ↦ inr watched
     ];
     link = is.link;

@@ -63,7 +63,7 @@ least-grown before after epoch first grows (own, has, same) least root among abo
 
 module _ (hash : List ℕ → List ℕ) (verified : List ℕ → List ℕ → List ℕ → Type 0) where
   -- no root is of a later epoch than the head
-  head-high : (chain : KeyedRoots) (root head : SignedRoot) → IsChain hash verified chain → Contains chain.roots root → IsHead chain head → root.body.epoch ≤ head.body.epoch
+  pub head-high : (chain : KeyedRoots) (root head : SignedRoot) → IsChain hash verified chain → Contains chain.roots root → IsHead chain head → root.body.epoch ≤ head.body.epoch
   head-high chain root head is has at =
       up-to chain.roots (ascend-linked hash chain.roots is.linked) has.0 (length chain.roots - 1) root head (at-place chain.roots root has) at (omega (arith, has.1))
 
@@ -122,7 +122,7 @@ not-named name (first ∷ marks) mark apart has = elim (has-cases first marks ma
 ]
 
 -- it is the next root behind the mark of the name
-next-unwatched : (chain : KeyedRoots) (name : List ℕ) (marks : List Mark) (first : SignedRoot) (mark : Mark) → HasNoRepeat (map name_of marks) → IsUnwatched chain name marks (Some first) → Contains marks mark → mark.name ≡ name
+pub next-unwatched : (chain : KeyedRoots) (name : List ℕ) (marks : List Mark) (first : SignedRoot) (mark : Mark) → HasNoRepeat (map name_of marks) → IsUnwatched chain name marks (Some first) → Contains marks mark → mark.name ≡ name
     → IsNextAfter chain mark.epoch first
 next-unwatched chain name [] first mark once is has named = absurd (omega (arith, has.1))
 next-unwatched chain name (one ∷ marks) first mark once (inl (here, next)) has named = elim (has-cases one marks mark has) [

@@ -1,10 +1,8 @@
 -- Every step of a run keeps what is owned: the client's chain, its monitors, and the marks.
 use Rattle.std.proofs.Common.{◌≡◌, ◌∙◌, ◌-◌, ◌<◌, ℕ, true, false, Bool, List, [], ◌∷◌, ◌++◌, length, Contains, Option, Some, None, Ok, arith, ap, append_assoc, append-nil, inl, inr, refl, slice_set, subst, sym}
-use Rattle.std.specs.Prelude.{if◌then◌else◌, map, slice_get, ⊤}
-use Rattle.std.specs.List.{list_any, AllByRecursion, AllZip}
+use Rattle.std.specs.Prelude.{map, slice_get, ⊤}
+use Rattle.std.specs.List.{AllByRecursion, AllZip}
 use Rattle.std.proofs.lemmas.List.Elements.{Contains-push}
-use Rattle.std.specs.Str.{bytes_eq}
-use Rattle.encoding.specs.declared.bound_key.BoundKey.{BoundKey}
 use Rattle.commands.specs.Operations.{Lookup}
 use Rattle.rootchain.specs.Chains.{IsChain, KeyedRoots}
 use Rattle.rootchain.specs.Promises.{IsSignedPromise, SpellsPromise}
@@ -23,13 +21,11 @@ use Rattle.memory.specs.declared.mark.Mark.{Mark}
 use Rattle.monitor.specs.Monitors.{Monitor}
 use Rattle.monitor.specs.Stepping.{IsNextEpoch}
 use Rattle.monitor.specs.declared.monitor_refusal.Refusal.{Refusal as MonitorRefusal}
-use Rattle.play.proofs.Lists.{both}
 use Rattle.wire.specs.Frames.{Frame}
 use Rattle.wire.specs.Requests.{RequestContent, Put, Query, Turn}
 use Rattle.asking.specs.Checking.{HearsFrame}
 use Rattle.asking.specs.Asking.{Hands, HandsAll, HandsTo, HearsOne, Notes}
 use Rattle.asking.specs.Following.{asks_roots, MonitorUpdates, OneRefuses, StopsFollowing, StopsList, TakesList}
-use Rattle.asking.specs.Joining.{noted_for, own_for}
 use Rattle.asking.specs.Owning.{IsHeld, Owns}
 use Rattle.asking.specs.Reports.{Report, silent, told_after}
 use Rattle.asking.specs.Runs.{emptied}
@@ -44,20 +40,12 @@ use Rattle.asking.proofs.OwnedRoots.{all-has, grows-none, taken-formed, taken-gr
 use Rattle.asking.proofs.SameChain.{frame-chain, shown-chain}
 use Rattle.asking.proofs.ToldScenes.{all-map, all-push, all-set, stays-change, stays-step}
 
--- the promises that a monitor is given are the owner's, if those of earlier runs and of this one are
-pub own_for-own : (Own : SignedPromise → Type 0) (marks : List Mark) (name : List ℕ) (earlier noted : List SignedPromise) → AllByRecursion Own earlier → AllByRecursion Own noted → AllByRecursion Own (own_for marks name earlier noted)
-own_for-own Own marks name earlier noted old new = both Own earlier (noted_for marks name noted) old (by (list_any (λ (mark : Mark). bytes_eq mark.name name) marks))
-  where
-    by : (b : Bool) → AllByRecursion Own (if b then noted else [])
-    by true = new
-    by false = tt
-
 -- a chain that grows has the root of a promise still
 rooted-grown : (hash : List ℕ → List ℕ) (before after : KeyedRoots) (promise : Promise) → HasGrown before after → HasRootOf hash before promise → HasRootOf hash after promise
 unfolding HasRootOf
 rooted-grown hash before after promise grows (root, (has, at), hashed) = (root, (grows.stays root has, at), hashed)
 
-module _ (hash : List ℕ → List ℕ) (accepted verified : List ℕ → List ℕ → List ℕ → Type 0) (Given : List ℕ → Option BoundKey → Type 0) (Own : SignedPromise → Type 0) (start : Memory) (marks : List Mark) where
+module _ (hash : List ℕ → List ℕ) (accepted verified : List ℕ → List ℕ → List ℕ → Type 0) (Given : List ℕ → Option (List ℕ) → Type 0) (Own : SignedPromise → Type 0) (start : Memory) (marks : List Mark) where
   abbrev Owner : List ℕ → KeyedRoots → Monitor → Type 0
   Owner text chain monitor = Owned hash accepted verified Given Own start text chain marks monitor
 
@@ -130,14 +118,14 @@ module _ (hash : List ℕ → List ℕ) (accepted verified : List ℕ → List �
   handed-goes signed promise before None after (inr (other, same)) = subst (GoesAs before) (sym same) (as-before before)
   handed-goes signed promise before (Some why) after (named, enough, expects) = subst (GoesAs before) (sym (stays-change hash accepted verified before signed.promise.key promise why after expects)) (as-before before)
 
-  all-handed : (text : List ℕ) (chain : KeyedRoots) (signed : SignedPromise) (promise : List ℕ) (before : List Monitor) (told told' : Report) (after : List Monitor) → HandsAll hash accepted verified signed promise before told told' after → Own signed → SpellsPromise promise signed
+  all-handed : start.marks ≡ marks → (text : List ℕ) (chain : KeyedRoots) (signed : SignedPromise) (promise : List ℕ) (before : List Monitor) (told told' : Report) (after : List Monitor) → HandsAll hash accepted verified signed promise before told told' after → Own signed → SpellsPromise promise signed
       → AllByRecursion (Owner text chain) before → AllByRecursion (Owner text chain) after × AllGo before after
-  all-handed text chain signed promise [] told told' [] hands owns spelled all = (tt, tt)
-  all-handed text chain signed promise [] told told' (monitor ∷ after) hands owns spelled all = absurd hands
-  all-handed text chain signed promise (monitor ∷ before) told told' [] hands owns spelled all = absurd hands
-  all-handed text chain signed promise (monitor ∷ before) told told' (monitor' ∷ after) (why, one, rest) owns spelled all =
-      let (later, go) = all-handed text chain signed promise before _ told' after rest owns spelled all.1 in
-      ((own-handed hash accepted verified Given Own start text chain marks signed promise monitor why monitor' one owns spelled all.0, later), (handed-goes signed promise monitor why monitor' one, go))
+  all-handed same-marks text chain signed promise [] told told' [] hands owns spelled all = (tt, tt)
+  all-handed same-marks text chain signed promise [] told told' (monitor ∷ after) hands owns spelled all = absurd hands
+  all-handed same-marks text chain signed promise (monitor ∷ before) told told' [] hands owns spelled all = absurd hands
+  all-handed same-marks text chain signed promise (monitor ∷ before) told told' (monitor' ∷ after) (why, one, rest) owns spelled all =
+      let (later, go) = all-handed same-marks text chain signed promise before _ told' after rest owns spelled all.1 in
+      ((own-handed hash accepted verified Given Own start text chain marks same-marks signed promise monitor why monitor' one owns spelled all.0, later), (handed-goes signed promise monitor why monitor' one, go))
 
   -- the promise that is handed is the last that is noted
   noted-own : (kept' noted noted' : List SignedPromise) (signed other : SignedPromise) → slice_get kept' (length kept' - 1) ≡ Some signed → slice_get kept' (length kept' - 1) ≡ Some other → noted' ≡ noted ++ other ∷ [] → AllByRecursion Own noted' → Own signed
@@ -157,14 +145,14 @@ module _ (hash : List ℕ → List ℕ) (accepted verified : List ℕ → List �
   heard-spelled held (Query query) frame told before after hears = tt
   heard-spelled held (Turn token epoch _) frame told before after hears = tt
 
-  hands-owned : (text : List ℕ) (chain : KeyedRoots) (asked : RequestContent) (promise : List ℕ) (kept kept' noted noted' : List SignedPromise) (before : List Monitor) (told : Report) (after : List Monitor)
+  hands-owned : start.marks ≡ marks → (text : List ℕ) (chain : KeyedRoots) (asked : RequestContent) (promise : List ℕ) (kept kept' noted noted' : List SignedPromise) (before : List Monitor) (told : Report) (after : List Monitor)
       → IsLastSpelled asked promise kept kept' → Hands hash accepted verified asked promise kept kept' before told after → Notes asked kept kept' noted noted' → AllByRecursion Own noted' → AllByRecursion (Owner text chain) before → AllByRecursion (Owner text chain) after × AllGo before after
-  hands-owned text chain (Put verb name key) promise kept kept' noted noted' before told after spelled (inl (few, silent-is, same)) notes owns all = still-owned text chain before after same all
-  hands-owned text chain (Put verb name key) promise kept kept' noted noted' before told after spelled (inr (more, (signed, at, hands))) (inl (few, none)) owns all = absurd (omega (arith, more, few))
-  hands-owned text chain (Put verb name key) promise kept kept' noted noted' before told after spelled (inr (more, (signed, at, hands))) (inr (more', (other, also, is))) owns all =
-      all-handed text chain signed promise before silent told after hands (noted-own kept' noted noted' signed other at also is owns) (spelled signed more at) all
-  hands-owned text chain (Query query) promise kept kept' noted noted' before told after spelled (silent-is, same) notes owns all = still-owned text chain before after same all
-  hands-owned text chain (Turn token epoch _) promise kept kept' noted noted' before told after spelled (silent-is, same) notes owns all = still-owned text chain before after same all
+  hands-owned same-marks text chain (Put verb name key) promise kept kept' noted noted' before told after spelled (inl (few, silent-is, same)) notes owns all = still-owned text chain before after same all
+  hands-owned same-marks text chain (Put verb name key) promise kept kept' noted noted' before told after spelled (inr (more, (signed, at, hands))) (inl (few, none)) owns all = absurd (omega (arith, more, few))
+  hands-owned same-marks text chain (Put verb name key) promise kept kept' noted noted' before told after spelled (inr (more, (signed, at, hands))) (inr (more', (other, also, is))) owns all =
+      all-handed same-marks text chain signed promise before silent told after hands (noted-own kept' noted noted' signed other at also is owns) (spelled signed more at) all
+  hands-owned same-marks text chain (Query query) promise kept kept' noted noted' before told after spelled (silent-is, same) notes owns all = still-owned text chain before after same all
+  hands-owned same-marks text chain (Turn token epoch _) promise kept kept' noted noted' before told after spelled (silent-is, same) notes owns all = still-owned text chain before after same all
 
   -- ---- a step
 
@@ -288,20 +276,20 @@ module _ (hash : List ℕ → List ℕ) (accepted verified : List ℕ → List �
           let chain = before.client.chain in
           let one = more-owned text chain before.told hears.told before.monitors owns.watched in
           let two = more-owned text chain middle hears.handed before.monitors one in
-          let given = hands-owned (text ++ (told_after middle hears.handed).lines) chain asked frame.body before.client.promises after.client.promises noted noted' before.monitors hears.handed after.monitors
+          let given = hands-owned same-marks (text ++ (told_after middle hears.handed).lines) chain asked frame.body before.client.promises after.client.promises noted noted' before.monitors hears.handed after.monitors
           (heard-spelled held asked frame hears.told before.client after.client hears.hears) hears.hands notes owner two in
           goes before after (frame-chain hash accepted verified held before.client after.client asked frame hears.told hears.hears)
           (subst (λ (r : Report). AllByRecursion (Owner (text ++ r.lines) chain) after.monitors × AllGo before.monitors after.monitors) (sym hears.tells) given) owns
 
       -- so every relation between scenes keeps it
-      pub each-owned : EachKeeps hash accepted verified exchanged marks (AllByRecursion Own) (λ key promised name given. Given name given × AreGiven hash accepted verified Given Own start key promised) (λ before after. IsOwned before → IsOwned after)
+      pub each-owned : EachKeeps hash accepted verified exchanged marks (AllByRecursion Own) (λ key promised name given. Given name given × AreGiven hash accepted verified Given Own start key name promised) ⊤ (λ before after. IsOwned before → IsOwned after)
       each-owned = record {
         none = λ before owns. owns;
         both = λ before middle after one other owns. other (one owns);
         sends = λ before stream owns. owns-like before (record before { stream = stream }) refl refl refl owns;
         tells = λ before told owns. told-more before (record before { told = told_after before.told told }) told refl refl refl owns;
         takes = takes-list;
-        stops = stops-list;
+        stops = λ before after may stops. stops-list before after stops;
         tests = λ before name kept after asks owns. told-more before after asks.told (shown-chain hash accepted verified before.client name (Query (Lookup name asks.epoch)) asks.frame kept asks.told after.client asks.shows) asks.tells asks.monitors owns;
         steps = asks-epoch;
         joins = λ before key promised name given first monitor may is joined owns. goes before (record before { monitors = before.monitors ++ monitor ∷ [] }) refl (

@@ -19,7 +19,8 @@ use Rattle.asking.specs.declared.said.Said.{Said}
 use Rattle.asking.specs.AskOptions.{AskOptions, ask_values}
 use Rattle.asking.specs.Recalled.{evidence_again}
 use Rattle.asking.specs.Reports.{Report, report_of, told_after}
-use Rattle.asking.specs.Runs.{AsksLine, AsksLines, BeginsAsking, StartsRun, emptied, Background, new_background, background_of, lines_asked, Prepares, RunsWhole, words_line, Writes}
+use Rattle.asking.specs.Ending.{HasLast, RunsLate}
+use Rattle.asking.specs.Runs.{AsksLine, AsksLines, BeginsAsking, StartsRun, emptied, Background, new_background, background_of, lines_asked, Prepares, words_line, Writes}
 use Rattle.asking.specs.Scenes.{Scene, scene, StartsAtHead}
 use Rattle.asking.specs.Standing.{AsksAmong}
 use Rattle.asking.proofs.Joined.{scene_of}
@@ -146,30 +147,34 @@ begins_run hash accepted verified exchanged key token HasNoState background stre
 
 -- a run is whole, where its lines are asked to the end
 pub whole : {T E : Type 0} (hash : List ℕ → List ℕ) (accepted verified : List ℕ → List ℕ → List ℕ → Type 0) (exchanged : T → RequestContent → Frame → T → Type 0) (key token : List ℕ) (options : AskOptions) (HasNoState : Type 0)
-    (result : Result (Unit {0}) E) (background background' : Background) (stream : T) (start ready last : Scene T) (input old now new : Option (List ℕ)) (first : Report)
+    (result : Result (Unit {0}) E) (background background' : Background) (stream : T) (start ready last : Scene T) (input old now new : Option (List ℕ)) (first : Report) (Limited : Type 0) (Holds : ℕ → ℕ → Type 0)
     → (first ≡ emptied 0 → StartsRun hash accepted verified exchanged key token HasNoState stream background start)
     → Writes (Prepares hash accepted verified exchanged background HasNoState) start old now ready → background' ≡ background
     → OnOk result (IfSome (lines_asked options.words input) (λ lines. AsksLines hash accepted verified exchanged background' lines ready now new last))
-    → OnOk result (first ≡ emptied 0 → RunsWhole hash accepted verified exchanged key token options HasNoState stream last.stream input last.told.status old new)
-whole hash accepted verified exchanged key token options HasNoState (Err why) background background' stream start ready last input old now new first begun prepares same asks = tt
-whole hash accepted verified exchanged key token options HasNoState (Ok done) background background' stream start ready last input old now new first begun prepares same asks = λ none. record {
-  background = background;
-  start = start;
-  begun = begun none;
-  ready = ready;
-  now = now;
-  prepares = prepares;
-  last = last;
-  asks = subst (λ (k : Background). IfSome (lines_asked options.words input) (λ lines. AsksLines hash accepted verified exchanged k lines ready now new last)) same asks;
-  status_is = refl;
-  left = refl;
-}
+    → OnOk result (Limited → HasLast hash accepted verified exchanged options background.marks last Holds)
+    → OnOk result (first ≡ emptied 0 → Limited → RunsLate hash accepted verified exchanged key token options HasNoState stream last.stream input Holds last.told.status old new)
+whole hash accepted verified exchanged key token options HasNoState (Err why) background background' stream start ready last input old now new first Limited Holds begun prepares same asks late = tt
+whole hash accepted verified exchanged key token options HasNoState (Ok done) background background' stream start ready last input old now new first Limited Holds begun prepares same asks late = λ none limited. (
+  record {
+    background = background;
+    start = start;
+    begun = begun none;
+    ready = ready;
+    now = now;
+    prepares = prepares;
+    last = last;
+    asks = subst (λ (k : Background). IfSome (lines_asked options.words input) (λ lines. AsksLines hash accepted verified exchanged k lines ready now new last)) same asks;
+    status_is = refl;
+    left = refl;
+  },
+  late limited,
+)
 
 -- an order without words asks the lines of the input, and one with words asks these
 pub asks_input : {E : Type 0} (Asked : List (List ℕ) → Type 0) (result : Result (Unit {0}) E) (input : Option (List ℕ)) (order : AskOrder) → order.command ≡ None
     → OnOk result (IfSome input (λ all. Asked (lines_of all))) → OnOk result (IfSome (lines_asked (ask_values order).words input) Asked)
 asks_input Asked (Err why) input order none asks = tt
-asks_input Asked (Ok done) input order none asks = subst (λ (command : Option (Bor (List ℕ))). IfSome (lines_asked (option_map (λ text. text.now) command ∷ option_map (λ text. text.now) order.first ∷ option_map (λ text. text.now) order.second ∷ option_map (λ text. text.now) order.third ∷ []) input) Asked) (sym none) (by input asks)
+asks_input Asked (Ok done) input order none asks = subst (λ (command : Option (Bor (List ℕ))). IfSome (lines_asked (option_map (λ text. text.now) command ∷ option_map (λ text. text.now) order.first ∷ option_map (λ text. text.now) order.second ∷ []) input) Asked) (sym none) (by input asks)
   where
     by : (input : Option (List ℕ)) → IfSome input (λ all. Asked (lines_of all)) → IfSome (option_map lines_of input) Asked
     by None asks = tt
@@ -179,8 +184,8 @@ pub asks_words : {E : Type 0} (Asked : List (List ℕ) → Type 0) (result : Res
     → OnOk result (Asked (words_line (ask_values order).words ∷ [])) → OnOk result (IfSome (lines_asked (ask_values order).words input) Asked)
 asks_words Asked (Err why) input order word some asks = tt
 asks_words Asked (Ok done) input order word some asks =
-    subst (λ (command : Option (Bor (List ℕ))). Asked (words_line (option_map (λ text. text.now) command ∷ option_map (λ text. text.now) order.first ∷ option_map (λ text. text.now) order.second ∷ option_map (λ text. text.now) order.third ∷ []) ∷ [])
-    → IfSome (lines_asked (option_map (λ text. text.now) command ∷ option_map (λ text. text.now) order.first ∷ option_map (λ text. text.now) order.second ∷ option_map (λ text. text.now) order.third ∷ []) input) Asked) (sym some) (λ it. it) asks
+    subst (λ (command : Option (Bor (List ℕ))). Asked (words_line (option_map (λ text. text.now) command ∷ option_map (λ text. text.now) order.first ∷ option_map (λ text. text.now) order.second ∷ []) ∷ [])
+    → IfSome (lines_asked (option_map (λ text. text.now) command ∷ option_map (λ text. text.now) order.first ∷ option_map (λ text. text.now) order.second ∷ []) input) Asked) (sym some) (λ it. it) asks
 
 pub none_before : {A B : Type 0} (f : A → B) (x : Option A) → option_map f x ≡ None → x ≡ None
 none_before f None is = refl
@@ -189,12 +194,12 @@ none_before f (Some a) is = absurd cc
 -- what is asked, where the order has words and where it has none
 pub words_asked : (input : Option (List ℕ)) (order : AskOrder) (word : Bor (List ℕ)) → order.command ≡ Some word → lines_asked (ask_values order).words input ≡ Some (words_line (ask_values order).words ∷ [])
 words_asked input order word some =
-    subst (λ (command : Option (Bor (List ℕ))). lines_asked (option_map (λ text. text.now) command ∷ option_map (λ text. text.now) order.first ∷ option_map (λ text. text.now) order.second ∷ option_map (λ text. text.now) order.third ∷ []) input
-    ≡ Some (words_line (option_map (λ text. text.now) command ∷ option_map (λ text. text.now) order.first ∷ option_map (λ text. text.now) order.second ∷ option_map (λ text. text.now) order.third ∷ []) ∷ [])) (sym some) refl
+    subst (λ (command : Option (Bor (List ℕ))). lines_asked (option_map (λ text. text.now) command ∷ option_map (λ text. text.now) order.first ∷ option_map (λ text. text.now) order.second ∷ []) input
+    ≡ Some (words_line (option_map (λ text. text.now) command ∷ option_map (λ text. text.now) order.first ∷ option_map (λ text. text.now) order.second ∷ []) ∷ [])) (sym some) refl
 
 pub input_asked : (input : Option (List ℕ)) (order : AskOrder) → order.command ≡ None → lines_asked (ask_values order).words input ≡ option_map lines_of input
 input_asked input order none =
-    subst (λ (command : Option (Bor (List ℕ))). lines_asked (option_map (λ text. text.now) command ∷ option_map (λ text. text.now) order.first ∷ option_map (λ text. text.now) order.second ∷ option_map (λ text. text.now) order.third ∷ []) input ≡ option_map lines_of input) (sym none) refl
+    subst (λ (command : Option (Bor (List ℕ))). lines_asked (option_map (λ text. text.now) command ∷ option_map (λ text. text.now) order.first ∷ option_map (λ text. text.now) order.second ∷ []) input ≡ option_map lines_of input) (sym none) refl
 
 pub words_among : (lines : Option (List (List ℕ))) (line line' : List ℕ) → lines ≡ Some (line ∷ []) → line' ≡ line → AsksAmong lines line'
 words_among lines line line' is same = subst (λ (l : List ℕ). AsksAmong lines l) (sym same) (subst (λ (ls : Option (List (List ℕ))). AsksAmong ls line) (sym is) (λ said seen. (line, (0, omega arith, refl), seen)))

@@ -1,9 +1,11 @@
 -- What lines of earlier runs have of the owner's own changes.
 use Rattle.std.proofs.Common.{◌≡◌, ◌∙◌, ◌⊎◌, ℕ, ◌+◌, ◌||◌, Bool, true, false, List, [], ◌∷◌, ◌++◌, Contains, Result, Ok, Err, refl, sym, ap, arith, inl, inr, subst, append_assoc, append-nil}
-use Rattle.std.proofs.lemmas.List.Elements.{Contains-append_cases, Contains-append_left, Contains-append_right, Contains-push, Contains-push_cases}
+use Rattle.std.proofs.lemmas.List.Elements.{All-contains, All-from_recursion, Contains-append_cases, Contains-append_left, Contains-append_right, Contains-push, Contains-push_cases}
 use Rattle.textio.specs.Lines.{lines_of}
 use Rattle.std.specs.Prelude.{if◌then◌else◌}
 use Rattle.std.specs.List.{AllByRecursion}
+use Rattle.std.specs.List.Sorted.{IsNonDecreasingBy, IsPermutation}
+use Rattle.std.proofs.lemmas.List.Sorted.{Contains-permutation, IsPermutation-sym}
 use Rattle.rootchain.specs.Promises.{IsSignedPromise}
 use Rattle.rootchain.specs.declared.signed_promise.SignedPromise.{SignedPromise}
 use Rattle.memory.specs.Lines.{IsSound}
@@ -16,6 +18,7 @@ use Rattle.memory.specs.declared.promised.Promised.{Promised as PromisedMade}
 use Rattle.memory.specs.declared.read_fault.ReadFault.{ReadFault}
 use Rattle.memory.proofs.OneItem.{one_item}
 use Rattle.memory.proofs.OneMemory.{one_memory}
+use Rattle.play.proofs.Lists.{all-in}
 use Rattle.asking.specs.Remembering.{own_of, AreOwnOf, IsOwnOf}
 use Rattle.asking.specs.Runs.{IsSameAsker}
 use Rattle.asking.specs.Saves.{AreEarlier, WasOwn}
@@ -199,19 +202,23 @@ recalls-from number ((byte ∷ line) ∷ lines) before memory own signed (inl (i
     ]
 recalls-from number ((byte ∷ line) ∷ lines) before memory own signed (inr (none, is)) are was = absurd (none-read memory _ is)
 
+-- what all elements are, they are in another order
+pub sorted-all : {A : Type 0} (P : A → Type 0) (xs ys : List A) → IsPermutation xs ys → AllByRecursion P xs → AllByRecursion P ys
+sorted-all P xs ys moved all = all-in P ys (λ y has. All-contains P xs y (All-from_recursion P xs all) (Contains-permutation ys xs y (IsPermutation-sym xs ys moved) has))
+
 -- nothing has no promise
 none-own : (signed : SignedPromise) → WasOwn nothing signed → ⊥
 none-own signed (promised, has, this, own) = omega (arith, has.1)
 
 -- what was remembered as the owner's own is what was read
-pub remembered_own : (text : List ℕ) (memory : Memory) (before after : List SignedPromise) → Spells text (Ok memory) → (own : List SignedPromise) × AreOwnOf (lines_of text) own × (after ≡ before ++ own)
-    → before ≡ [] → AreEarlier memory after
-remembered_own text memory before after spells (own, are, grown) empty =
-    let all : after ≡ own = grown ∙ ap (λ (xs : List SignedPromise). xs ++ own) empty in
-    subst (AreEarlier memory) (sym all) (record {
-      were = recalls-own 1 (lines_of text) nothing memory own spells are;
+pub remembered_own : (text : List ℕ) (memory : Memory) (before middle after : List SignedPromise) → Spells text (Ok memory) → (own : List SignedPromise) × AreOwnOf (lines_of text) own × (middle ≡ before ++ own)
+    → before ≡ [] → IsPermutation middle after → IsNonDecreasingBy (λ (signed : SignedPromise). signed.promise.epoch) after → AreEarlier memory after
+remembered_own text memory before middle after spells (own, are, grown) empty moved ascend =
+    let all : middle ≡ own = grown ∙ ap (λ (xs : List SignedPromise). xs ++ own) empty in record {
+      were = sorted-all (WasOwn memory) middle after moved (subst (AllByRecursion (WasOwn memory)) (sym all) (recalls-own 1 (lines_of text) nothing memory own spells are));
       all = λ signed was. elim (recalls-from 1 (lines_of text) nothing memory own signed spells are was) [
         | inl none ↦ absurd (none-own signed none)
-        | inr has ↦ has
+        | inr has ↦ Contains-permutation middle after signed moved (subst (λ (xs : List SignedPromise). Contains xs signed) (sym all) has)
       ];
-    })
+      ascend = ascend;
+    }

@@ -1,7 +1,6 @@
 -- No step lowers the status that was told.
 use Rattle.std.proofs.Common.{◌≡◌, ◌≢◌, ◌≤◌, ℕ, List, [], Option, Result, Ok, Err, arith, refl, rules, subst, sym}
 use Rattle.std.specs.Prelude.{IfErr, OnOk, ⊤}
-use Rattle.encoding.specs.declared.bound_key.BoundKey.{BoundKey}
 use Rattle.rootchain.specs.declared.signed_promise.SignedPromise.{SignedPromise}
 use Rattle.memory.specs.Memories.{Memory}
 use Rattle.wire.specs.Frames.{Frame}
@@ -61,14 +60,14 @@ module _ (hash : List ℕ → List ℕ) (accepted verified : List ℕ → List �
   twice-told before after told more is = subst (λ (r : Report). before.told.status ≤ r.status) (sym is)
       (rises_on before.told.status (worse before.told.status told.status) (worse (worse before.told.status told.status) more.status) (worse-above before.told.status told.status) (worse-above (worse before.told.status told.status) more.status))
 
-  each-rises : (marks : List Mark) → EachKeeps hash accepted verified exchanged marks (λ noted. ⊤) (λ key promised name given. ⊤) Rises
+  pub each-rises : (marks : List Mark) → EachKeeps hash accepted verified exchanged marks (λ noted. ⊤) (λ key promised name given. ⊤) ⊤ Rises
   each-rises marks = record {
     none = λ before. at-most before.told.status;
     both = λ before middle after one other. rises_on before.told.status middle.told.status after.told.status one other;
     sends = λ before stream. at-most before.told.status;
     tells = λ before told. worse-above before.told.status told.status;
     takes = λ before after takes. same-told before after takes.3;
-    stops = λ before after stops. more-told before after stops.4 stops.6;
+    stops = λ before after may stops. more-told before after stops.4 stops.6;
     tests = λ before name kept after asks. more-told before after asks.told asks.tells;
     steps = λ before place went after asks. more-told before after asks.told asks.tells;
     joins = λ before key promised name given first monitor may is joined. at-most before.told.status;
@@ -89,7 +88,7 @@ module _ (hash : List ℕ → List ℕ) (accepted verified : List ℕ → List �
       → IfErr result (λ fault. fault ≢ Stopped → HaltsAfter (TakesSome hash verified exchanged before) fault asker said) → Rises before after
   follow_rises result before after asker said same follows stops halts = rises_ever before.told.status after.told.status result
       (ok_then {Q = Rises before after} result follows (λ all. follows-keeps hash accepted verified exchanged [] (each-rises []) all.0 before after all.1))
-      (λ stopped. let all = stops stopped in stops-keep hash accepted verified exchanged [] (each-rises []) all.0 before after all.1)
+      (λ stopped. let all = stops stopped in stops-keep hash accepted verified exchanged [] (each-rises []) tt all.0 before after all.1)
       (err-then (λ fault. fault ≢ Stopped → HaltsAfter (TakesSome hash verified exchanged before) fault asker said) (λ fault. fault ≢ Stopped → Rises before after) result halts (λ fault halts unstopped.
       subst (λ (r : Report). before.told.status ≤ r.status) same (halted (TakesSome hash verified exchanged before) before fault asker said (takes_some-keeps hash accepted verified exchanged [] (each-rises []) before) (halts unstopped))))
 
@@ -100,7 +99,7 @@ module _ (hash : List ℕ → List ℕ) (accepted verified : List ℕ → List �
       → IfErr result (λ fault. fault ≢ Stopped → HaltsAfter (FindsSome hash accepted verified exchanged token before) fault asker said) → Rises before after
   find_rises token result before after asker said same finds stops halts = rises_ever before.told.status after.told.status result
       (ok_then {Q = Rises before after} result finds (λ all. finds_head-keeps hash accepted verified exchanged [] (each-rises []) token before after all))
-      (λ stopped. stops_asking-keeps hash accepted verified exchanged [] (each-rises []) token (Query Head) before after (stops stopped))
+      (λ stopped. stops_asking-keeps hash accepted verified exchanged [] (each-rises []) tt token (Query Head) before after (stops stopped))
       (err-then (λ fault. fault ≢ Stopped → HaltsAfter (FindsSome hash accepted verified exchanged token before) fault asker said) (λ fault. fault ≢ Stopped → Rises before after) result halts (λ fault halts unstopped.
       subst (λ (r : Report). before.told.status ≤ r.status) same (halted (FindsSome hash accepted verified exchanged token before) before fault asker said (finds_some-keeps hash accepted verified exchanged [] (each-rises []) token before) (halts unstopped))))
 
@@ -111,7 +110,7 @@ module _ (hash : List ℕ → List ℕ) (accepted verified : List ℕ → List �
   test_rises marks (Err fault) before after asker said same tests err halts =
       subst (λ (r : Report). before.told.status ≤ r.status) same (halted (TestsSome hash accepted exchanged marks before) before fault asker said (tests_some-keeps hash accepted verified exchanged marks (each-rises marks) before) halts)
 
-  pub watch_rises : {H V S A : Type 0} (known : Memory) (marks : List Mark) (key : List ℕ) (promised : List SignedPromise) (name : List ℕ) (given : Option BoundKey) (result : Result A AskFault) (before after : Scene T) (asker : Asker H V S) (said : Said)
+  pub watch_rises : {H V S A : Type 0} (known : Memory) (marks : List Mark) (key : List ℕ) (promised : List SignedPromise) (name : List ℕ) (given : Option (List ℕ)) (result : Result A AskFault) (before after : Scene T) (asker : Asker H V S) (said : Said)
       → report_of said ≡ after.told → OnOk result (BeginsWatch hash accepted verified exchanged known marks key promised name given before after)
       → IfErr result (λ fault. HaltsAfter (BeginsSome hash accepted verified exchanged known marks key promised name given before) fault asker said) → Rises before after
   watch_rises known marks key promised name given (Ok done) before after asker said same begins halts = begins_watch-keeps hash accepted verified exchanged marks (each-rises marks) key promised name given tt known before after begins
@@ -121,13 +120,13 @@ module _ (hash : List ℕ → List ℕ) (accepted verified : List ℕ → List �
   pub ask_rises : {H V S A : Type 0} (marks : List Mark) (token : List ℕ) (asked : RequestContent) (noted noted' : List SignedPromise) (result : Result A AskFault) (before after : Scene T) (asker : Asker H V S) (said : Said)
       → report_of said ≡ after.told → OnOk result (AsksDirectory hash accepted verified exchanged marks token asked noted noted' before after)
       → (result ≡ Err Stopped → StopsAsking hash accepted verified exchanged token asked before after)
-      → IfErr result (λ fault. fault ≢ Stopped → HaltsAfter (AsksSome hash accepted verified exchanged marks token asked noted noted' before) fault asker said) → Rises before after
+      → IfErr result (λ fault. fault ≢ Stopped → HaltsAfter (AsksSome hash accepted verified exchanged fault marks token asked noted noted' before) fault asker said) → Rises before after
   ask_rises marks token asked noted noted' result before after asker said same asks stops halts = rises_ever before.told.status after.told.status result
       (ok_then {Q = Rises before after} result asks (λ all. asks_directory-keeps hash accepted verified exchanged marks (each-rises marks) token asked noted noted' before after tt all))
-      (λ stopped. stops_asking-keeps hash accepted verified exchanged marks (each-rises marks) token asked before after (stops stopped))
-      (err-then (λ fault. fault ≢ Stopped → HaltsAfter (AsksSome hash accepted verified exchanged marks token asked noted noted' before) fault asker said) (λ fault. fault ≢ Stopped → Rises before after) result halts (λ fault halts unstopped.
+      (λ stopped. stops_asking-keeps hash accepted verified exchanged marks (each-rises marks) tt token asked before after (stops stopped))
+      (err-then (λ fault. fault ≢ Stopped → HaltsAfter (AsksSome hash accepted verified exchanged fault marks token asked noted noted' before) fault asker said) (λ fault. fault ≢ Stopped → Rises before after) result halts (λ fault halts unstopped.
       subst (λ (r : Report). before.told.status ≤ r.status) same
-      (halted (AsksSome hash accepted verified exchanged marks token asked noted noted' before) before fault asker said (λ reached is. asks_some-keeps hash accepted verified exchanged marks (each-rises marks) token asked noted noted' before reached tt is) (halts unstopped))))
+      (halted (AsksSome hash accepted verified exchanged fault marks token asked noted noted' before) before fault asker said (λ reached is. asks_some-keeps hash accepted verified exchanged marks (each-rises marks) token asked noted noted' before reached tt is) (halts unstopped))))
 
 -- a client starts with the head, or does not
 pub start_rises : {A T : Type 0} (verified : List ℕ → List ℕ → List ℕ → Type 0) (exchanged : T → RequestContent → Frame → T → Type 0) (key : List ℕ) (result : Result A AskFault) (said said' : Said) (before after : T) → OnOk result (said' ≡ said)

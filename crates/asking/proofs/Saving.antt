@@ -9,13 +9,14 @@ use Rattle.memory.specs.Texts.{items_text, TakesAll}
 use Rattle.memory.specs.declared.item.Item.{Item}
 use Rattle.monitor.specs.Monitors.{Monitor}
 use Rattle.asking.specs.Keeping.{MayMove}
+use Rattle.rootchain.specs.declared.signed_promise.SignedPromise.{SignedPromise}
 use Rattle.asking.specs.Saves.{Act, AddsLines, Found}
 use Rattle.asking.specs.Scenes.{Scene}
 use Rattle.asking.specs.Standing.{standing, IsKept, IsUpTo, Stands}
 use Rattle.asking.proofs.Adding.{all-self, drop-among}
 use Rattle.asking.proofs.AskedOwn.{moved-promises}
 use Rattle.asking.proofs.PutMarks.{monitors-move, same-marks}
-use Rattle.asking.proofs.Stood.{kept-handed, stands-handed, stands-moved, stands-same, unchanged-own}
+use Rattle.asking.proofs.Stood.{kept-handed, stands-handed, stands-moved, stands-same, unchanged-adds, unchanged-own}
 
 -- the monitors whose marks may move are among all
 pub may-among : (chain : KeyedRoots) (head known : ℕ) (monitors some : List Monitor) → MayMove chain head known monitors some → AllByRecursion (Contains monitors) some
@@ -31,10 +32,10 @@ handed-as Before After text items out is goes =
 
 module _ (hash : List ℕ → List ℕ) (accepted verified : List ℕ → List ℕ → List ℕ → Type 0) (lines : Option (List (List ℕ))) (key : List ℕ) (start : Found) (old : List ℕ) where
   -- the same epoch and memory
-  pub stands-so : (Happened : List Act → Type 0) (epoch epoch' : ℕ) (known known' : Memory) (unsaved : List Item) (out : Option (List ℕ)) (now : Scene (Unit {0})) → epoch' ≡ epoch → known' ≡ known
-      → Stands hash accepted verified lines key start old Happened epoch known unsaved out now → Stands hash accepted verified lines key start old Happened epoch' known' unsaved out now
-  stands-so Happened epoch epoch' known known' unsaved out now at same stands =
-      subst (λ (e : ℕ). Stands hash accepted verified lines key start old Happened e known' unsaved out now) (sym at) (subst (λ (m : Memory). Stands hash accepted verified lines key start old Happened epoch m unsaved out now) (sym same) stands)
+  pub stands-so : (Happened : List Act → Type 0) (epoch epoch' : ℕ) (known known' : Memory) (unsaved : List Item) (out : Option (List ℕ)) (noted : List SignedPromise) (now : Scene (Unit {0})) → epoch' ≡ epoch → known' ≡ known
+      → Stands hash accepted verified lines key start old Happened epoch known unsaved out noted now → Stands hash accepted verified lines key start old Happened epoch' known' unsaved out noted now
+  stands-so Happened epoch epoch' known known' unsaved out noted now at same stands =
+      subst (λ (e : ℕ). Stands hash accepted verified lines key start old Happened e known' unsaved out noted now) (sym at) (subst (λ (m : Memory). Stands hash accepted verified lines key start old Happened epoch m unsaved out noted now) (sym same) stands)
 
   pub kept-so : (Happened : List Act → Type 0) (epoch epoch' : ℕ) (known known' : Memory) (unsaved : List Item) (out : Option (List ℕ)) → epoch' ≡ epoch → known' ≡ known
       → IsKept hash accepted verified lines key start old Happened epoch known unsaved out → IsKept hash accepted verified lines key start old Happened epoch' known' unsaved out
@@ -42,21 +43,21 @@ module _ (hash : List ℕ → List ℕ) (accepted verified : List ℕ → List �
       subst (λ (e : ℕ). IsKept hash accepted verified lines key start old Happened e known' unsaved out) (sym at) (subst (λ (m : Memory). IsKept hash accepted verified lines key start old Happened epoch m unsaved out) (sym same) kept)
 
   -- alarms were learned, and then some marks moved
-  pub stands-saved : (Happened : List Act → Type 0) (epoch : ℕ) (known middle known' : Memory) (out : Option (List ℕ)) (client : Client) (monitors some : List Monitor) (news alarms marks : List Item)
-      → Stands hash accepted verified lines key start old Happened epoch known [] out (standing client monitors []) → IsUpTo client epoch → middle.marks ≡ known.marks → middle.promises ≡ known.promises → AllByRecursion (Contains monitors) some
+  pub stands-saved : (Happened : List Act → Type 0) (epoch : ℕ) (known middle known' : Memory) (out : Option (List ℕ)) (noted : List SignedPromise) (client : Client) (monitors some : List Monitor) (news alarms marks : List Item)
+      → Stands hash accepted verified lines key start old Happened epoch known [] out noted (standing client monitors []) → IsUpTo client epoch → middle.marks ≡ known.marks → middle.promises ≡ known.promises → AllByRecursion (Contains monitors) some
       → Each (MarksOne monitors) some middle news known' → TakesAll alarms known middle → TakesAll marks middle known'
-      → Stands hash accepted verified lines key start old Happened epoch known' (alarms ++ marks) out (standing client monitors [])
-  stands-saved Happened epoch known middle known' out client monitors some news alarms marks stands up-to same promises among each taken moved =
-      stands-moved hash accepted verified lines key start old Happened epoch middle alarms out client monitors
-      (stands-same hash accepted verified lines key start old Happened epoch known [] out (standing client monitors []) stands middle alarms taken same (same-marks known middle same) (unchanged-own lines start.known known middle promises))
+      → Stands hash accepted verified lines key start old Happened epoch known' (alarms ++ marks) out noted (standing client monitors [])
+  stands-saved Happened epoch known middle known' out noted client monitors some news alarms marks stands up-to same promises among each taken moved =
+      stands-moved hash accepted verified lines key start old Happened epoch middle alarms out noted client monitors
+      (stands-same hash accepted verified lines key start old Happened epoch known [] out noted (standing client monitors []) stands middle alarms taken same (same-marks known middle same) (unchanged-own lines start.known known middle promises) (unchanged-adds noted known middle promises))
       up-to some among known' (monitors-move monitors some middle known' news each) (moved-promises monitors some middle known' news each) marks moved
 
   -- and handed on
-  pub stands-on : (Happened Happened' : List Act → Type 0) (epoch epoch' : ℕ) (known known' : Memory) (unsaved : List Item) (text : List ℕ) (out : Option (List ℕ)) (now : Scene (Unit {0})) → epoch' ≡ epoch → known' ≡ known → text ≡ items_text unsaved
+  pub stands-on : (Happened Happened' : List Act → Type 0) (epoch epoch' : ℕ) (known known' : Memory) (unsaved : List Item) (text : List ℕ) (out : Option (List ℕ)) (noted : List SignedPromise) (now : Scene (Unit {0})) → epoch' ≡ epoch → known' ≡ known → text ≡ items_text unsaved
       → ((acts : List Act) → Happened acts → ((text ≡ []) × Happened' acts) ⊎ Happened' (AddsLines text out ∷ acts))
-      → Stands hash accepted verified lines key start old Happened epoch known unsaved out now → Stands hash accepted verified lines key start old Happened' epoch' known' [] out now
-  stands-on Happened Happened' epoch epoch' known known' unsaved text out now at same is goes stands =
-      stands-so Happened' epoch epoch' known known' [] out now at same (stands-handed hash accepted verified lines key start old Happened epoch known unsaved out now stands Happened' (handed-as Happened Happened' text unsaved out is goes))
+      → Stands hash accepted verified lines key start old Happened epoch known unsaved out noted now → Stands hash accepted verified lines key start old Happened' epoch' known' [] out noted now
+  stands-on Happened Happened' epoch epoch' known known' unsaved text out noted now at same is goes stands =
+      stands-so Happened' epoch epoch' known known' [] out noted now at same (stands-handed hash accepted verified lines key start old Happened epoch known unsaved out noted now stands Happened' (handed-as Happened Happened' text unsaved out is goes))
 
   pub kept-on : (Happened Happened' : List Act → Type 0) (epoch epoch' : ℕ) (known known' : Memory) (unsaved : List Item) (text : List ℕ) (out : Option (List ℕ)) → epoch' ≡ epoch → known' ≡ known → text ≡ items_text unsaved
       → ((acts : List Act) → Happened acts → ((text ≡ []) × Happened' acts) ⊎ Happened' (AddsLines text out ∷ acts))

@@ -23,7 +23,7 @@ use Rattle.asking.proofs.Ran.{after_none}
 -- a run of `ask` that settles a name
 module _ (options : AskOptions) (input : Option (List ℕ)) (name : List ℕ) (is : IsSettling options name) (old new : Option (List ℕ)) where
   pub settled_runs : {E : Type 0} (result : Result ℕ E) → IfOk result (λ status. Settles name status old new) → IfOk result (λ status. AsksOverSocket options input status old new)
-  settled_runs (Ok status) settles = inr (inl (name, is, settles))
+  settled_runs (Ok status) settles = inl (name, is, settles)
   settled_runs (Err why) settles = tt
 
   pub settled_fails : {A : Type 0} (result : Result A ProgramFault) → OnErr result (SettlesPart name old new) → IfErr result (λ fault. FailsOverSocket options input fault old new)

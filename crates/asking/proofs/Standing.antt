@@ -1,7 +1,6 @@
 -- Where the asker stands behind a question, if memory did not run out.
 use Rattle.std.proofs.Common.{◌≡◌, ◌≢◌, ◌⊎◌, ℕ, List, Option, Result, Ok, Err, inl, inr, refl, rules, subst}
 use Rattle.std.specs.Prelude.{IfErr, OnOk}
-use Rattle.encoding.specs.declared.bound_key.BoundKey.{BoundKey}
 use Rattle.rootchain.specs.declared.signed_promise.SignedPromise.{SignedPromise}
 use Rattle.wire.specs.Frames.{Frame}
 use Rattle.commands.specs.Operations.{Head}
@@ -90,8 +89,8 @@ module _ (hash : List ℕ → List ℕ) (accepted verified : List ℕ → List �
   pub asked_stands : {H V S A : Type 0} (asked : RequestContent) (noted noted' : List SignedPromise) (result : Result A AskFault) (before : Scene T) (asker : Asker H V S) (said : Said) (stream : T)
       → OnOk result (AsksDirectory hash accepted verified exchanged background.marks background.token asked noted noted' before (scene asker said stream))
       → (result ≡ Err fault.Stopped → noted' ≡ noted) → (result ≡ Err fault.Stopped → StopsAsking hash accepted verified exchanged background.token asked before (scene asker said stream))
-      → IfErr result (λ why. why ≢ fault.Stopped → HaltsAfter (AsksSome hash accepted verified exchanged background.marks background.token asked noted noted' before) why asker said)
-      → result ≢ Err fault.OutOfMemory → StandsIn (DoesSomeNoting hash accepted verified exchanged background (Ask asked) noted noted' before) asker said
+      → IfErr result (λ why. why ≢ fault.Stopped → HaltsAfter (AsksSome hash accepted verified exchanged why background.marks background.token asked noted noted' before) why asker said)
+      → result ≢ Err fault.OutOfMemory → StandsIn (DoesSomeNoting hash accepted verified exchanged background fault.NoReply (Ask asked) noted noted' before) asker said
   asked_stands asked noted noted' (Ok done) before asker said stream asks same stops halts enough = (scene asker said stream, inr (inl asks), refl, refl, refl)
   asked_stands asked noted noted' (Err fault.NoReply) before asker said stream asks same stops halts enough =
       let (reached, some, halted) = halts no-reply in
@@ -101,14 +100,14 @@ module _ (hash : List ℕ → List ℕ) (accepted verified : List ℕ → List �
   asked_stands asked noted noted' (Err fault.OutOfMemory) before asker said stream asks same stops halts enough = absurd (enough refl)
 
   -- a name is watched, or some of its epochs
-  pub watched_stands : {H V S A : Type 0} (name : List ℕ) (given given' : Option BoundKey) (noted noted' : List SignedPromise) (result : Result A AskFault) (before : Scene T) (asker : Asker H V S) (said : Said) (stream : T) → given ≡ given' → noted' ≡ noted
+  pub watched_stands : {H V S A : Type 0} (name : List ℕ) (given given' : Option (List ℕ)) (noted noted' : List SignedPromise) (result : Result A AskFault) (before : Scene T) (asker : Asker H V S) (said : Said) (stream : T) → given ≡ given' → noted' ≡ noted
       → OnOk result (BeginsWatch hash accepted verified exchanged background.known background.marks background.key (own_for background.marks name background.earlier noted) name given before (scene asker said stream))
       → IfErr result (λ why. why ≢ fault.Stopped)
       → IfErr result (λ why. HaltsAfter (BeginsSome hash accepted verified exchanged background.known background.marks background.key (own_for background.marks name background.earlier noted) name given before) why asker said)
-      → result ≢ Err fault.OutOfMemory → StandsIn (DoesSomeNoting hash accepted verified exchanged background (Watch name given') noted noted' before) asker said
+      → result ≢ Err fault.OutOfMemory → StandsIn (DoesSomeNoting hash accepted verified exchanged background fault.NoReply (Watch name given') noted noted' before) asker said
   watched_stands name given given' noted noted' (Ok done) before asker said stream is same begins err halts enough = (
     scene asker said stream,
-    inr (inl (subst (λ (g : Option BoundKey). BeginsWatch hash accepted verified exchanged background.known background.marks background.key (own_for background.marks name background.earlier noted) name g before (scene asker said stream)) is begins, same)),
+    inr (inl (subst (λ (g : Option (List ℕ)). BeginsWatch hash accepted verified exchanged background.known background.marks background.key (own_for background.marks name background.earlier noted) name g before (scene asker said stream)) is begins, same)),
     refl,
     refl,
     refl,
@@ -129,9 +128,9 @@ module _ (hash : List ℕ → List ℕ) (accepted verified : List ℕ → List �
   pub asked_notes : {H V S A : Type 0} (asked : RequestContent) (noted noted' : List SignedPromise) (result : Result A AskFault) (before : Scene T) (asker : Asker H V S) (said : Said) (stream : T)
       → OnOk result (AsksDirectory hash accepted verified exchanged background.marks background.token asked noted noted' before (scene asker said stream))
       → (result ≡ Err fault.Stopped → noted' ≡ noted) → (result ≡ Err fault.Stopped → StopsAsking hash accepted verified exchanged background.token asked before (scene asker said stream))
-      → IfErr result (λ why. why ≢ fault.Stopped → HaltsAfter (AsksSome hash accepted verified exchanged background.marks background.token asked noted noted' before) why asker said)
-      → (reached : Scene T) × DoesSomeNoting hash accepted verified exchanged background (Ask asked) noted noted' before reached
-  asked_notes asked noted noted' (Ok done) before asker said stream asks same stops halts = (scene asker said stream, inr (inl asks))
-  asked_notes asked noted noted' (Err fault.NoReply) before asker said stream asks same stops halts = let (reached, some, halted) = halts no-reply in (reached, inr (inr (inr some)))
-  asked_notes asked noted noted' (Err fault.Stopped) before asker said stream asks same stops halts = (scene asker said stream, inr (inr (inl (stops refl, same refl))))
-  asked_notes asked noted noted' (Err fault.OutOfMemory) before asker said stream asks same stops halts = let (reached, some, halted) = halts no-memory in (reached, inr (inr (inr some)))
+      → IfErr result (λ why. why ≢ fault.Stopped → HaltsAfter (AsksSome hash accepted verified exchanged why background.marks background.token asked noted noted' before) why asker said)
+      → (why : AskFault) × (reached : Scene T) × DoesSomeNoting hash accepted verified exchanged background why (Ask asked) noted noted' before reached
+  asked_notes asked noted noted' (Ok done) before asker said stream asks same stops halts = (fault.NoReply, scene asker said stream, inr (inl asks))
+  asked_notes asked noted noted' (Err fault.NoReply) before asker said stream asks same stops halts = let (reached, some, halted) = halts no-reply in (fault.NoReply, reached, inr (inr (inr some)))
+  asked_notes asked noted noted' (Err fault.Stopped) before asker said stream asks same stops halts = (fault.NoReply, scene asker said stream, inr (inr (inl (stops refl, same refl))))
+  asked_notes asked noted noted' (Err fault.OutOfMemory) before asker said stream asks same stops halts = let (reached, some, halted) = halts no-memory in (fault.OutOfMemory, reached, inr (inr (inr some)))

@@ -1,5 +1,5 @@
 -- How what a run keeps stays told, act by act.
-use Rattle.std.proofs.Common.{◌≡◌, ◌∙◌, ◌⊎◌, ℕ, suc, ◌<◌, ◌≤◌, Bool, true, false, List, [], ◌∷◌, ◌++◌, Contains, Option, Some, Ok, ap, append-nil, append_assoc, arith, inl, inr, refl, subst, sym}
+use Rattle.std.proofs.Common.{◌≡◌, ◌∙◌, ◌⊎◌, ℕ, suc, ◌<◌, ◌≤◌, Bool, true, false, List, [], ◌∷◌, ◌++◌, map, Contains, Option, Some, Ok, ap, append-nil, append_assoc, arith, inl, inr, refl, subst, sym}
 use Rattle.std.specs.Prelude.{if◌then◌else◌, nat_lt}
 use Rattle.std.specs.List.{AllByRecursion}
 use Rattle.std.proofs.lemmas.Bool.{ltb-true}
@@ -16,12 +16,12 @@ use Rattle.memory.proofs.Taken.{taken-append, unchanged-taken}
 use Rattle.memory.proofs.WholeLines.{spells-more, whole-more}
 use Rattle.monitor.specs.Monitors.{Monitor}
 use Rattle.asking.specs.Owning.{IsHeld, IsOwn, Owns, WasWatched}
-use Rattle.asking.specs.Saves.{found_in, roots_above, stored_after, Act, AddsLines, AddsRoots, Counts, Found, IsAsked, IsAskedChange, IsOwnPromise, KeepsTold, WasOwn, WasStored}
+use Rattle.asking.specs.Saves.{found_in, own_promised, roots_above, stored_after, with_promises, noting, Act, AddsLines, AddsRoots, Counts, Found, IsAsked, IsAskedChange, IsOwnAhead, IsOwnPromise, KeepsTold, WasOwn, WasStored}
 use Rattle.asking.specs.Scenes.{Scene}
-use Rattle.asking.specs.Standing.{standing, Fits, IsKept, IsUpTo, KeepsMarks, Stands}
-use Rattle.asking.specs.Told.{TellsEpoch}
+use Rattle.asking.specs.Standing.{standing, AddsOwn, Fits, IsKept, IsUpTo, KeepsMarks, Stands}
 use Rattle.asking.proofs.HeldMarks.{begun-held, moved-held}
-use Rattle.asking.proofs.KeptTold.{adds-roots-kept, keeps-told, remembers-kept, text-kept}
+use Rattle.asking.proofs.KeptTold.{adds-roots-kept, keeps-told, remembers-kept, text-kept, IsToldOrStored}
+use Rattle.asking.proofs.Noting.{noted-was, tells-counted, was-cases, was-more}
 use Rattle.asking.proofs.PutMarks.{begun-marks, moved-once, moved-stays, EachPuts, IsBegun, IsMoved}
 
 -- ---- roots above an epoch
@@ -61,19 +61,29 @@ none-above : (mark : Mark) (epoch : ℕ) (root : SignedRoot) → (mark.epoch ≤
 none-above mark epoch root (inl empty) new above below = omega (arith, empty, above, below)
 none-above mark epoch root (inr low) new above below = omega (arith, low, new, below)
 
--- each promise for a change of the owner's own is an old one, was one when the run began, or was asked for
+-- Each promise for a change of the owner's own is an old one; or it was one when the run began, or was asked for, and no mark is
+-- above it.
 abbrev pub OwnAsked : Option (List (List ℕ)) → Memory → Memory → Memory → Type 0
-OwnAsked lines start before after = (signed : SignedPromise) → WasOwn after signed → WasOwn before signed ⊎ (WasOwn start signed ⊎ IsAskedChange lines signed)
+OwnAsked lines start before after = (signed : SignedPromise) → WasOwn after signed → WasOwn before signed ⊎ ((WasOwn start signed ⊎ IsAskedChange lines signed) × Fits signed.promise.epoch before)
 
 pub asked-then : (lines : Option (List (List ℕ))) (start before after : Memory) → OwnAsked lines start before after → ((signed : SignedPromise) → WasOwn before signed → WasOwn start signed ⊎ IsAskedChange lines signed)
     → (signed : SignedPromise) → WasOwn after signed → WasOwn start signed ⊎ IsAskedChange lines signed
 asked-then lines start before after own old signed was = elim (own signed was) [
   | inl there ↦ old signed there
-  | inr so ↦ so
+  | inr so ↦ so.0
+]
+
+pub late-then : (lines : Option (List (List ℕ))) (start before after : Memory) → OwnAsked lines start before after → (signed : SignedPromise) → WasOwn after signed → WasOwn before signed ⊎ Fits signed.promise.epoch before
+late-then lines start before after own signed was = elim (own signed was) [
+  | inl there ↦ inl there
+  | inr so ↦ inr so.1
 ]
 
 pub unchanged-own : (lines : Option (List (List ℕ))) (start before after : Memory) → after.promises ≡ before.promises → OwnAsked lines start before after
 unchanged-own lines start before after same signed (promised, has, this, own) = inl (promised, subst (λ (all : List Promised). Contains all promised) same has, this, own)
+
+pub unchanged-adds : (changes : List SignedPromise) (before after : Memory) → after.promises ≡ before.promises → AddsOwn changes before after
+unchanged-adds changes before after same signed (promised, has, this, own) = inl (promised, subst (λ (all : List Promised). Contains all promised) same has, this, own)
 
 module _ (hash : List ℕ → List ℕ) (accepted verified : List ℕ → List ℕ → List ℕ → Type 0) (lines : Option (List (List ℕ))) (key : List ℕ) (start : Found) (old : List ℕ) where
   abbrev Told : List ℕ → Found → Type 0
@@ -95,7 +105,8 @@ module _ (hash : List ℕ → List ℕ) (accepted verified : List ℕ → List �
       now = kept.now;
       next = remembers-kept hash accepted (IsAsked lines) (IsOwnPromise verified key lines start.known) (IsAskedChange lines) start kept.text (found_in (stored_after kept.acts) known) kept.next known' marks.known
           (λ mark has. let (one, there, named, low) = kept.next.stays mark has in (one, marks.still one there, named, low))
-          (asked-then lines start.known known known' own kept.next.own);
+          (asked-then lines start.known known known' own kept.next.own)
+          (late-then lines start.known known known' own);
       early = kept.early;
       low-start = kept.low-start;
       low = kept.low;
@@ -219,82 +230,111 @@ module _ (hash : List ℕ → List ℕ) (accepted verified : List ℕ → List �
 
   -- ---- with the scene
 
-  owns-known : (text : List ℕ) (stored : List SignedRoot) (known known' : List Mark) (now : Scene (Unit {0})) → Owns hash accepted verified (IsAsked lines) (IsOwnPromise verified key lines start.known) start.known text stored start.known.marks known now
-      → ((mark : Mark) → Contains known' mark → IsHeld hash accepted verified (IsAsked lines) (IsOwnPromise verified key lines start.known) start.known text start.known.marks now.client.chain now.monitors mark)
-      → Owns hash accepted verified (IsAsked lines) (IsOwnPromise verified key lines start.known) start.known text stored start.known.marks known' now
-  owns-known text stored known known' now owns held = record { chain = owns.chain; formed = owns.formed; stores = owns.stores; rooted = owns.rooted; watched = owns.watched; held = held }
+  owns-known : (noted : List SignedPromise) (text : List ℕ) (stored : List SignedRoot) (known known' : List Mark) (now : Scene (Unit {0})) → Owns hash accepted verified (IsAsked lines) (IsOwnPromise verified key lines start.known) (noting start.known noted) text stored start.known.marks known now
+      → ((mark : Mark) → Contains known' mark → IsHeld hash accepted verified (IsAsked lines) (IsOwnPromise verified key lines start.known) (noting start.known noted) text start.known.marks now.client.chain now.monitors mark)
+      → Owns hash accepted verified (IsAsked lines) (IsOwnPromise verified key lines start.known) (noting start.known noted) text stored start.known.marks known' now
+  owns-known noted text stored known known' now owns held = record { chain = owns.chain; formed = owns.formed; stores = owns.stores; rooted = owns.rooted; watched = owns.watched; held = held }
 
-  owns-stored : (text : List ℕ) (stored stored' : List SignedRoot) (known : List Mark) (now : Scene (Unit {0})) → Owns hash accepted verified (IsAsked lines) (IsOwnPromise verified key lines start.known) start.known text stored start.known.marks known now
-      → AllByRecursion (Contains now.client.chain.roots) stored' → Owns hash accepted verified (IsAsked lines) (IsOwnPromise verified key lines start.known) start.known text stored' start.known.marks known now
-  owns-stored text stored stored' known now owns stores = record { chain = owns.chain; formed = owns.formed; stores = stores; rooted = owns.rooted; watched = owns.watched; held = owns.held }
+  owns-stored : (noted : List SignedPromise) (text : List ℕ) (stored stored' : List SignedRoot) (known : List Mark) (now : Scene (Unit {0})) → Owns hash accepted verified (IsAsked lines) (IsOwnPromise verified key lines start.known) (noting start.known noted) text stored start.known.marks known now
+      → AllByRecursion (Contains now.client.chain.roots) stored' → Owns hash accepted verified (IsAsked lines) (IsOwnPromise verified key lines start.known) (noting start.known noted) text stored' start.known.marks known now
+  owns-stored noted text stored stored' known now owns stores = record { chain = owns.chain; formed = owns.formed; stores = stores; rooted = owns.rooted; watched = owns.watched; held = owns.held }
 
-  module _ (Happened : List Act → Type 0) (epoch : ℕ) (known : Memory) (unsaved : List Item) (out : Option (List ℕ)) (now : Scene (Unit {0})) (stands : Stands hash accepted verified lines key start old Happened epoch known unsaved out now) where
+  module _ (Happened : List Act → Type 0) (epoch : ℕ) (known : Memory) (unsaved : List Item) (out : Option (List ℕ)) (noted : List SignedPromise) (now : Scene (Unit {0})) (stands : Stands hash accepted verified lines key start old Happened epoch known unsaved out noted now) where
+    own-then : (known' : Memory) → AddsOwn noted known known' → (signed : SignedPromise) → WasOwn known' signed → WasOwn (noting start.known noted) signed
+    own-then known' adds signed was = elim (adds signed was) [
+      | inl old ↦ stands.own signed old
+      | inr has ↦ noted-was start.known noted signed has
+    ]
+
     -- lines and promises are learned
-    pub stands-same : (known' : Memory) (news : List Item) → TakesAll news known known' → known'.marks ≡ known.marks → KeepsMarks known known' → OwnAsked lines start.known known known'
-        → Stands hash accepted verified lines key start old Happened epoch known' (unsaved ++ news) out now
-    stands-same known' news takes same marks own = record {
+    pub stands-same : (known' : Memory) (news : List Item) → TakesAll news known known' → known'.marks ≡ known.marks → KeepsMarks known known' → OwnAsked lines start.known known known' → AddsOwn noted known known'
+        → Stands hash accepted verified lines key start old Happened epoch known' (unsaved ++ news) out noted now
+    stands-same known' news takes same marks own adds = record {
       kept = kept-known Happened epoch known unsaved out stands.kept known' news takes marks own;
-      owns = subst (λ (ms : List Mark). Owns hash accepted verified (IsAsked lines) (IsOwnPromise verified key lines start.known) start.known stands.kept.text (stored_after stands.kept.acts).roots start.known.marks ms now) (sym same) stands.owns;
+      owns = subst (λ (ms : List Mark). Owns hash accepted verified (IsAsked lines) (IsOwnPromise verified key lines start.known) (noting start.known noted) stands.kept.text (stored_after stands.kept.acts).roots start.known.marks ms now) (sym same) stands.owns;
+      own = own-then known' adds;
+      ascend = stands.ascend;
+      later = stands.later;
     }
 
     -- new monitors get marks
     pub stands-begun : (begun : List Monitor) (known' : Memory) (news : List Item) → TakesAll news known known' → AllByRecursion (Contains now.monitors) begun → EachPuts IsBegun begun known.marks known'.marks → known'.promises ≡ known.promises
-        → Stands hash accepted verified lines key start old Happened epoch known' (unsaved ++ news) out now
+        → Stands hash accepted verified lines key start old Happened epoch known' (unsaved ++ news) out noted now
     stands-begun begun known' news takes among puts same = record {
       kept = kept-known Happened epoch known unsaved out stands.kept known' news takes (begun-marks begun known known' puts) (unchanged-own lines start.known known known' same);
-      owns = owns-known stands.kept.text (stored_after stands.kept.acts).roots known.marks known'.marks now stands.owns (begun-held hash accepted verified (IsAsked lines) (IsOwnPromise verified key lines start.known) start.known stands.kept.text (stands.kept.text ++ now.told.lines) now.client.chain start.known.marks now.monitors begun known.marks known'.marks
+      owns = owns-known noted stands.kept.text (stored_after stands.kept.acts).roots known.marks known'.marks now stands.owns (begun-held hash accepted verified (IsAsked lines) (IsOwnPromise verified key lines start.known) (noting start.known noted) stands.kept.text (stands.kept.text ++ now.told.lines) now.client.chain start.known.marks now.monitors begun known.marks known'.marks
           stands.owns.chain stands.owns.watched among puts stands.owns.held);
+      own = own-then known' (unchanged-adds noted known known' same);
+      ascend = stands.ascend;
+      later = stands.later;
     }
 
     pub stands-roots : (Happened' : List Act → Type 0) (epoch' : ℕ) → epoch ≤ epoch' → ((acts : List Act) → Happened acts → Happened' (AddsRoots (roots_above epoch now.client.chain.roots) out ∷ acts))
-        → Stands hash accepted verified lines key start old Happened' epoch' known unsaved out now
+        → Stands hash accepted verified lines key start old Happened' epoch' known unsaved out noted now
     stands-roots Happened' epoch' up goes = record {
       kept = kept-roots Happened epoch known unsaved out stands.kept Happened' epoch' now.client.chain.roots up goes;
-      owns = owns-stored stands.kept.text (stored_after stands.kept.acts).roots ((stored_after stands.kept.acts).roots ++ roots_above epoch now.client.chain.roots) known.marks now stands.owns (all-join (Contains now.client.chain.roots) (stored_after stands.kept.acts).roots (roots_above epoch now.client.chain.roots) stands.owns.stores
+      owns = owns-stored noted stands.kept.text (stored_after stands.kept.acts).roots ((stored_after stands.kept.acts).roots ++ roots_above epoch now.client.chain.roots) known.marks now stands.owns (all-join (Contains now.client.chain.roots) (stored_after stands.kept.acts).roots (roots_above epoch now.client.chain.roots) stands.owns.stores
           (above-from epoch (Contains now.client.chain.roots) now.client.chain.roots (each-of (Contains now.client.chain.roots) now.client.chain.roots (λ root has. has))));
+      own = stands.own;
+      ascend = stands.ascend;
+      later = stands.later;
     }
 
     -- what is not saved yet is handed on
     pub stands-handed : (Happened' : List Act → Type 0) → ((acts : List Act) → Happened acts → ((items_text unsaved ≡ []) × Happened' acts) ⊎ Happened' (AddsLines (items_text unsaved) out ∷ acts))
-        → Stands hash accepted verified lines key start old Happened' epoch known [] out now
+        → Stands hash accepted verified lines key start old Happened' epoch known [] out noted now
     stands-handed Happened' goes = elim (goes stands.kept.acts stands.kept.happened) [
       | inl (none, same) ↦ record {
         kept = kept-unsaved Happened epoch known unsaved out stands.kept Happened' none same;
         owns = stands.owns;
+        own = stands.own;
+        ascend = stands.ascend;
+        later = stands.later;
       }
       | inr more ↦ record {
         kept = kept-added Happened epoch known unsaved out stands.kept Happened' more;
         owns = stands.owns;
+        own = stands.own;
+        ascend = stands.ascend;
+        later = stands.later;
       }
     ]
 
   -- ---- marks move
 
-  module _ (Happened : List Act → Type 0) (epoch : ℕ) (known : Memory) (unsaved : List Item) (out : Option (List ℕ)) (client : Client) (monitors : List Monitor) (stands : Stands hash accepted verified lines key start old Happened epoch known unsaved out (standing client monitors []))
+  module _ (Happened : List Act → Type 0) (epoch : ℕ) (known : Memory) (unsaved : List Item) (out : Option (List ℕ)) (noted : List SignedPromise) (client : Client) (monitors : List Monitor) (stands : Stands hash accepted verified lines key start old Happened epoch known unsaved out noted (standing client monitors []))
       (up-to : IsUpTo client epoch) (some : List Monitor) (among : AllByRecursion (Contains monitors) some) (known' : Memory) (puts : EachPuts (IsMoved monitors) some known.marks known'.marks) (same : known'.promises ≡ known.promises) where
     abbrev text : List ℕ
     text = stands.kept.text
 
     abbrev Held : Mark → Type 0
-    Held = IsHeld hash accepted verified (IsAsked lines) (IsOwnPromise verified key lines start.known) start.known text start.known.marks client.chain monitors
+    Held = IsHeld hash accepted verified (IsAsked lines) (IsOwnPromise verified key lines start.known) (noting start.known noted) text start.known.marks client.chain monitors
 
-    watched-so : AllByRecursion (IsOwn hash accepted verified (IsAsked lines) (IsOwnPromise verified key lines start.known) start.known text client.chain start.known.marks) monitors
-    watched-so = subst (λ (t : List ℕ). AllByRecursion (IsOwn hash accepted verified (IsAsked lines) (IsOwnPromise verified key lines start.known) start.known t client.chain start.known.marks) monitors) (append-nil text) stands.owns.watched
+    watched-so : AllByRecursion (IsOwn hash accepted verified (IsAsked lines) (IsOwnPromise verified key lines start.known) (noting start.known noted) text client.chain start.known.marks) monitors
+    watched-so = subst (λ (t : List ℕ). AllByRecursion (IsOwn hash accepted verified (IsAsked lines) (IsOwnPromise verified key lines start.known) (noting start.known noted) t client.chain start.known.marks) monitors) (append-nil text) stands.owns.watched
 
     held : (mark : Mark) → Contains known'.marks mark → Held mark
-    held = moved-held hash accepted verified (IsAsked lines) (IsOwnPromise verified key lines start.known) start.known text client.chain start.known.marks monitors stands.owns.chain stands.owns.formed watched-so some known.marks known'.marks among puts stands.owns.held
+    held = moved-held hash accepted verified (IsAsked lines) (IsOwnPromise verified key lines start.known) (noting start.known noted) text client.chain start.known.marks monitors stands.owns.chain stands.owns.formed watched-so some known.marks known'.marks among puts stands.owns.held
 
     -- what an earlier run had watched is a root that it had
     was-stored : (name : List ℕ) (root : SignedRoot) → Contains (stored_after stands.kept.acts).roots root → WasWatched start.known.marks name root → WasStored start name root
     was-stored name root among (mark, has, same, above, below) = (stands.kept.early mark has root among above below, (mark, has, same, above, below))
 
+    own-so : (signed : SignedPromise) → WasOwn known' signed → WasOwn (noting start.known noted) signed
+    own-so signed (promised, has, this, own) = stands.own signed (promised, subst (λ (all : List Promised). Contains all promised) same has, this, own)
+
     told-so : (mark : Mark) → Contains known'.marks mark → (root : SignedRoot) → Contains (stored_after stands.kept.acts).roots root → mark.since < root.body.epoch → root.body.epoch ≤ mark.epoch
-        → TellsEpoch (IsAsked lines) (IsOwnPromise verified key lines start.known) (Counts start.known) hash accepted text mark.name root ⊎ WasStored start mark.name root
+        → IsToldOrStored hash accepted (IsAsked lines) (IsOwnPromise verified key lines start.known) (IsAskedChange lines) start known' text mark.name root
     told-so mark has root among above below =
         elim ((held mark has).told root (all-in (Contains client.chain.roots) (stored_after stands.kept.acts).roots root stands.owns.stores among) above below) [
-          | inl tells ↦ inl tells
+          | inl tells ↦ inl (tells-counted (IsAsked lines) (IsOwnAhead (IsOwnPromise verified key lines start.known) start.known) (Counts (noting start.known noted)) (Counts (with_promises start.known known'.promises)) mark.name hash accepted text root
+              (λ signed (was, awaited) named early. (counted signed (was-cases start.known known' signed was), awaited)) tells)
           | inr was ↦ inr (was-stored mark.name root among was)
         ]
+      where
+        counted : (signed : SignedPromise) → WasOwn start.known signed ⊎ WasOwn known' signed → WasOwn (noting start.known noted) signed
+        counted signed (inl old) = was-more start.known (map own_promised noted) signed old
+        counted signed (inr new) = own-so signed new
 
     low-so : Fits epoch known'
     low-so mark has = elim (held mark has).low [
@@ -302,7 +342,7 @@ module _ (hash : List ℕ → List ℕ) (accepted verified : List ℕ → List �
       | inr (head, at, low) ↦ inr (let up = up-to head at in omega (arith, up, low))
     ]
 
-    pub stands-moved : (news : List Item) → TakesAll news known known' → Stands hash accepted verified lines key start old Happened epoch known' (unsaved ++ news) out (standing client monitors [])
+    pub stands-moved : (news : List Item) → TakesAll news known known' → Stands hash accepted verified lines key start old Happened epoch known' (unsaved ++ news) out noted (standing client monitors [])
     stands-moved news takes = let kept = stands.kept in record {
       kept = record {
         acts = kept.acts;
@@ -325,5 +365,8 @@ module _ (hash : List ℕ → List ℕ) (accepted verified : List ℕ → List �
         begun = kept.begun;
         once = moved-once monitors some known.marks known'.marks puts kept.once;
       };
-      owns = owns-known text (stored_after kept.acts).roots known.marks known'.marks (standing client monitors []) stands.owns held;
+      owns = owns-known noted text (stored_after kept.acts).roots known.marks known'.marks (standing client monitors []) stands.owns held;
+      own = own-so;
+      ascend = stands.ascend;
+      later = stands.later;
     }

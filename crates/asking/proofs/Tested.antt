@@ -17,17 +17,16 @@ use Rattle.asking.specs.Visiting.{AwaitsMonitor, TestsName, Visits}
 use Rattle.asking.proofs.Going.{told_onto}
 
 module _ {H V S T : Type 0} (hash : List ℕ → List ℕ) (accepted : List ℕ → List ℕ → List ℕ → Type 0) (exchanged : T → RequestContent → Frame → T → Type 0) where
-  module _ (asker : Asker H V S) (said : Said) (stream : T) (name spelled : List ℕ) (epoch : ℕ) (frame : Frame) (later : T) where
+  module _ (asker : Asker H V S) (said : Said) (stream : T) (name : List ℕ) (epoch : ℕ) (frame : Frame) (later : T) where
     -- the frame was no answer
-    pub tests_none : (said' : Said) → IsDueEpoch asker.client name (Some epoch) → spelled ≡ name → exchanged stream (Query (Lookup spelled epoch)) frame later
-        → GivesBody (Query (Lookup spelled epoch)) frame said None said' → TestsName hash accepted exchanged (scene asker said stream) name false (scene asker said' later)
-    tests_none said' due named exchange gives =
-        let given = subst (λ (n : List ℕ). GivesBody (Query (Lookup n epoch)) frame said None said') named gives in
+    pub tests_none : (said' : Said) → IsDueEpoch asker.client name (Some epoch) → exchanged stream (Query (Lookup name epoch)) frame later
+        → GivesBody (Query (Lookup name epoch)) frame said None said' → TestsName hash accepted exchanged (scene asker said stream) name false (scene asker said' later)
+    tests_none said' due exchange given =
         inr (record {
           epoch = epoch;
           due = due;
           frame = frame;
-          exchange = subst (λ (n : List ℕ). exchanged stream (Query (Lookup n epoch)) frame later) named exchange;
+          exchange = exchange;
           told = given.0;
           shows = inl (given.1, refl, refl);
           tells = told_onto said said' given.0 given.2;
@@ -35,17 +34,16 @@ module _ {H V S T : Type 0} (hash : List ℕ → List ℕ) (accepted : List ℕ 
         })
 
     -- the frame was one, and this is what comes of the test
-    pub tests_some : (said' said'' : Said) (body : List ℕ) (kept : Bool) (client' : Client) → IsDueEpoch asker.client name (Some epoch) → spelled ≡ name
-        → exchanged stream (Query (Lookup spelled epoch)) frame later → GivesBody (Query (Lookup spelled epoch)) frame said (Some body) said'
+    pub tests_some : (said' said'' : Said) (body : List ℕ) (kept : Bool) (client' : Client) → IsDueEpoch asker.client name (Some epoch)
+        → exchanged stream (Query (Lookup name epoch)) frame later → GivesBody (Query (Lookup name epoch)) frame said (Some body) said'
         → TellsDue hash accepted asker.client name body said' kept said'' client'
         → TestsName hash accepted exchanged (scene asker said stream) name kept (record { client = client'; monitors = asker.monitors.items; told = report_of said''; stream = later })
-    tests_some said' said'' body kept client' due named exchange gives (found, dues, was, tells) =
-        let given = subst (λ (n : List ℕ). GivesBody (Query (Lookup n epoch)) frame said (Some body) said') named gives in
+    tests_some said' said'' body kept client' due exchange given (found, dues, was, tells) =
         inr (record {
           epoch = epoch;
           due = due;
           frame = frame;
-          exchange = subst (λ (n : List ℕ). exchanged stream (Query (Lookup n epoch)) frame later) named exchange;
+          exchange = exchange;
           told = due_told found;
           shows = inr (given.0, (found, subst (λ (b : List ℕ). Dues hash accepted asker.client name b found client') given.1 dues, was, refl));
           tells = told_onto said said'' (due_told found) (subst (λ (s : Said). Tells s (due_told found) said'') given.2 tells);

@@ -7,7 +7,8 @@ use Rattle.client.specs.Clients.{Client}
 use Rattle.memory.specs.Memories.{Memory}
 use Rattle.memory.specs.declared.item.Item.{Item}
 use Rattle.monitor.specs.Monitors.{Monitor}
-use Rattle.asking.specs.Saves.{stored_after, Act, Found, IsAsked, IsOwnPromise}
+use Rattle.rootchain.specs.declared.signed_promise.SignedPromise.{SignedPromise}
+use Rattle.asking.specs.Saves.{stored_after, noting, Act, Found, IsAsked, IsOwnPromise}
 use Rattle.asking.specs.Scenes.{Scene}
 use Rattle.asking.specs.Standing.{standing, IsLeft, Stands, StateIsKept, StateIsSaved, StateStands}
 use Rattle.asking.specs.declared.ask_fault.AskFault.{AskFault}
@@ -47,39 +48,42 @@ module _ (hash : List ℕ → List ℕ) (accepted verified : List ℕ → List �
         (appended (old ++ kept.text) front out' (subst (λ (o : Option (List ℕ)). Appends o out' front) kept.is-out appends)),
   )
 
-  stands-written : (epoch : ℕ) (known : Memory) (unsaved : List Item) (out out' : Option (List ℕ)) (client : Client) (monitors : List Monitor) (said : List ℕ) → Appends out out' said
-      → Stands hash accepted verified lines key start old Happened epoch known unsaved out (standing client monitors said) → Stands hash accepted verified lines key start old Happened epoch known unsaved out' (standing client monitors [])
-  stands-written epoch known unsaved out out' client monitors said appends stands = record {
+  stands-written : (epoch : ℕ) (known : Memory) (unsaved : List Item) (out out' : Option (List ℕ)) (noted : List SignedPromise) (client : Client) (monitors : List Monitor) (said : List ℕ) → Appends out out' said
+      → Stands hash accepted verified lines key start old Happened epoch known unsaved out noted (standing client monitors said) → Stands hash accepted verified lines key start old Happened epoch known unsaved out' noted (standing client monitors [])
+  stands-written epoch known unsaved out out' noted client monitors said appends stands = record {
     kept = kept-out hash accepted verified lines key start old Happened epoch known unsaved out stands.kept out' said
         (appended (old ++ stands.kept.text) said out' (subst (λ (o : Option (List ℕ)). Appends o out' said) stands.kept.is-out appends));
-    owns = owns-written hash accepted verified (IsAsked lines) (IsOwnPromise verified key lines start.known) start.known start.known.marks stands.kept.text (stored_after stands.kept.acts).roots known.marks (standing client monitors said) 0 stands.owns;
+    owns = owns-written hash accepted verified (IsAsked lines) (IsOwnPromise verified key lines start.known) (noting start.known noted) start.known.marks stands.kept.text (stored_after stands.kept.acts).roots known.marks (standing client monitors said) 0 stands.owns;
+    own = stands.own;
+    ascend = stands.ascend;
+    later = stands.later;
   }
 
   -- all that was said is
-  pub state-stands-written : (state : Option State) (out out' : Option (List ℕ)) (client : Client) (monitors : List Monitor) (said : List ℕ) → Appends out out' said
-      → StateStands hash accepted verified lines key start old Happened state out (standing client monitors said) → StateStands hash accepted verified lines key start old Happened state out' (standing client monitors [])
-  state-stands-written None out out' client monitors said appends stands = stands
-  state-stands-written (Some state) out out' client monitors said appends stands = stands-written state.epoch state.memory [] out out' client monitors said appends stands
+  pub state-stands-written : (state : Option State) (out out' : Option (List ℕ)) (noted : List SignedPromise) (client : Client) (monitors : List Monitor) (said : List ℕ) → Appends out out' said
+      → StateStands hash accepted verified lines key start old Happened state out noted (standing client monitors said) → StateStands hash accepted verified lines key start old Happened state out' noted (standing client monitors [])
+  state-stands-written None out out' noted client monitors said appends stands = stands
+  state-stands-written (Some state) out out' noted client monitors said appends stands = stands-written state.epoch state.memory [] out out' noted client monitors said appends stands
 
   pub saved-kept : (state : Option State) (out : Option (List ℕ)) → StateIsSaved hash accepted verified lines key start old Happened state out → StateIsKept hash accepted verified lines key start old Happened state out
   saved-kept None out saved = saved
   saved-kept (Some state) out saved = ([], saved)
 
   -- what was saved, or only in part after a fault
-  pub some-saved : {A E : Type 0} (result : Result A E) (state : State) (out : Option (List ℕ)) (now : Scene (Unit {0}))
-      → (unsaved : List Item) × Stands hash accepted verified lines key start old Happened state.epoch state.memory unsaved out now × OnOk result (unsaved ≡ [])
-      → StateIsKept hash accepted verified lines key start old Happened (Some state) out × OnOk result (StateStands hash accepted verified lines key start old Happened (Some state) out now)
-  some-saved (Ok done) state out now (unsaved, stands, all) =
-      ((unsaved, stands.kept), subst (λ (items : List Item). Stands hash accepted verified lines key start old Happened state.epoch state.memory items out now) all stands)
-  some-saved (Err fault) state out now (unsaved, stands, all) = ((unsaved, stands.kept), tt)
+  pub some-saved : {A E : Type 0} (result : Result A E) (state : State) (out : Option (List ℕ)) (noted : List SignedPromise) (now : Scene (Unit {0}))
+      → (unsaved : List Item) × Stands hash accepted verified lines key start old Happened state.epoch state.memory unsaved out noted now × OnOk result (unsaved ≡ [])
+      → StateIsKept hash accepted verified lines key start old Happened (Some state) out × OnOk result (StateStands hash accepted verified lines key start old Happened (Some state) out noted now)
+  some-saved (Ok done) state out noted now (unsaved, stands, all) =
+      ((unsaved, stands.kept), subst (λ (items : List Item). Stands hash accepted verified lines key start old Happened state.epoch state.memory items out noted now) all stands)
+  some-saved (Err fault) state out noted now (unsaved, stands, all) = ((unsaved, stands.kept), tt)
 
-  pub state-saved : (state : Option State) (out : Option (List ℕ)) (now : Scene (Unit {0})) → StateStands hash accepted verified lines key start old Happened state out now → StateIsSaved hash accepted verified lines key start old Happened state out
-  state-saved None out now stands = stands
-  state-saved (Some state) out now stands = stands.kept
+  pub state-saved : (state : Option State) (out : Option (List ℕ)) (noted : List SignedPromise) (now : Scene (Unit {0})) → StateStands hash accepted verified lines key start old Happened state out noted now → StateIsSaved hash accepted verified lines key start old Happened state out
+  state-saved None out noted now stands = stands
+  state-saved (Some state) out noted now stands = stands.kept
 
-  pub state-kept : (state : Option State) (out : Option (List ℕ)) (now : Scene (Unit {0})) → StateStands hash accepted verified lines key start old Happened state out now → StateIsKept hash accepted verified lines key start old Happened state out
-  state-kept None out now stands = stands
-  state-kept (Some state) out now stands = ([], stands.kept)
+  pub state-kept : (state : Option State) (out : Option (List ℕ)) (noted : List SignedPromise) (now : Scene (Unit {0})) → StateStands hash accepted verified lines key start old Happened state out noted now → StateIsKept hash accepted verified lines key start old Happened state out
+  state-kept None out noted now stands = stands
+  state-kept (Some state) out noted now stands = ([], stands.kept)
 
   pub state-left : (state : Option State) (out : Option (List ℕ)) → StateIsKept hash accepted verified lines key start old Happened state out → IsLeft hash accepted verified lines key old Happened state out
   state-left None out kept = kept

@@ -9,6 +9,7 @@ pub record AskOptions : Type 0 where
   pub state : Option (List ℕ)
   pub address : List ℕ
   pub words : List (Option (List ℕ))
+  pub after : Option ℕ
 
 abbrev pub ask_values : AskOrder → AskOptions
 ask_values order = record {
@@ -16,7 +17,8 @@ ask_values order = record {
   token = option_map (λ text. text.now) order.token;
   state = option_map (λ text. text.now) order.state;
   address = order.address.now;
-  words = option_map (λ text. text.now) order.command ∷ option_map (λ text. text.now) order.first ∷ option_map (λ text. text.now) order.second ∷ option_map (λ text. text.now) order.third ∷ [];
+  words = option_map (λ text. text.now) order.command ∷ option_map (λ text. text.now) order.first ∷ option_map (λ text. text.now) order.second ∷ [];
+  after = order.after;
 }
 
 -- the key and the token, zeros if none is given; none if a text is not 64 hexadecimal digits

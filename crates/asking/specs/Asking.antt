@@ -16,6 +16,8 @@ use Rattle.wire.specs.Responses.{ResponseContent, Promise, Proof, Roots, Root, R
 use Rattle.wire.specs.declared.message_refusals.ReadRefusal.{ReadRefusal}
 use Rattle.play.specs.Scripts.{with_token}
 use Rattle.memory.specs.declared.mark.Mark.{Mark}
+use Rattle.asking.specs.declared.ask_fault.AskFault.{AskFault}
+use Rattle.asking.specs.declared.ask_fault.AskFault.TheVariants.{OutOfMemory}
 use Rattle.asking.specs.Answering.{IsAnswerAt}
 use Rattle.asking.specs.Checking.{HearsFrame}
 use Rattle.asking.specs.Following.{Follows, StopsAfter, TakesSome}
@@ -155,9 +157,10 @@ module _ (hash : List ℕ → List ℕ) (accepted verified : List ℕ → List �
     abbrev pub CatchesSome : ℕ → Scene T → Scene T → Type 0
     CatchesSome epoch before after = (head : SignedRoot) × IsHead before.client.chain head × (head.body.epoch < epoch) × TakesSome hash verified exchanged before after
 
-    -- what the client makes of a frame is told and perhaps noted, and the monitors are given nothing of it yet
-    abbrev pub HearsOnly : ℕ → RequestContent → Frame → List SignedPromise → List SignedPromise → Scene T → Scene T → Type 0
-    HearsOnly held asked frame noted noted' before after = ((noted' ≡ noted) ⊎ Notes asked before.client.promises after.client.promises noted noted') × (told : Report) × HearsFrame hash accepted verified held before.client asked frame told after.client
+    -- what the client makes of a frame is told, and the monitors are given nothing of it yet; it is noted only where the fault is
+    -- that memory ran out
+    abbrev pub HearsOnly : AskFault → ℕ → RequestContent → Frame → List SignedPromise → List SignedPromise → Scene T → Scene T → Type 0
+    HearsOnly fault held asked frame noted noted' before after = ((noted' ≡ noted) ⊎ ((fault ≡ OutOfMemory) × Notes asked before.client.promises after.client.promises noted noted')) × (told : Report) × HearsFrame hash accepted verified held before.client asked frame told after.client
         × (after.told ≡ told_after before.told told) × (after.monitors ≡ before.monitors) × (after.stream ≡ before.stream)
 
     -- the chain has epochs above this one, and monitors and promises are at some point
@@ -165,21 +168,21 @@ module _ (hash : List ℕ → List ℕ) (accepted verified : List ℕ → List �
     GoesSomeAbove marks epoch before after = (head : SignedRoot) × IsHead before.client.chain head × (epoch < head.body.epoch) × GoesSome hash accepted exchanged marks before after
 
     -- a frame is heard, up to some point: it is not told yet; it is told; or monitors and promises go on
-    abbrev pub HearsSome : List Mark → ℕ → RequestContent → Frame → List SignedPromise → List SignedPromise → Scene T → Scene T → Type 0
-    HearsSome marks epoch asked frame noted noted' before after = ((noted' ≡ noted) × (after ≡ before)) ⊎ (HearsOnly epoch asked frame noted noted' before after
+    abbrev pub HearsSome : AskFault → List Mark → ℕ → RequestContent → Frame → List SignedPromise → List SignedPromise → Scene T → Scene T → Type 0
+    HearsSome fault marks epoch asked frame noted noted' before after = ((noted' ≡ noted) × (after ≡ before)) ⊎ (HearsOnly fault epoch asked frame noted noted' before after
         ⊎ ((heard : Scene T) × HearsOne epoch asked frame before heard × Notes asked before.client.promises heard.client.promises noted noted' × GoesSomeAbove marks epoch heard after))
 
     -- The line gets a reply. Then the steps of AsksDirectory, up to some point.
-    pub record AsksOn (marks : List Mark) (token : List ℕ) (asked : RequestContent) (noted noted' : List SignedPromise) (before after : Scene T) : Type 0 where
+    pub record AsksOn (fault : AskFault) (marks : List Mark) (token : List ℕ) (asked : RequestContent) (noted noted' : List SignedPromise) (before after : Scene T) : Type 0 where
       pub reply : GetsReply exchanged token asked before
       pub steps : ((noted' ≡ noted) × CatchesSome reply.epoch (replied reply) after)
-          ⊎ ((ready : Scene T) × CatchesUp reply.epoch (replied reply) ready × HearsSome marks reply.head.body.epoch asked reply.frame noted noted' ready after)
+          ⊎ ((ready : Scene T) × CatchesUp reply.epoch (replied reply) ready × HearsSome fault marks reply.head.body.epoch asked reply.frame noted noted' ready after)
 
     -- no frame comes back, or the chain is on its way to the latest root, or is there
     abbrev pub FindsSome : List ℕ → Scene T → Scene T → Type 0
     FindsSome token before after = (after ≡ before)
         ⊎ ((reply : GetsReply exchanged token (Query Head) before) × (CatchesSome reply.epoch (replied reply) after ⊎ CatchesUp reply.epoch (replied reply) after))
 
-    -- no frame comes back, or the steps of a line are at some point
-    abbrev pub AsksSome : List Mark → List ℕ → RequestContent → List SignedPromise → List SignedPromise → Scene T → Scene T → Type 0
-    AsksSome marks token asked noted noted' before after = ((noted' ≡ noted) × (after ≡ before)) ⊎ AsksOn marks token asked noted noted' before after
+    -- no frame comes back, or the steps of a line are at some point, where a fault comes
+    abbrev pub AsksSome : AskFault → List Mark → List ℕ → RequestContent → List SignedPromise → List SignedPromise → Scene T → Scene T → Type 0
+    AsksSome fault marks token asked noted noted' before after = ((noted' ≡ noted) × (after ≡ before)) ⊎ AsksOn fault marks token asked noted noted' before after

@@ -1,30 +1,41 @@
 -- How a run ends: whole, stopped, or with a fault.
-use Rattle.std.specs.Prelude.{◌≡◌, ◌⊎◌, ◌<◌, ◌≤◌, ℕ, List, [], ◌∷◌, ◌++◌, nat_lt, if◌then◌else◌, Option, Some, None, IfSome}
+use Rattle.std.specs.Prelude.{◌≡◌, ◌⊎◌, ◌↔◌, ◌<◌, ◌≤◌, ℕ, List, [], ◌∷◌, ◌++◌, nat_lt, if◌then◌else◌, Option, Some, None, Result, Err, IfSome}
 use Rattle.std.specs.Io.KnownBytes.{Appends, Keeps}
-use Rattle.std.specs.declared.net.tcp.TcpStream.{TcpStream}
 use Rattle.nodehash.specs.Sha256.{sha256}
 use Rattle.vrfiface.specs.StandIns.{KeyedAccepts}
 use Rattle.sigiface.specs.StandIn.{KeyedVerifies}
+use Rattle.client.specs.Clients.{Client}
 use Rattle.rootchain.specs.declared.signed_promise.SignedPromise.{SignedPromise}
 use Rattle.textio.specs.Output.{WritesSome}
 use Rattle.textio.specs.declared.program_fault.ProgramFault.{ProgramFault}
-use Rattle.textio.specs.declared.program_fault.ProgramFault.TheVariants.{CannotWrite}
+use Rattle.textio.specs.declared.program_fault.ProgramFault.TheVariants.{CannotWrite, OutOfMemory}
 use Rattle.wire.specs.Frames.{Frame}
 use Rattle.commands.specs.Operations.{Head}
 use Rattle.wire.specs.Requests.{RequestContent, Query}
 use Rattle.play.specs.Scripts.{ScriptLine, Pass, Ask, Watch, Piece, End, line_of}
 use Rattle.asking.specs.AskOptions.{AskOptions, ask_keys_of}
+use Rattle.asking.specs.declared.ask_fault.AskFault.{AskFault}
 use Rattle.asking.specs.Asking.{AsksSome, FindsSome, StopsAsking}
 use Rattle.asking.specs.Exchanges.{ExchangesFrames}
 use Rattle.asking.specs.Following.{StopsAfter, TakesSome}
 use Rattle.asking.specs.Joining.{own_for, BeginsSome}
-use Rattle.asking.specs.Reports.{Report}
-use Rattle.asking.specs.Runs.{AsksLines, StartsRun, DoesLine, DoesLineNoting, emptied, Background, lines_asked, Prepares, RunsWhole, TakesNew, Writes}
+use Rattle.asking.specs.Lateness.{stale_line, HasEpoch, HasNotedAs, IsLast, IsLimitOf, IsStale}
+use Rattle.asking.specs.Marking.{IsUnlooked}
+use Rattle.asking.specs.Reports.{Report, report_of}
+use Rattle.asking.specs.RunFaults.{IsFaultOfState}
+use Rattle.asking.specs.Runs.{AsksLines, StartsRun, DoesLine, DoesLineNoting, emptied, Background, IsSoundFor, lines_asked, Prepares, RunsWhole, TakesNew, words_line, Writes, written}
 use Rattle.asking.specs.Scenes.{Scene, StopsAtHead}
 use Rattle.asking.specs.Settling.{IsSettling, Settles, SettlesPart}
+use Rattle.asking.specs.Standing.{IsFresh}
 use Rattle.asking.specs.Visiting.{TestsSome}
+use Rattle.asking.specs.declared.ask_fault.RunFault.{RunFault}
+use Rattle.asking.specs.declared.ask_fault.RunFault.TheVariants.{Program}
+use Rattle.asking.specs.declared.connecting.Connection.{Connection}
+use Rattle.asking.specs.declared.lateness.Limit.{Limit}
+use Rattle.asking.specs.declared.run.Run.{Run}
+use Rattle.memory.specs.declared.mark.Mark.{Mark}
 use Rattle.asking.specs.declared.run.RunEnd.{RunEnd}
-use Rattle.asking.specs.declared.run.RunEnd.TheVariants.{Whole, Stopped, Unwritten}
+use Rattle.asking.specs.declared.run.RunEnd.TheVariants.{Whole, Stopped, Unwritten, Stale}
 use Rattle.asking.specs.declared.said.Said.{Said}
 use Rattle.asking.specs.declared.said.TheConstants.{CAUGHT, REFUSED}
 
@@ -33,6 +44,19 @@ abbrev pub end_status : RunEnd → ℕ
 end_status (Whole status) = status
 end_status (Stopped status) = status
 end_status Unwritten = CAUGHT
+end_status (Stale epoch) = CAUGHT
+
+-- a run of an order that begins
+abbrev pub IsNewFor : AskOptions → Run → Type 0
+IsNewFor options run = ((run.state ≡ None) ↔ (options.state ≡ None)) × IsFresh run.state × (report_of run.said ≡ emptied 0) × IsLimitOf options run.limit × (run.limit.last ≡ None) × IsUnlooked run.state
+
+-- a fault where nothing may be known of the last epoch: memory ran out, or the state could not be read
+abbrev pub IsUnknown : Type 0 → ProgramFault → Type 0
+IsUnknown HasNoState fault = (fault ≡ OutOfMemory) ⊎ ((¬ HasNoState) × IsFaultOfState fault)
+
+-- the state could not be read: nothing was noted, and no evidence or alarm told
+abbrev pub LoadsNone : {A : Type 0} → Type 0 → Result A RunFault → Limit → Limit → ℕ → Type 0
+LoadsNone HasNoState result before after status = (fault : ProgramFault) × (result ≡ Err (Program fault)) × (¬ HasNoState) × IsFaultOfState fault × (after.last ≡ before.last) × (status < CAUGHT)
 
 -- the status of a run that was stopped: that of evidence or an alarm, if some was told, or else that of a refusal
 abbrev pub stopped_status : ℕ → ℕ
@@ -55,10 +79,17 @@ abbrev pub EndsWith : Type 0 → Said → Option (List ℕ) → Option (List ℕ
 EndsWith Failed said old new (Whole status) = ⊥
 EndsWith Failed said old new (Stopped status) = (status ≡ stopped_status said.status) × (¬ Failed) × Appends old new said.text.items
 EndsWith Failed said old new Unwritten = (CAUGHT ≤ said.status) × WritesSome old new said.text.items
+EndsWith Failed said old new (Stale epoch) = ⊥
 
 -- and so does a fault at its end
 abbrev pub FailsWith : Type 0 → Said → Option (List ℕ) → Option (List ℕ) → ProgramFault → Type 0
 FailsWith Failed said old new fault = (said.status < CAUGHT) × (((¬ Failed) × Appends old new said.text.items) ⊎ ((fault ≡ CannotWrite) × WritesSome old new said.text.items))
+
+-- where a run did not begin, 0 was noted; or the last epoch of a client with the chain of a state; or nothing, as it could not be read
+abbrev pub NotesFirst : {A : Type 0} → (List ℕ → List ℕ) → (List ℕ → List ℕ → List ℕ → Type 0) → (List ℕ → List ℕ → List ℕ → Type 0) → List ℕ → Type 0 → Result A RunFault → Limit → Limit → ℕ → Type 0
+NotesFirst hash accepted verified key HasNoState result before after status = (after.last ≡ Some 0)
+    ⊎ (((¬ HasNoState) × ((marks : List Mark) × (client : Client) × IsSoundFor hash accepted verified key client × HasNotedAs (IsLast marks client []) after))
+    ⊎ LoadsNone HasNoState result before after status)
 
 module _ (hash : List ℕ → List ℕ) (accepted verified : List ℕ → List ℕ → List ℕ → Type 0) {T : Type 0} (exchanged : T → RequestContent → Frame → T → Type 0) where
   module _ (background : Background) where
@@ -78,7 +109,7 @@ module _ (hash : List ℕ → List ℕ) (accepted verified : List ℕ → List �
     abbrev pub DoesPart : ScriptLine → Scene T → Scene T → Type 0
     DoesPart Pass before reached = ⊥
     DoesPart (Ask asked) before reached = StopsAsking hash accepted verified exchanged background.token asked before reached
-        ⊎ ((noted : List SignedPromise) × (noted' : List SignedPromise) × AsksSome hash accepted verified exchanged background.marks background.token asked noted noted' before reached)
+        ⊎ ((fault : AskFault) × (noted : List SignedPromise) × (noted' : List SignedPromise) × AsksSome hash accepted verified exchanged fault background.marks background.token asked noted noted' before reached)
     DoesPart (Watch name given) before reached = (noted : List SignedPromise)
         × BeginsSome hash accepted verified exchanged background.known background.marks background.key (own_for background.marks name background.earlier noted) name given before reached
     DoesPart (Piece session piece) before reached = ⊥
@@ -89,18 +120,18 @@ module _ (hash : List ℕ → List ℕ) (accepted verified : List ℕ → List �
     DoesSome said before reached = (reached ≡ before) ⊎ (DoesLine hash accepted verified exchanged background said before reached ⊎ DoesPart said before reached)
 
     -- the same two, where the first promises are noted before it, and the second behind it
-    abbrev pub DoesPartNoting : ScriptLine → List SignedPromise → List SignedPromise → Scene T → Scene T → Type 0
-    DoesPartNoting Pass noted noted' before reached = ⊥
-    DoesPartNoting (Ask asked) noted noted' before reached = (StopsAsking hash accepted verified exchanged background.token asked before reached × (noted' ≡ noted))
-        ⊎ AsksSome hash accepted verified exchanged background.marks background.token asked noted noted' before reached
-    DoesPartNoting (Watch name given) noted noted' before reached =
+    abbrev pub DoesPartNoting : AskFault → ScriptLine → List SignedPromise → List SignedPromise → Scene T → Scene T → Type 0
+    DoesPartNoting fault Pass noted noted' before reached = ⊥
+    DoesPartNoting fault (Ask asked) noted noted' before reached = (StopsAsking hash accepted verified exchanged background.token asked before reached × (noted' ≡ noted))
+        ⊎ AsksSome hash accepted verified exchanged fault background.marks background.token asked noted noted' before reached
+    DoesPartNoting fault (Watch name given) noted noted' before reached =
         BeginsSome hash accepted verified exchanged background.known background.marks background.key (own_for background.marks name background.earlier noted) name given before reached × (noted' ≡ noted)
-    DoesPartNoting (Piece session piece) noted noted' before reached = ⊥
-    DoesPartNoting (End session) noted noted' before reached = ⊥
+    DoesPartNoting fault (Piece session piece) noted noted' before reached = ⊥
+    DoesPartNoting fault (End session) noted noted' before reached = ⊥
 
-    abbrev pub DoesSomeNoting : ScriptLine → List SignedPromise → List SignedPromise → Scene T → Scene T → Type 0
-    DoesSomeNoting said noted noted' before reached = ((reached ≡ before) × (noted' ≡ noted))
-        ⊎ (DoesLineNoting hash accepted verified exchanged background said noted noted' before reached ⊎ DoesPartNoting said noted noted' before reached)
+    abbrev pub DoesSomeNoting : AskFault → ScriptLine → List SignedPromise → List SignedPromise → Scene T → Scene T → Type 0
+    DoesSomeNoting fault said noted noted' before reached = ((reached ≡ before) × (noted' ≡ noted))
+        ⊎ (DoesLineNoting hash accepted verified exchanged background said noted noted' before reached ⊎ DoesPartNoting fault said noted noted' before reached)
 
     abbrev pub AsksSomeLine : List ℕ → Scene T → Scene T → Type 0
     AsksSomeLine line before reached = (reached ≡ before) ⊎ ((said : ScriptLine) × (line_of line ≡ Some said) × DoesSome said before reached)
@@ -128,40 +159,79 @@ module _ (hash : List ℕ → List ℕ) (accepted verified : List ℕ → List �
         ⊎ ((ready : Scene T) × (next : Option (List ℕ)) × Writes (Prepares hash accepted verified exchanged background HasNoState) start old next ready
         × IfSome (lines_asked options.words input) (λ lines. AsksPart lines ready told next now))
 
-  -- A run that ends before all is asked: no client starts, or it ends at such a place. Then this holds of what
-  -- was told and is not yet written, and of the output before that.
-  abbrev pub EndsEarly : List ℕ → List ℕ → AskOptions → Type 0 → T → Option (List ℕ) → Option (List ℕ) → (Report → Option (List ℕ) → Type 0) → Type 0
-  EndsEarly key token options HasNoState stream input old Then = (told : Report) × (now : Option (List ℕ)) × Then told now
-      × ((BeginsNone verified exchanged key stream (emptied 0) told × (now ≡ old))
-      ⊎ ((background : Background) × (start : Scene T) × StartsRun hash accepted verified exchanged key token HasNoState stream background start × RunEndsAt background options HasNoState input start old told now))
+    -- a scene of a run of words: it begins; what is new is followed, up to some point; or, behind that, the words are asked so
+    abbrev pub Sees : AskOptions → Type 0 → Scene T → Scene T → Type 0
+    Sees options HasNoState start seen = (seen ≡ start) ⊎ (PreparesSome HasNoState start seen
+        ⊎ ((done : Scene T) × Prepares hash accepted verified exchanged background HasNoState start done × AsksSomeLine (words_line options.words) (written done) seen))
 
-  -- A run that is whole, or was stopped: all that was told is then written, and the status is that of evidence or an alarm
-  -- exactly where some was told. Or a write failed, and some was told: a beginning is written.
-  abbrev pub RunsAs : List ℕ → List ℕ → AskOptions → Type 0 → T → T → Option (List ℕ) → RunEnd → Option (List ℕ) → Option (List ℕ) → Type 0
-  RunsAs key token options HasNoState stream stream' input (Whole status) old new = RunsWhole hash accepted verified exchanged key token options HasNoState stream stream' input status old new
-  RunsAs key token options HasNoState stream stream' input (Stopped status) old new =
-      EndsEarly key token options HasNoState stream input old (λ told now. (status ≡ stopped_status told.status) × Appends now new told.lines)
-  RunsAs key token options HasNoState stream stream' input Unwritten old new =
-      EndsEarly key token options HasNoState stream input old (λ told now. (CAUGHT ≤ told.status) × WritesSome now new told.lines)
+  -- the last epoch, where it is wanted, in a scene, and this holds of what it has to be above and of it
+  abbrev pub HasLast : AskOptions → List Mark → Scene T → (ℕ → ℕ → Type 0) → Type 0
+  HasLast options marks last Holds = HasEpoch options (IsLast marks last.client last.monitors) Holds
+
+  -- where no run began, it is 0, or that of a client with the chain of a state
+  abbrev pub HasFirst : List ℕ → AskOptions → Type 0 → (ℕ → ℕ → Type 0) → Type 0
+  HasFirst key options HasNoState Holds = HasEpoch options (λ about epoch. epoch ≡ 0) Holds
+      ⊎ ((¬ HasNoState) × ((marks : List Mark) × (client : Client) × IsSoundFor hash accepted verified key client × HasEpoch options (IsLast marks client []) Holds))
+
+  -- A run that ends before all is asked: no client starts, or it ends at such a place. Then this holds of what
+  -- was told and is not yet written, and of the output before that. The last epoch is that of a scene of the run, or not known.
+  abbrev pub EndsEarly : List ℕ → List ℕ → AskOptions → Type 0 → T → Option (List ℕ) → Option (List ℕ) → (ℕ → ℕ → Type 0) → Type 0 → (Report → Option (List ℕ) → Type 0) → Type 0
+  EndsEarly key token options HasNoState stream input old Holds Unknown Then = (told : Report) × (now : Option (List ℕ)) × Then told now
+      × ((BeginsNone verified exchanged key stream (emptied 0) told × (now ≡ old) × (Unknown ⊎ HasFirst key options HasNoState Holds))
+      ⊎ ((background : Background) × (start : Scene T) × StartsRun hash accepted verified exchanged key token HasNoState stream background start × RunEndsAt background options HasNoState input start old told now
+      × ((seen : Scene T) × Sees background options HasNoState start seen × HasLast options background.marks seen Holds)))
+
+  -- a whole run, with such a last epoch at its end
+  abbrev pub RunsLate : List ℕ → List ℕ → AskOptions → Type 0 → T → T → Option (List ℕ) → (ℕ → ℕ → Type 0) → ℕ → Option (List ℕ) → Option (List ℕ) → Type 0
+  RunsLate key token options HasNoState stream stream' input Holds status old new =
+      (run : RunsWhole hash accepted verified exchanged key token options HasNoState stream stream' input status old new) × HasLast options run.background.marks run.last Holds
+
+  -- All was asked, or this was stopped: all that was told is then written, and the status is that of evidence or an alarm
+  -- exactly where some was told. Or a write failed, and some was told: a beginning is written. This holds of the last epoch.
+  abbrev pub AsksAs : List ℕ → List ℕ → AskOptions → Type 0 → T → T → Option (List ℕ) → (ℕ → ℕ → Type 0) → RunEnd → Option (List ℕ) → Option (List ℕ) → Type 0
+  AsksAs key token options HasNoState stream stream' input Holds (Whole status) old new = RunsLate key token options HasNoState stream stream' input Holds status old new
+  AsksAs key token options HasNoState stream stream' input Holds (Stopped status) old new =
+      EndsEarly key token options HasNoState stream input old Holds ⊥ (λ told now. (status ≡ stopped_status told.status) × Appends now new told.lines)
+  AsksAs key token options HasNoState stream stream' input Holds Unwritten old new =
+      EndsEarly key token options HasNoState stream input old Holds ⊥ (λ told now. (CAUGHT ≤ told.status) × WritesSome now new told.lines)
+  AsksAs key token options HasNoState stream stream' input Holds (Stale epoch) old new = ⊥
 
   -- a run that ends with a fault: neither evidence nor an alarm was told, and all that was told is written unless a write failed
-  abbrev pub FailsAs : List ℕ → List ℕ → AskOptions → Type 0 → T → Option (List ℕ) → ProgramFault → Option (List ℕ) → Option (List ℕ) → Type 0
-  FailsAs key token options HasNoState stream input fault old new =
-      EndsEarly key token options HasNoState stream input old (λ told now. (told.status < CAUGHT) × WritesUnless (fault ≡ CannotWrite) now new told.lines)
+  abbrev pub FailsLate : List ℕ → List ℕ → AskOptions → Type 0 → T → Option (List ℕ) → (ℕ → ℕ → Type 0) → Type 0 → ProgramFault → Option (List ℕ) → Option (List ℕ) → Type 0
+  FailsLate key token options HasNoState stream input Holds Unknown fault old new =
+      EndsEarly key token options HasNoState stream input old Holds Unknown (λ told now. (told.status < CAUGHT) × WritesUnless (fault ≡ CannotWrite) now new told.lines)
 
--- A run over a socket, of which definitions know neither what it took nor what it will give: nothing is written, as
--- where no connection came about; or a name is settled, and nothing is asked; or the run is one for some frames that
--- came.
+  -- the same, where the last epoch is above what the order says, or may be unknown
+  abbrev pub FailsAs : List ℕ → List ℕ → AskOptions → Type 0 → T → Option (List ℕ) → ProgramFault → Option (List ℕ) → Option (List ℕ) → Type 0
+  FailsAs key token options HasNoState stream input fault old new = FailsLate key token options HasNoState stream input (λ after last. after < last) (IsUnknown HasNoState fault) fault old new
+
+  -- it is asked in one of these ways, with a last epoch that the order does not want, and this holds of what is written then
+  abbrev pub EndsStale : List ℕ → List ℕ → AskOptions → Type 0 → T → T → Option (List ℕ) → ℕ → Option (List ℕ) → (Option (List ℕ) → Type 0) → Type 0
+  EndsStale key token options HasNoState stream stream' input epoch old Then = IsStale options epoch × ((now : Option (List ℕ)) × Then now
+      × (((ended : RunEnd) × AsksAs key token options HasNoState stream stream' input (λ after last. last ≡ epoch) ended old now)
+      ⊎ ((fault : ProgramFault) × FailsLate key token options HasNoState stream input (λ after last. last ≡ epoch) ⊥ fault old now)))
+
+  -- A run that was asked so. Where the last epoch is wanted, it is above what the order says, or this is told behind all else,
+  -- wholly, or in part where a write failed.
+  abbrev pub RunsAs : List ℕ → List ℕ → AskOptions → Type 0 → T → T → Option (List ℕ) → RunEnd → Option (List ℕ) → Option (List ℕ) → Type 0
+  RunsAs key token options HasNoState stream stream' input (Whole status) old new = AsksAs key token options HasNoState stream stream' input (λ after last. after < last) (Whole status) old new
+  RunsAs key token options HasNoState stream stream' input (Stopped status) old new = AsksAs key token options HasNoState stream stream' input (λ after last. after < last) (Stopped status) old new
+  RunsAs key token options HasNoState stream stream' input Unwritten old new =
+      AsksAs key token options HasNoState stream stream' input (λ after last. after < last) Unwritten old new
+      ⊎ ((epoch : ℕ) × EndsStale key token options HasNoState stream stream' input epoch old (λ now. WritesSome now new (stale_line epoch)))
+  RunsAs key token options HasNoState stream stream' input (Stale epoch) old new = EndsStale key token options HasNoState stream stream' input epoch old (λ now. Appends now new (stale_line epoch))
+
+-- A run over a connection, of which definitions know neither whether it came about, nor what it took or will give: a name is
+-- settled, and nothing is asked; or the run is one for some frames that came.
 abbrev pub AsksOverSocket : AskOptions → Option (List ℕ) → ℕ → Option (List ℕ) → Option (List ℕ) → Type 0
-AsksOverSocket options input status old new = ((status ≡ REFUSED) × Keeps old new)
-    ⊎ (((name : List ℕ) × IsSettling options name × Settles name status old new)
-    ⊎ ((key token : List ℕ) × (ask_keys_of options ≡ Some (key, token)) × (socket socket' : TcpStream) × (ended : RunEnd) × (status ≡ end_status ended)
-    × RunsAs sha256 KeyedAccepts KeyedVerifies (ExchangesFrames {T = TcpStream} (λ _. None) (λ _. None)) key token options (options.state ≡ None) socket socket' input ended old new))
+AsksOverSocket options input status old new = ((name : List ℕ) × IsSettling options name × Settles name status old new)
+    ⊎ ((key token : List ℕ) × (ask_keys_of options ≡ Some (key, token)) × (socket socket' : Connection) × (ended : RunEnd) × (status ≡ end_status ended)
+    × RunsAs sha256 KeyedAccepts KeyedVerifies (ExchangesFrames {T = Connection} (λ _. None) (λ _. None)) key token options (options.state ≡ None) socket socket' input ended old new)
 
 -- one that ends with a fault: nothing is written, or some of what settling a name tells, or the run is one for some
 -- frames that came
 abbrev pub FailsOverSocket : AskOptions → Option (List ℕ) → ProgramFault → Option (List ℕ) → Option (List ℕ) → Type 0
 FailsOverSocket options input fault old new = Keeps old new
     ⊎ (((name : List ℕ) × IsSettling options name × SettlesPart name old new)
-    ⊎ ((key token : List ℕ) × (ask_keys_of options ≡ Some (key, token)) × (socket : TcpStream)
-    × FailsAs sha256 KeyedAccepts KeyedVerifies (ExchangesFrames {T = TcpStream} (λ _. None) (λ _. None)) key token options (options.state ≡ None) socket input fault old new))
+    ⊎ ((key token : List ℕ) × (ask_keys_of options ≡ Some (key, token)) × (socket : Connection)
+    × FailsAs sha256 KeyedAccepts KeyedVerifies (ExchangesFrames {T = Connection} (λ _. None) (λ _. None)) key token options (options.state ≡ None) socket input fault old new))

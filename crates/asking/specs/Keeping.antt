@@ -1,11 +1,11 @@
 -- What a run adds to what is remembered.
-use Rattle.std.specs.Prelude.{◌≡◌, ◌≢◌, ◌⊎◌, ℕ, true, false, List, ◌++◌, drop, length, map, Option, None, Some, Result, Ok, Err, ⊤}
+use Rattle.std.specs.Prelude.{◌≡◌, ◌≢◌, ◌⊎◌, ℕ, true, false, List, [], ◌++◌, drop, length, map, Option, None, Some, Result, Ok, Err, ⊤}
 use Rattle.textio.specs.Lines.{lines_of}
 use Rattle.rootchain.specs.Chains.{IsHead, KeyedRoots}
 use Rattle.rootchain.specs.declared.signed_promise.SignedPromise.{SignedPromise}
 use Rattle.rootchain.specs.declared.signed_root.SignedRoot.{SignedRoot}
 use Rattle.monitor.specs.Monitors.{Monitor}
-use Rattle.memory.specs.Learning.{promised_item, BeginsOne, Each, IsFresh, LearnsLine, LearnsOne, MarksOne}
+use Rattle.memory.specs.Learning.{promised_item, AreGone, BeginsOne, Each, IsFresh, LearnsLine, LearnsOne, MarksOne}
 use Rattle.memory.specs.Memories.{Memory}
 use Rattle.memory.specs.declared.item.Item.{Item}
 use Rattle.memory.specs.declared.kind.Kind.TheVariants.{Alarms, EvidenceLines}
@@ -22,6 +22,10 @@ abbrev pub LearnsPromises : List SignedPromise → List SignedPromise → Memory
 LearnsPromises own kept before news after = (fresh : List SignedPromise) × IsFresh before kept fresh
     × ((first : List Item) × (middle : Memory) × (rest : List Item) × Each LearnsOne (map (promised_item true) own) before first middle
     × Each LearnsOne (map (promised_item false) fresh) middle rest after × (news ≡ first ++ rest))
+
+-- these were tested: once some were, those that are remembered and that the client no longer keeps
+abbrev pub AreTested : State → List SignedPromise → Type 0
+AreTested state tested = ((state.has_tested ≡ false) × (tested ≡ [])) ⊎ ((state.has_tested ≡ true) × AreGone state.memory state.kept.items tested)
 
 -- before it is told: the evidence in what will be told, promises, and from where new monitors watch
 abbrev pub LearnsBefore : List SignedPromise → List SignedPromise → List ℕ → List Monitor → Memory → Memory → Type 0

@@ -7,6 +7,7 @@ pub mod Ending
 pub mod Exchanges
 pub mod Following
 pub mod Joining
+pub mod Marking
 pub mod Recalled
 pub mod Refused
 pub mod Scenes
@@ -17,6 +18,7 @@ pub mod Reports
 pub mod RunFaults
 pub mod Remembering
 pub mod Keeping
+pub mod Lateness
 pub mod Owning
 pub mod Runs
 pub mod Saves

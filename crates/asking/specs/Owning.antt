@@ -1,7 +1,6 @@
 -- Where the monitors and the marks of a run stand to the client's chain, and to what was told.
 use Rattle.std.specs.Prelude.{◌≡◌, ◌⊎◌, ℕ, ◌<◌, ◌≤◌, List, ◌++◌, Contains, Option}
 use Rattle.std.specs.List.{AllByRecursion}
-use Rattle.encoding.specs.declared.bound_key.BoundKey.{BoundKey}
 use Rattle.rootchain.specs.declared.signed_promise.SignedPromise.{SignedPromise}
 use Rattle.rootchain.specs.declared.signed_root.SignedRoot.{SignedRoot}
 use Rattle.rootchain.specs.Chains.{IsChain, IsHead, KeyedRoots}
@@ -13,7 +12,7 @@ use Rattle.memory.specs.Memories.{Memory}
 use Rattle.memory.specs.declared.mark.Mark.{Mark}
 use Rattle.monitor.specs.Monitors.{Monitor}
 use Rattle.asking.specs.Scenes.{Scene}
-use Rattle.asking.specs.Saves.{Counts, WasOwn}
+use Rattle.asking.specs.Saves.{Counts, IsOwnAhead, WasOwn}
 use Rattle.asking.specs.Told.{ExpectsAt, HasBody, IsTold, TellsEpoch}
 
 -- each root of the chain above an epoch is this one or a later one
@@ -29,31 +28,31 @@ abbrev pub HasJoined : KeyedRoots → List Monitor → Mark → Type 0
 HasJoined chain monitors mark = (monitor : Monitor) × Contains monitors monitor × (monitor.name ≡ mark.name)
     × ((first : SignedRoot) → IsFirst monitor.client.chain first → IsLeastAbove chain mark.epoch first)
 
--- a change is expected that was remembered as the owner's own, of this epoch or a later one
-abbrev pub HasChange : Memory → List ℕ → List (ℕ × BoundKey) → ℕ → Type 0
-HasChange start name changes epoch = (change : ℕ × BoundKey) × Contains changes change × (epoch ≤ change.0)
-    × ((was : SignedPromise) × WasOwn start was × (was.promise.name ≡ name) × (was.promise.epoch ≡ change.0))
+-- a change of this epoch is expected
+abbrev pub HasChange : List (ℕ × List ℕ) → ℕ → Type 0
+HasChange changes epoch = (change : ℕ × List ℕ) × Contains changes change × (change.0 ≡ epoch)
 
-module _ (Given : List ℕ → Option BoundKey → Type 0) (Own : SignedPromise → Type 0) (start : Memory) where
+module _ (Given : List ℕ → Option (List ℕ) → Type 0) (Own : SignedPromise → Type 0) (start : Memory) where
   -- the change is one of the owner's own, with the epoch and the key of its promise
-  abbrev pub IsOwnChange : List ℕ → ℕ × BoundKey → Type 0
-  IsOwnChange name change = (signed : SignedPromise) × Own signed × (signed.promise.name ≡ name) × (signed.promise.epoch ≡ change.0) × (signed.promise.key ≡ change.1)
+  abbrev pub IsOwnChange : List ℕ → ℕ × List ℕ → Type 0
+  IsOwnChange name change = (signed : SignedPromise) × IsOwnAhead Own start signed × (signed.promise.name ≡ name) × (signed.promise.epoch ≡ change.0) × (signed.promise.key ≡ change.1)
 
   -- The watch of a monitor whose chain begins with this root: it expects there what the owner does, and later changes of the
-  -- owner's own, among them each that was remembered at the start, or a later one that was.
+  -- owner's own, among them one of the epoch of each that counts.
   pub record IsOwners (name : List ℕ) (first : SignedRoot) (watch : Watch) : Type 0 where
-    pub begins : ExpectsAt Given Own (Counts start) name first.body.epoch watch.start
+    pub begins : ExpectsAt Given (IsOwnAhead Own start) (Counts start) name first.body.epoch watch.start
     pub changes : AllByRecursion (IsOwnChange name) watch.changes
-    pub later : AllByRecursion (λ (change : ℕ × BoundKey). first.body.epoch ≤ change.0) watch.changes
-    pub covers : (signed : SignedPromise) → WasOwn start signed → signed.promise.name ≡ name → first.body.epoch ≤ signed.promise.epoch → HasChange start name watch.changes signed.promise.epoch
+    pub later : AllByRecursion (λ (change : ℕ × List ℕ). first.body.epoch ≤ change.0) watch.changes
+    pub covers : (signed : SignedPromise) → Counts start signed → signed.promise.name ≡ name → first.body.epoch ≤ signed.promise.epoch → HasChange watch.changes signed.promise.epoch
 
-module _ (hash : List ℕ → List ℕ) (accepted verified : List ℕ → List ℕ → List ℕ → Type 0) (Given : List ℕ → Option BoundKey → Type 0) (Own : SignedPromise → Type 0) (start : Memory) where
+module _ (hash : List ℕ → List ℕ) (accepted verified : List ℕ → List ℕ → List ℕ → Type 0) (Given : List ℕ → Option (List ℕ) → Type 0) (Own : SignedPromise → Type 0) (start : Memory) where
   -- A monitor that all was told of, with the roots of the client's chain, which it has from behind the mark of an earlier
   -- run on, if there is one. It expects what the owner does.
   pub record IsOwn (text : List ℕ) (chain : KeyedRoots) (marks : List Mark) (monitor : Monitor) : Type 0 where
     pub told : IsTold hash accepted verified text monitor
     pub own : AllByRecursion (HasBody chain) monitor.client.chain.roots
     pub begins : (mark : Mark) → Contains marks mark → mark.name ≡ monitor.name → (first : SignedRoot) → IsFirst monitor.client.chain first → IsLeastAbove chain mark.epoch first
+    pub above : (mark : Mark) → Contains marks mark → mark.name ≡ monitor.name → (first : SignedRoot) → IsFirst monitor.client.chain first → mark.epoch < first.body.epoch
     pub expects : (first : SignedRoot) → IsFirst monitor.client.chain first → IsOwners Given Own start monitor.name first monitor.watch
 
   -- A mark as it may stand: it is not above the head, or nothing was watched; of each root of the chain up to it was told,
@@ -61,11 +60,11 @@ module _ (hash : List ℕ → List ℕ) (accepted verified : List ℕ → List �
   pub record IsHeld (text : List ℕ) (marks : List Mark) (chain : KeyedRoots) (monitors : List Monitor) (mark : Mark) : Type 0 where
     pub low : (mark.epoch ≤ mark.since) ⊎ ((head : SignedRoot) × IsHead chain head × (mark.epoch ≤ head.body.epoch))
     pub told : (root : SignedRoot) → Contains chain.roots root → mark.since < root.body.epoch → root.body.epoch ≤ mark.epoch
-        → TellsEpoch Given Own (Counts start) hash accepted text mark.name root ⊎ WasWatched marks mark.name root
+        → TellsEpoch Given (IsOwnAhead Own start) (Counts start) hash accepted text mark.name root ⊎ WasWatched marks mark.name root
     pub link : Contains marks mark ⊎ HasJoined chain monitors mark
 
   -- All this is so in a scene: where this text was written before it, these roots are stored, the run began with the first
-  -- of these marks, and the second are known. The chain has the roots of the promises that were remembered.
+  -- of these marks, and the second are known. The chain has the roots of the promises that were remembered or noted.
   pub record Owns {T : Type 0} (text : List ℕ) (stored : List SignedRoot) (marks known : List Mark) (now : Scene T) : Type 0 where
     pub chain : IsChain hash verified now.client.chain
     pub formed : AllByRecursion IsSignedRoot now.client.chain.roots

@@ -1,8 +1,7 @@
 -- What a run does to the files of its state, and what these say at each time.
 use Rattle.std.specs.Prelude.{◌≡◌, ◌⊎◌, ℕ, ◌<◌, ◌≤◌, true, List, [], ◌∷◌, ◌++◌, Any, Contains, Option, None, Some, Ok, ⊤, filter, map, nat_lt}
 use Rattle.std.specs.List.{AllByRecursion}
-use Rattle.encoding.specs.declared.bound_key.BoundKey.{BoundKey}
-use Rattle.commands.specs.Operations.{asked_key}
+use Rattle.std.specs.List.Sorted.{IsNonDecreasingBy}
 use Rattle.commands.specs.declared.edit.Verb.{Verb}
 use Rattle.rootchain.specs.Chains.{IsHead, KeyedRoots}
 use Rattle.rootchain.specs.Promises.{IsSignedPromise, PromiseVerifies}
@@ -65,26 +64,46 @@ IsSaid None said = ⊤
 IsSaid (Some lines) said = (line : List ℕ) × Contains lines line × (line_of line ≡ Some said)
 
 -- one of these lines asks for the name to be watched, with this key or none
-abbrev pub IsAsked : Option (List (List ℕ)) → List ℕ → Option BoundKey → Type 0
+abbrev pub IsAsked : Option (List (List ℕ)) → List ℕ → Option (List ℕ) → Type 0
 IsAsked lines name given = IsSaid lines (Watch name given)
 
 -- one of these lines asks for the change that is promised
 abbrev pub IsAskedChange : Option (List (List ℕ)) → SignedPromise → Type 0
-IsAskedChange lines signed = (verb : Verb) × IsSaid lines (Ask (Put verb signed.promise.name (asked_key signed.promise.key)))
+IsAskedChange lines signed = (verb : Verb) × IsSaid lines (Ask (Put verb signed.promise.name signed.promise.key))
 
 -- the promise is remembered as one for a change of the owner's own
 abbrev pub WasOwn : Memory → SignedPromise → Type 0
 WasOwn known signed = (promised : Promised) × Contains known.promises promised × (promised.signed ≡ signed) × (promised.is_own ≡ true)
 
--- the promises that are held of earlier runs are those that were remembered for changes of the owner's own
+-- the memory with these promises more
+abbrev pub with_promises : Memory → List Promised → Memory
+with_promises known more = record known { promises = known.promises ++ more }
+
+-- a promise for a change of the owner's own, as it is remembered
+abbrev pub own_promised : SignedPromise → Promised
+own_promised signed = record { signed = signed; is_own = true }
+
+-- the memory with these more, each of them for such a change
+abbrev pub noting : Memory → List SignedPromise → Memory
+noting known noted = with_promises known (map own_promised noted)
+
+-- the promises that are held of earlier runs are those that were remembered for changes of the owner's own, by their epochs
 pub record AreEarlier (known : Memory) (earlier : List SignedPromise) : Type 0 where
   pub were : AllByRecursion (WasOwn known) earlier
   pub all : (signed : SignedPromise) → WasOwn known signed → Contains earlier signed
+  pub ascend : IsNonDecreasingBy (λ (signed : SignedPromise). signed.promise.epoch) earlier
 
--- The promise was remembered when a run began, as one for a change of the owner's own, and a mark awaited it. It counts in an
--- epoch that is above all that were remembered so of its name.
-abbrev pub Counts : Memory → ℕ → SignedPromise → Type 0
-Counts known epoch signed = WasOwn known signed × Any (IsAwaited signed) known.marks × ((other : SignedPromise) → WasOwn known other → other.promise.name ≡ signed.promise.name → other.promise.epoch < epoch)
+-- the promise is remembered as one for a change of the owner's own, and a mark awaits it
+abbrev pub Counts : Memory → SignedPromise → Type 0
+Counts known signed = WasOwn known signed × Any (IsAwaited signed) known.marks
+
+-- no epoch above the promise's had been watched for its name when the run began
+abbrev pub IsAhead : Memory → SignedPromise → Type 0
+IsAhead known signed = (mark : Mark) → Contains known.marks mark → mark.name ≡ signed.promise.name → mark.epoch ≤ signed.promise.epoch
+
+-- so it is, and the promise is for a change of the owner's own
+abbrev pub IsOwnAhead : (SignedPromise → Type 0) → Memory → SignedPromise → Type 0
+IsOwnAhead Own known signed = Own signed × IsAhead known signed
 
 -- the promise is signed with this key
 abbrev pub IsSignedBy : (List ℕ → List ℕ → List ℕ → Type 0) → List ℕ → SignedPromise → Type 0
@@ -115,15 +134,16 @@ abbrev pub WasStored : Found → List ℕ → SignedRoot → Type 0
 WasStored before name root = Contains before.roots root
     × ((mark : Mark) × Contains before.known.marks mark × (mark.name ≡ name) × (mark.since < root.body.epoch) × (root.body.epoch ≤ mark.epoch))
 
-module _ (hash : List ℕ → List ℕ) (accepted : List ℕ → List ℕ → List ℕ → Type 0) (Given : List ℕ → Option BoundKey → Type 0) (Own Asked : SignedPromise → Type 0) where
+module _ (hash : List ℕ → List ℕ) (accepted : List ℕ → List ℕ → List ℕ → Type 0) (Given : List ℕ → Option (List ℕ) → Type 0) (Own Asked : SignedPromise → Type 0) where
   -- What is found where something else was before a run, and this text was written in it: roots are only added, and no mark
   -- that was there is lost; of each root above the begin of a mark, up to the mark, it was told, or the root's epoch had been
-  -- watched before. A promise for a change of the owner's own is an old one, or was asked for.
+  -- watched before. What counts there are the promises for changes of the owner's own that were remembered or are now, and that
+  -- a mark of before awaited. Each of them is an old one, or was asked for.
   pub record KeepsTold (before : Found) (text : List ℕ) (after : Found) : Type 0 where
     pub grows : (more : List SignedRoot) × (after.roots ≡ before.roots ++ more)
     pub stays : (old : Mark) → Contains before.known.marks old → HasMark after.known.marks old
     pub told : (mark : Mark) → Contains after.known.marks mark → (root : SignedRoot) → Contains after.roots root → mark.since < root.body.epoch → root.body.epoch ≤ mark.epoch
-        → TellsEpoch Given Own (Counts before.known) hash accepted text mark.name root ⊎ WasStored before mark.name root
+        → TellsEpoch Given (IsOwnAhead Own before.known) (Counts (with_promises before.known after.known.promises)) hash accepted text mark.name root ⊎ WasStored before mark.name root
     pub own : (signed : SignedPromise) → WasOwn after.known signed → WasOwn before.known signed ⊎ Asked signed
 
   -- the text that is stored spells a memory, with which it is so

@@ -1,9 +1,11 @@
 -- Where a run stands to what it keeps.
-use Rattle.std.specs.Prelude.{◌≡◌, ◌⊎◌, ℕ, ◌+◌, ◌<◌, ◌≤◌, List, [], ◌∷◌, ◌++◌, false, true, Contains, length, Option, Some, None, Ok, ⊤}
+use Rattle.std.specs.Prelude.{◌≡◌, ◌⊎◌, ℕ, ◌+◌, ◌<◌, ◌≤◌, List, [], ◌∷◌, ◌++◌, false, true, drop, Contains, length, Option, Some, None, Ok, ⊤}
 use Rattle.std.specs.List.{AllByRecursion}
+use Rattle.std.specs.List.Sorted.{IsNonDecreasingBy}
 use Rattle.rootchain.specs.declared.signed_promise.SignedPromise.{SignedPromise}
 use Rattle.rootchain.specs.declared.signed_root.SignedRoot.{SignedRoot}
-use Rattle.rootchain.specs.Chains.{IsHead}
+use Rattle.rootchain.specs.Chains.{IsHead, KeyedRoots}
+use Rattle.rootchain.specs.Places.{IsFirst}
 use Rattle.rootchain.specs.Promises.{IsSignedPromise}
 use Rattle.client.specs.Clients.{Client}
 use Rattle.memory.specs.Leaving.{Leaves, Settles}
@@ -15,8 +17,9 @@ use Rattle.monitor.specs.Monitors.{Monitor}
 use Rattle.play.specs.Scripts.{line_of, ScriptLine}
 use Rattle.asking.specs.Owning.{Owns}
 use Rattle.asking.specs.Remembering.{AreWithin}
-use Rattle.asking.specs.Saves.{found_in, stored_after, stored_nothing, Act, AllKeepTold, AreEarlier, Found, HasOneOfEachName, IsAsked, IsAskedChange, IsHeadEpoch, IsOwnPromise, IsSaid, KeepsTold, Loads, LoadsFor, WasOwn, Writes}
+use Rattle.asking.specs.Saves.{found_in, stored_after, stored_nothing, Act, AllKeepTold, AreEarlier, Found, HasOneOfEachName, IsAsked, IsAskedChange, IsHeadEpoch, IsOwnPromise, IsSaid, KeepsTold, Loads, LoadsFor, WasOwn, Writes, noting}
 use Rattle.asking.specs.Scenes.{Scene}
+use Rattle.asking.specs.Told.{HasBody}
 use Rattle.asking.specs.declared.asker.Asker.{Asker}
 use Rattle.asking.specs.declared.state.State.{State}
 
@@ -41,6 +44,15 @@ AddsOwn changes before after = (signed : SignedPromise) → WasOwn after signed 
 -- each of these promises is well formed, and was the owner's own before, or one of the lines asks for it
 abbrev pub AreAsked : Option (List (List ℕ)) → Memory → List SignedPromise → Type 0
 AreAsked lines known changes = AllByRecursion (λ (signed : SignedPromise). IsSignedPromise signed × (WasOwn known signed ⊎ IsAskedChange lines signed)) changes
+
+-- no mark of the memory is above any of these promises, unless nothing was watched of it
+abbrev pub AreLate : Memory → List SignedPromise → Type 0
+AreLate known changes = AllByRecursion (λ (signed : SignedPromise). Fits signed.promise.epoch known) changes
+
+-- these promises are for changes that are asked for, and those at which a state has yet to look are late
+abbrev pub AreNew : Option (List (List ℕ)) → Memory → Option State → List SignedPromise → Type 0
+AreNew lines known None changes = AreAsked lines known changes
+AreNew lines known (Some state) changes = AreAsked lines known changes × AreLate state.memory (drop state.changes changes)
 
 -- the scene of a client and its monitors, and of lines that are told and not yet written
 abbrev pub standing : Client → List Monitor → List ℕ → Scene (Unit {0})
@@ -69,10 +81,14 @@ module _ (hash : List ℕ → List ℕ) (accepted verified : List ℕ → List �
     pub begun : HasOneOfEachName start.known
     pub once : HasOneOfEachName known
 
-  -- and the client, the monitors and the marks stand so to it
-  pub record Stands (Happened : List Act → Type 0) (epoch : ℕ) (known : Memory) (unsaved : List Item) (out : Option (List ℕ)) (now : Scene (Unit {0})) : Type 0 where
+  -- And the client, the monitors and the marks stand so to it. Promises for changes of the owner's own that were noted in the
+  -- run are not earlier than those before them, and the memory has no others that are new.
+  pub record Stands (Happened : List Act → Type 0) (epoch : ℕ) (known : Memory) (unsaved : List Item) (out : Option (List ℕ)) (noted : List SignedPromise) (now : Scene (Unit {0})) : Type 0 where
     pub kept : IsKept Happened epoch known unsaved out
-    pub owns : Owns hash accepted verified (IsAsked lines) (IsOwnPromise verified key lines start.known) start.known kept.text (stored_after kept.acts).roots start.known.marks known.marks now
+    pub owns : Owns hash accepted verified (IsAsked lines) (IsOwnPromise verified key lines start.known) (noting start.known noted) kept.text (stored_after kept.acts).roots start.known.marks known.marks now
+    pub own : (signed : SignedPromise) → WasOwn known signed → WasOwn (noting start.known noted) signed
+    pub ascend : IsNonDecreasingBy (λ (signed : SignedPromise). signed.promise.epoch) noted
+    pub later : (earlier later : SignedPromise) → WasOwn start.known earlier → Contains noted later → earlier.promise.epoch ≤ later.promise.epoch
 
   -- where there is a state; without one, nothing happens
   abbrev pub StateIsKept : (List Act → Type 0) → Option State → Option (List ℕ) → Type 0
@@ -84,9 +100,9 @@ module _ (hash : List ℕ → List ℕ) (accepted verified : List ℕ → List �
   StateIsSaved Happened None out = Happened []
   StateIsSaved Happened (Some state) out = IsKept Happened state.epoch state.memory [] out
 
-  abbrev pub StateStands : (List Act → Type 0) → Option State → Option (List ℕ) → Scene (Unit {0}) → Type 0
-  StateStands Happened None out now = Happened []
-  StateStands Happened (Some state) out now = Stands Happened state.epoch state.memory [] out now
+  abbrev pub StateStands : (List Act → Type 0) → Option State → Option (List ℕ) → List SignedPromise → Scene (Unit {0}) → Type 0
+  StateStands Happened None out noted now = Happened []
+  StateStands Happened (Some state) out noted now = Stands Happened state.epoch state.memory [] out noted now
 
 -- the head of the client's chain is not above this epoch
 abbrev pub IsUpTo : Client → ℕ → Type 0
@@ -99,13 +115,30 @@ IsReady verified lines known asker = (asker.client.chain.key ≡ asker.key) × A
 -- a state in which nothing is kept yet
 abbrev pub IsFresh : Option State → Type 0
 IsFresh None = ⊤
-IsFresh (Some state) = (state.memory ≡ nothing) × (state.epoch ≡ 0) × (state.is_loaded ≡ false)
+IsFresh (Some state) = (state.memory ≡ nothing) × (state.epoch ≡ 0) × (state.is_loaded ≡ false) × (state.changes ≡ 0)
+
+-- a state that looked at no change yet
+abbrev pub HasNoChanges : Option State → Type 0
+HasNoChanges None = ⊤
+HasNoChanges (Some state) = state.changes ≡ 0
+
+-- A monitor under this key that has the roots of the client's chain from its first on: each change that it expects is of the
+-- epoch of one of these.
+pub record IsCurrent (key : List ℕ) (chain : KeyedRoots) (monitor : Monitor) : Type 0 where
+  pub keyed : monitor.client.chain.key ≡ key
+  pub covers : (first : SignedRoot) → IsFirst monitor.client.chain first → (root : SignedRoot) → Contains chain.roots root → first.body.epoch ≤ root.body.epoch → HasBody monitor.client.chain root
+  pub low : AllByRecursion (λ (change : ℕ × List ℕ). (root : SignedRoot) × Contains chain.roots root × (change.0 ≡ root.body.epoch)) monitor.watch.changes
+
+-- the state looked at all changes, and each monitor is so
+abbrev pub IsInStep : {H V S : Type 0} → Option State → Asker H V S → Type 0
+IsInStep None asker = ⊤
+IsInStep (Some state) asker = (state.changes ≡ length asker.changes.items) × AllByRecursion (IsCurrent asker.key asker.client.chain) asker.monitors.items
 
 module _ (hash : List ℕ → List ℕ) (accepted verified : List ℕ → List ℕ → List ℕ → Type 0) (lines : Option (List (List ℕ))) where
   -- so a run stands, where the lines of what was said are not yet written
   abbrev pub RunStands : {H V S : Type 0} → Found → List ℕ → (List Act → Type 0) → Asker H V S → List ℕ → Option State → Option (List ℕ) → Type 0
-  RunStands start old Happened asker said state out = StateStands hash accepted verified lines asker.key start old Happened state out (standing asker.client asker.monitors.items said)
-      × (start.known.marks ≡ asker.marks.items) × IsReady verified lines start.known asker
+  RunStands start old Happened asker said state out = StateStands hash accepted verified lines asker.key start old Happened state out asker.changes.items (standing asker.client asker.monitors.items said)
+      × (start.known.marks ≡ asker.marks.items) × IsReady verified lines start.known asker × IsInStep state asker
 
   -- what a run leaves: nothing was loaded, or all that was kept was told before
   abbrev pub IsLeft : List ℕ → List ℕ → (List Act → Type 0) → Option State → Option (List ℕ) → Type 0

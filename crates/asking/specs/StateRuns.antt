@@ -1,11 +1,10 @@
 -- Runs over the files of one state, one after another, the latest first.
 use Rattle.std.specs.Prelude.{◌≡◌, ◌≢◌, ◌⊎◌, ℕ, List, [], ◌∷◌, ◌++◌, Option, Some, Ok, ⊤}
-use Rattle.encoding.specs.declared.bound_key.BoundKey.{BoundKey}
 use Rattle.rootchain.specs.declared.signed_promise.SignedPromise.{SignedPromise}
 use Rattle.rootchain.specs.declared.signed_root.SignedRoot.{SignedRoot}
 use Rattle.memory.specs.Memories.{Memory}
 use Rattle.memory.specs.Texts.{Spells}
-use Rattle.asking.specs.Saves.{found_in, stored_after, Act, AddsLines, AddsRoots, AllKeepTold, Counts, Found, Loads, Stored, WasOwn, WasStored, Writes}
+use Rattle.asking.specs.Saves.{found_in, stored_after, Act, AddsLines, AddsRoots, AllKeepTold, Counts, Found, IsOwnAhead, Loads, Stored, WasOwn, WasStored, with_promises, Writes}
 use Rattle.asking.specs.Told.{TellsEpoch}
 
 -- A run: what was asked in it, what the output had before it, and what it did to the files. What the next run finds is their
@@ -44,14 +43,15 @@ WasWritten old (Writes anew out ∷ acts) text = out ≡ Some (old ++ text)
 
 -- what the owner gave is known by what was asked, and which promises are for the owner's own changes by this and by the
 -- memory that was loaded
-module _ (hash : List ℕ → List ℕ) (accepted : List ℕ → List ℕ → List ℕ → Type 0) {X : Type 0} (Given : X → List ℕ → Option BoundKey → Type 0) (Own : X → Memory → SignedPromise → Type 0) where
-  -- it is told of the root for the name in what one of the runs wrote before it did the last that is left; or it was watched
-  -- before all of them
+module _ (hash : List ℕ → List ℕ) (accepted : List ℕ → List ℕ → List ℕ → Type 0) {X : Type 0} (Given : X → List ℕ → Option (List ℕ) → Type 0) (Own : X → Memory → SignedPromise → Type 0) where
+  -- it is told of the root for the name in what one of the runs wrote before it did the last that is left, where promises
+  -- count that were remembered before the run or are in what is left; or it was watched before all of them
   abbrev pub WasTold : Stored → List (StateRun X) → List ℕ → SignedRoot → Type 0
   WasTold first [] name root = (known : Memory) × Spells first.text (Ok known) × WasStored (found_in first known) name root
   WasTold first (run ∷ earlier) name root =
-      ((found : Memory) × Spells (left_by first earlier).text (Ok found)
-      × ((text : List ℕ) × WasWritten run.old run.left text × TellsEpoch (Given run.asked) (Own run.asked found) (Counts found) hash accepted text name root)) ⊎ WasTold first earlier name root
+      ((found : Memory) × (now : Memory) × Spells (left_by first earlier).text (Ok found) × Spells (stored_after run.left).text (Ok now)
+      × ((text : List ℕ) × WasWritten run.old run.left text
+      × TellsEpoch (Given run.asked) (IsOwnAhead (Own run.asked found) found) (Counts (with_promises found now.promises)) hash accepted text name root)) ⊎ WasTold first earlier name root
 
   module _ (Asked : X → SignedPromise → Type 0) where
     -- each run finds what the files had after those before it, and keeps all told that it does to them

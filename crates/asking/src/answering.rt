@@ -1,22 +1,27 @@
 // Whether a reply answers what was asked. Only then it is checked.
-ghost use Rattle.std.specs.Prelude.{◌≡◌, ◌↔◌, ◌≤◌, codes, option_map, IfOk, IsTrue, OnErr, OnOk};
+ghost use Rattle.std.specs.Prelude.{◌≡◌, ◌≢◌, ◌↔◌, ◌≤◌, codes, option_map, IfErr, IfOk, IsTrue, OnErr, OnOk};
 ghost use Rattle.std.specs.List.{AllByRecursion};
-ghost use Rattle.commands.specs.Operations.{asked_key};
+ghost use Rattle.wire.specs.Frames.{Frame};
 ghost use Rattle.wire.specs.FrameViews.{frame_seen};
 ghost use Rattle.wire.specs.Refusals.{read_refusal_number};
 ghost use Rattle.wire.specs.Responses.{response_seen, Refused};
 ghost use Rattle.play.specs.Hearing.{response_text};
-ghost use Rattle.play.specs.Scripts.{ask_seen};
+ghost use Rattle.play.specs.Scripts.{ask_seen, with_token};
 ghost use Rattle.asking.specs.Answering.{IsAnswerAt, IsAnswerTo, IsTimely};
+ghost use Rattle.asking.specs.Exchanges.{ExchangesFrames};
 ghost use Rattle.asking.specs.Refused.{other_reply, refuses_text};
 ghost use Rattle.asking.specs.Scenes.{miss_told, GivesBody};
 ghost use Rattle.asking.specs.Reports.{refused, report_of, Tells};
+ghost use Rattle.asking.specs.declared.ask_fault.AskFault.TheVariants.{Stopped};
 
+use crate::AskFault;
+use crate::exchange::{exchange, frame_in};
 use crate::said::{REFUSED, Said, directory_words};
-use encoding::{BoundKey, Name};
+use encoding::{Hash32, Name};
 use play::{Ask, push_number, tell_response};
 use rootchain::RootList;
 use std::alloc::{AllocError, Global};
+use std::io::{Read, Write};
 use wire::{FrameView, ReadRefusal, Response};
 
 /// Whether a response is one to what was asked: of its kind, and about what it names.
@@ -24,14 +29,9 @@ pub(crate) fn answers(ask: &Ask, response: &Response<'_>) -> bool
     ensures { IsTrue result ↔ IsAnswerTo (ask_seen ask.now) (response_seen response.now) }
 {
     match (ask, response) {
-        (
-            Ask::Put {
-                name, key, policy, ..
-            },
-            Response::Promise(signed),
-        ) => {
+        (Ask::Put { name, key, .. }, Response::Promise(signed)) => {
             signed.promise.name.bytes() == name.as_slice()
-                && is_key(&signed.promise.key, key, *policy)
+                && signed.promise.key.bytes() == key.as_slice()
         }
         (Ask::Promise { name }, Response::Promise(signed)) => {
             signed.promise.name.bytes() == name.as_slice()
@@ -53,18 +53,6 @@ pub(crate) fn answers(ask: &Ask, response: &Response<'_>) -> bool
         ) => root.body.epoch == *epoch && root.body.nonce == *nonce,
         _ => false,
     }
-}
-
-/// Whether a key is the one that was asked for, with the policy of this byte or none.
-fn is_key(key: &BoundKey, value: &[u8], policy: Option<u8>) -> bool
-    ensures { IsTrue result ↔ (asked_key key.now ≡ (value.now, policy)) }
-{
-    let same = match (key.policy, policy) {
-        (None, None) => true,
-        (Some(own), Some(byte)) => own.byte() == byte,
-        _ => false,
-    };
-    same && key.bytes() == value
 }
 
 /// Whether each of these roots is of this epoch or a later one.
@@ -178,4 +166,28 @@ pub(crate) fn tell_unread(
 {
     let words = format!(in alloc; "{why}")?;
     said.refuse(b"client refuses reply", why.number(), words.as_bytes())
+}
+
+/// Asks, and returns the body of the reply if it is an answer; else tells why it is none, whole or not at all.
+///
+/// # Errors
+///
+/// Those of `exchange`.
+pub(crate) fn ask_for<T: Read + Write>(
+    alloc: Global,
+    stream: &mut T,
+    token: Hash32,
+    ask: &Ask,
+    said: &mut Said,
+) -> Result<Option<Vec<u8>>, AskFault>
+    ensures gives { IfOk result (λ body. (frame : Frame) × ExchangesFrames T.contents T.remaining stream.old (with_token token (ask_seen ask.now)) frame stream.new
+        × GivesBody (ask_seen ask.now) frame said.old (option_map (λ bytes. bytes.items) body) said.new) }
+    ensures err { IfErr result (λ fault. fault ≢ Stopped) }
+    ensures untold { OnErr result (report_of said.new ≡ report_of said.old) }
+{
+    let reply = exchange(alloc, stream, &ask.request(token))?;
+    match body_of(alloc, ask, &frame_in(&reply)?, said)? {
+        Some(body) => Ok(Some(Vec::from_slice(alloc, body)?)),
+        None => Ok(None),
+    }
 }

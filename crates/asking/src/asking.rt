@@ -91,7 +91,7 @@ where
         ensures stays { Remains self.old self.new }
         ensures unnoted { result ≡ Err Stopped → asker_changes self.new ≡ asker_changes self.old }
         ensures stops { result ≡ Err Stopped → StopsAsking H.digest_of V.accepted S.verified (ExchangesFrames T.contents T.remaining) (asker_token self.old) (ask_seen ask.now) (scene self.old said.old stream.old) (scene self.new said.new stream.new) }
-        ensures halts { IfErr result (λ fault. fault ≢ Stopped → HaltsAfter (AsksSome H.digest_of V.accepted S.verified (ExchangesFrames T.contents T.remaining) (asker_marks self.old) (asker_token self.old) (ask_seen ask.now) (asker_changes self.old) (asker_changes self.new) (scene self.old said.old stream.old)) fault self.new said.new) }
+        ensures halts { IfErr result (λ fault. fault ≢ Stopped → HaltsAfter (AsksSome H.digest_of V.accepted S.verified (ExchangesFrames T.contents T.remaining) fault (asker_marks self.old) (asker_token self.old) (ask_seen ask.now) (asker_changes self.old) (asker_changes self.new) (scene self.old said.old stream.old)) fault self.new said.new) }
     {
         let head = self.head();
         let reply = self.request(stream, ask)?;

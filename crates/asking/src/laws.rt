@@ -1,4 +1,4 @@
-ghost use Rattle.std.specs.Prelude.{◌≡◌, ◌≢◌, ◌++◌, ◌<◌, ◌≤◌, ℕ, [], Contains, List, None, Ok, Option, Some};
+ghost use Rattle.std.specs.Prelude.{◌≡◌, ◌≢◌, ◌⊎◌, ◌++◌, ◌∷◌, ◌<◌, ◌≤◌, ℕ, [], Contains, List, None, Ok, Option, Some};
 ghost use Rattle.std.specs.List.{AllByRecursion};
 ghost use Rattle.client.specs.declared.client_refusal.Refusal.{Refusal};
 ghost use Rattle.client.specs.declared.client_refusal.Refusal.TheVariants.{RootDiffers};
@@ -6,6 +6,7 @@ ghost use Rattle.client.specs.declared.due.Due.TheVariants.{Broken};
 ghost use Rattle.memory.specs.Memories.{Memory};
 ghost use Rattle.memory.specs.Texts.{Spells};
 ghost use Rattle.memory.specs.declared.mark.Mark.{Mark};
+ghost use Rattle.monitor.specs.Monitors.{Monitor};
 ghost use Rattle.monitor.specs.declared.step.Step.TheVariants.{Alarm};
 ghost use Rattle.proofs.specs.declared.broken_promise.BrokenPromise.{BrokenPromise};
 ghost use Rattle.proofs.specs.declared.statement.Statement.{Statement};
@@ -17,14 +18,16 @@ ghost use Rattle.asking.specs.AskOptions.{AskOptions};
 ghost use Rattle.asking.specs.Ending.{stopped_status};
 ghost use Rattle.asking.specs.Checking.{AreTold};
 ghost use Rattle.asking.specs.Exchanges.{ExchangesFrames};
+ghost use Rattle.asking.specs.Marking.{IsFrom, IsToWatch, StoresMarks};
 ghost use Rattle.asking.specs.Recalled.{evidence_again, TellsAlarms};
 ghost use Rattle.asking.specs.Refused.{client_refuses};
 ghost use Rattle.asking.specs.Reports.{refused, told_after, Report};
 ghost use Rattle.asking.specs.Runs.{lines_asked, RunsWhole};
-ghost use Rattle.asking.specs.Saves.{HasMark, IsAsked, IsAskedChange, IsOwnPromise, Stored, WasOwn};
+ghost use Rattle.asking.specs.Saves.{stored_after, HasMark, IsAsked, IsAskedChange, IsOwnPromise, Stored, WasOwn};
 ghost use Rattle.asking.specs.StateRuns.{left_by, AllRun, StateRun, WasAskedIn, WasTold};
 ghost use Rattle.asking.specs.Testing.{due_told};
 ghost use Rattle.asking.specs.Told.{TellsWatched};
+ghost use Rattle.asking.specs.Visiting.{HasMonitor, IsMarked};
 ghost use Rattle.asking.specs.Wanted.{last_epoch, roots_sent, AreWanted, BeginFrom, IsOfChain, IsReached};
 ghost use Rattle.asking.specs.Watching.{step_told};
 ghost use Rattle.asking.specs.declared.said.TheConstants.{OTHER_INDEX, OTHER_REPLY};
@@ -65,10 +68,11 @@ pub fn watched_epochs_are_told<T: Read + Write, H: NodeHash, V: VufCheck, S: Ver
 {}
 
 /// Whatever runs there were over one state, and wherever each was stopped: what is saved loads as a memory. Each root of
-/// the state that a mark of it says was watched is told in the output of one of the runs, before the last of what that run
-/// did to the state, or was watched before all of them. No root is lost, and no mark of an earlier run: the memory has one of
+/// the state that a mark of it says was watched is told in the output of one of the runs, against what its owner expected
+/// there, before the last act of that run that is left; or it was watched before all of them. No root is lost, and no mark of an earlier run: the memory has one of
 /// its name that begins no later. Each promise that it has for a change of the owner's own is for one that a line of some run
-/// asks for, or was remembered so before all of them.
+/// asks for, or was remembered so before all of them. Where what a run left has marks for monitors, as it has for all those of
+/// a whole run without a stale epoch, each root from the first of such a monitor on was told for its name, or is still to be watched.
 pub fn stored_marks_are_told<H: NodeHash, V: VufCheck, S: Verifier>()
     ensures loads { (key : List ℕ) (first : Stored) (runs : List (StateRun (Option (List (List ℕ))))) → AllRun H.digest_of V.accepted IsAsked (IsOwnPromise S.verified key) IsAskedChange first runs
         → (before : Memory) → Spells first.text (Ok before) → (known : Memory) × Spells (left_by first runs).text (Ok known) }
@@ -82,6 +86,19 @@ pub fn stored_marks_are_told<H: NodeHash, V: VufCheck, S: Verifier>()
         → (before known : Memory) → Spells (left_by first earlier).text (Ok before) → Spells (left_by first (later ++ earlier)).text (Ok known) → (old : Mark) → Contains before.marks old → HasMark known.marks old }
     ensures own { (key : List ℕ) (first : Stored) (runs : List (StateRun (Option (List (List ℕ))))) → AllRun H.digest_of V.accepted IsAsked (IsOwnPromise S.verified key) IsAskedChange first runs
         → (known : Memory) → Spells (left_by first runs).text (Ok known) → (signed : SignedPromise) → WasOwn known signed → WasAskedIn IsAskedChange first runs signed }
+    ensures watched { (key : List ℕ) (first : Stored) (later earlier : List (StateRun (Option (List (List ℕ))))) (run : StateRun (Option (List (List ℕ)))) (monitors : List Monitor)
+        → AllRun H.digest_of V.accepted IsAsked (IsOwnPromise S.verified key) IsAskedChange first (later ++ run ∷ earlier) → StoresMarks (stored_after run.left) monitors
+        → (known : Memory) → Spells (left_by first (later ++ run ∷ earlier)).text (Ok known) → (monitor : Monitor) → Contains monitors monitor
+        → (root : SignedRoot) → Contains (left_by first (later ++ run ∷ earlier)).roots root → IsFrom monitor root
+        → WasTold H.digest_of V.accepted IsAsked (IsOwnPromise S.verified key) first (later ++ run ∷ earlier) monitor.name root ⊎ IsToWatch known.marks monitor.name root }
+{}
+
+/// Each name that a line of a whole run asks to be watched has a monitor at its end, or a mark of an earlier run; or
+/// something was refused, and the status is not 0.
+pub fn asked_names_are_watched<T: Read + Write, H: NodeHash, V: VufCheck, S: Verifier>()
+    ensures { (key token : List ℕ) (options : AskOptions) (stream left : T) (input : Option (List ℕ)) (status : ℕ) (old new : Option (List ℕ)) (lines : List (List ℕ)) → lines_asked options.words input ≡ Some lines
+        → (run : RunsWhole H.digest_of V.accepted S.verified (ExchangesFrames T.contents T.remaining) key token options (options.state ≡ None) stream left input status old new)
+        → (name : List ℕ) (given : Option (List ℕ)) → IsAsked (Some lines) name given → HasMonitor run.last.monitors name ⊎ (IsMarked run.background.marks name ⊎ (0 < status)) }
 {}
 
 /// Of the roots that a directory has, where each names the one before, and none comes before the first, it sends so many

@@ -19,10 +19,12 @@ mod ask_fault;
 mod asker;
 mod asking;
 mod checking;
+mod connecting;
 mod exchange;
 mod following;
 mod joining;
 mod keeper;
+mod lateness;
 mod laws;
 mod lines;
 mod order;
@@ -42,8 +44,9 @@ pub use asker::Asker;
 pub use checking::hear;
 pub use keeper::{Keeper, Loaded};
 pub use laws::{
-    refusals_have_their_numbers, sent_roots_are_wanted, statuses_tell_who_is_caught,
-    stored_marks_are_told, told_roots_are_of_the_chain, watched_epochs_are_told,
+    asked_names_are_watched, refusals_have_their_numbers, sent_roots_are_wanted,
+    statuses_tell_who_is_caught, stored_marks_are_told, told_roots_are_of_the_chain,
+    watched_epochs_are_told,
 };
 pub use order::{AskKeys, AskOrder};
 pub use play::Checks;

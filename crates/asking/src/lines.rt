@@ -2,6 +2,8 @@
 ghost use Rattle.hex.specs.Hex.{decode_of};
 ghost use Rattle.std.specs.Prelude.{◌≡◌, ◌++◌, ◌∷◌, [], List, map, IfErr, IfOk, Ok, OnOk};
 ghost use Rattle.std.specs.List.{AllByRecursion};
+ghost use Rattle.std.specs.List.Sorted.{IsNonDecreasingBy, IsPermutation, IsStableByKey};
+ghost use Rattle.std.specs.Ordering.{nat_cmp};
 ghost use Rattle.textio.specs.Lines.{lines_of};
 ghost use Rattle.rootchain.specs.Promises.{IsSignedPromise};
 ghost use Rattle.rootchain.specs.declared.signed_promise.SignedPromise.{SignedPromise as Signed};
@@ -89,13 +91,14 @@ where
         Ok(())
     }
 
-    /// Remembers what the lines of the second file have. Returns a memory of it that grows in the run.
+    /// Remembers what the lines of the second file have, with the promises for own changes in the order of their epochs.
+    /// Returns a memory of it that grows in the run.
     pub(crate) fn remember(&mut self, text: &[u8]) -> Result<Memory, ProgramFault>
         ensures same { IsSameAsker self.old self.new }
         ensures kept { OnOk result (StillKeeps self.old self.new) }
         ensures spells { IfOk result (λ memory. Spells text.now (Ok memory) × (memory ≡ (self.new).known)) }
         ensures marks { OnOk result ((self.new).marks.items ≡ (self.new).known.marks) }
-        ensures earlier { OnOk result ((own : List Signed) × AreOwnOf (lines_of text.now) own × ((self.new).earlier.items ≡ (self.old).earlier.items ++ own)) }
+        ensures earlier { OnOk result ((own : List Signed) × AreOwnOf (lines_of text.now) own × IsPermutation ((self.old).earlier.items ++ own) (self.new).earlier.items) }
         ensures own { OnOk result ((self.old).earlier.items ≡ [] → AreEarlier (self.new).known (self.new).earlier.items) }
         ensures formed { OnOk result (AllByRecursion IsSignedPromise (self.old).earlier.items → AllByRecursion IsSignedPromise (self.new).earlier.items) }
         ensures chain { (self.new).client.chain ≡ (self.old).client.chain }
@@ -107,6 +110,7 @@ where
         let memory = self.remember_lines(text)?;
         self.marks = copied_marks(self.alloc, memory.marks())?;
         self.known = read_lines(self.alloc, text)?;
+        sort_promises(&mut self.earlier)?;
         Ok(memory)
     }
 
@@ -272,6 +276,16 @@ where
         last = root.body.epoch;
     }
     Ok(text)
+}
+
+/// Puts promises in the order of their epochs, in which monitors take them. Those of one epoch stay as they stand.
+fn sort_promises(promises: &mut Vec<SignedPromise>) -> Result<(), AllocError>
+    ensures permutation { IsPermutation promises.old.items promises.new.items }
+    ensures ascend { OnOk result (IsNonDecreasingBy (λ (signed : Signed). signed.promise.epoch) promises.new.items) }
+    ensures stable { OnOk result (IsStableByKey (λ (signed : Signed). signed.promise.epoch) nat_cmp promises.old.items promises.new.items) }
+{
+    promises.sort_by_key(|signed| signed.promise.epoch)?;
+    Ok(())
 }
 
 /// Copies of marks.

@@ -12,9 +12,7 @@ ghost use Rattle.asking.specs.Reports.{caught, refused, report_of, Tells};
 ghost use Rattle.asking.specs.Visiting.{AwaitsMonitor, HasMonitor, IsMarked, TestsAll, TestsName, TestsSome, Visits};
 ghost use Rattle.asking.specs.declared.ask_fault.AskFault.TheVariants.{Stopped};
 
-use crate::answering::body_of;
 use crate::checking::{tell_client, tell_evidence};
-use crate::exchange::frame_in;
 use crate::said::OTHER_INDEX;
 use crate::{AskFault, Asker, Checks, Said};
 use auditor::Evidence;
@@ -23,7 +21,6 @@ use encoding::Name;
 use memory::Mark;
 use monitor::Monitor;
 use nodehash::NodeHash;
-use play::Ask;
 use proofs::BrokenPromise;
 use sigiface::Verifier;
 use std::alloc::{AllocError, Global};
@@ -109,16 +106,11 @@ where
         let Some(epoch) = self.client.due_epoch(name) else {
             return Ok(false);
         };
-        let ask = Ask::Lookup {
-            name: Vec::from_slice(self.alloc, name.bytes())?,
-            epoch,
-        };
-        let reply = self.request(stream, &ask)?;
-        let Some(found) = body_of(self.alloc, &ask, &frame_in(&reply)?, said)? else {
+        let Some(found) = self.look_up(stream, name, epoch, said)? else {
             return Ok(false);
         };
         let checks = &mut self.checks;
-        Ok(tell_due(self.alloc, &mut self.client, checks, name, found, said)?)
+        Ok(tell_due(self.alloc, &mut self.client, checks, name, &found, said)?)
     }
 }
 
@@ -126,7 +118,12 @@ where
 pub(crate) fn is_marked(marks: &[Mark], name: &Name) -> bool
     ensures { IsTrue result ↔ IsMarked marks.now name.now }
 {
-    marks.iter().any(|mark| mark.name == *name)
+    for mark in marks {
+        if mark.name == *name {
+            return true;
+        }
+    }
+    false
 }
 
 /// Whether a name is watched in this run.
@@ -137,7 +134,12 @@ where
     S: Verifier + Drop,
     ensures { IsTrue result ↔ HasMonitor monitors.now name.now }
 {
-    monitors.iter().any(|monitor| monitor.name() == name)
+    for monitor in monitors {
+        if monitor.name() == name {
+            return true;
+        }
+    }
+    false
 }
 
 /// Tells that a promise was not kept, by the evidence of it.

@@ -3,29 +3,34 @@ ghost use Rattle.std.specs.Prelude.{◌≡◌, ◌≢◌, ◌⊎◌, ◌↔◌, 
 ghost use Rattle.std.specs.Io.KnownBytes.{Appends};
 ghost use Rattle.textio.specs.Lines.{lines_of};
 ghost use Rattle.textio.specs.Output.{WritesSome};
+ghost use Rattle.textio.specs.declared.program_fault.ProgramFault.{ProgramFault};
 ghost use Rattle.textio.specs.declared.program_fault.ProgramFault.TheVariants.{CannotWrite, NotACommand, OutOfMemory};
 ghost use Rattle.play.specs.Scripts.{line_of, line_seen};
 ghost use Rattle.asking.specs.AskOptions.{ask_values};
 ghost use Rattle.asking.specs.Askers.{asker_changes};
-ghost use Rattle.asking.specs.Ending.{AsksPart, AsksSomeLine, BeginsNone, DoesSome, DoesSomeNoting, end_status, EndsEarly, EndsWith, FailsWith, HoldsBack, PreparesSome, TakesSomeNew};
+ghost use Rattle.asking.specs.Ending.{AsksPart, AsksSomeLine, BeginsNone, DoesSome, DoesSomeNoting, end_status, EndsEarly, EndsWith, FailsWith, HoldsBack, IsNewFor, LoadsNone, NotesFirst, PreparesSome, RunsLate, TakesSomeNew};
 ghost use Rattle.asking.specs.Exchanges.{ExchangesFrames};
+ghost use Rattle.asking.specs.Lateness.{Finds, HasNoted, HasNotedAs, IsLast, IsLimitOf, IsSameLimit};
 ghost use Rattle.asking.specs.Keeping.{AddsTo, IsSettled, KeepsUp, SavesTo};
+ghost use Rattle.asking.specs.Marking.{IsUnlooked, LeavesMarked, MarksOn, RunsMarked};
 ghost use Rattle.asking.specs.Recalled.{evidence_again};
 ghost use Rattle.asking.specs.Reports.{report_of, told_after, Report};
 ghost use Rattle.asking.specs.RunFaults.{AsksInput, CannotBeAsked, IsFaultOfSaving, IsFaultOfState, IsFaultWith, IsFirstUnasked, StopsOr};
-ghost use Rattle.asking.specs.Runs.{AsksLine, AsksLines, BeginsAsking, DoesLine, emptied, Grows, IsSoundFor, KeepsAll, new_background, background_of, lines_asked, Prepares, RunsWhole, TakesNew, with_word, words_line, Writes};
-ghost use Rattle.asking.specs.declared.ask_fault.AskFault.TheVariants.{OutOfMemory as NoMemory};
+ghost use Rattle.asking.specs.Runs.{AsksLine, AsksLines, BeginsAsking, DoesLine, DoesLineNoting, emptied, Grows, IsSoundFor, KeepsAll, new_background, background_of, lines_asked, Prepares, TakesNew, with_word, words_line, Writes};
+ghost use Rattle.asking.specs.declared.ask_fault.AskFault.{AskFault as Fault};
+ghost use Rattle.asking.specs.declared.ask_fault.AskFault.TheVariants.{NoReply, OutOfMemory as NoMemory};
 ghost use Rattle.asking.specs.declared.ask_fault.RunFault.TheVariants.{Program};
 ghost use Rattle.asking.specs.declared.run.RunEnd.TheVariants.{Whole};
 ghost use Rattle.asking.specs.declared.said.TheConstants.{CAUGHT};
 ghost use Rattle.asking.specs.Scenes.{scene, Scene, StartsAtHead};
 ghost use Rattle.asking.specs.Saves.{Act, Found, LeavesTold};
 ghost use Rattle.asking.specs.Settling.{settled_text};
-ghost use Rattle.asking.specs.Standing.{standing, AreAsked, AsksAmong, DropsAlarms, HasBegun, HasFailed, HasLoaded, IsFresh, IsLeft, IsUpTo, LeavesState, RunStands, SettlesState, StateIsKept, StateIsSaved, StateStands};
+ghost use Rattle.asking.specs.Standing.{standing, AreNew, AsksAmong, DropsAlarms, HasBegun, HasFailed, HasLoaded, HasNoChanges, IsFresh, IsLeft, IsUpTo, LeavesState, RunStands, SettlesState, StateIsKept, StateIsSaved, StateStands};
 ghost use Rattle.memory.specs.Memories.{Memory};
 
 use crate::ask_fault::RunFault;
 use crate::keeper::Keeper;
+use crate::lateness::Limit;
 use crate::said::{CAUGHT, REFUSED};
 use crate::settling::tell_settled;
 use crate::state::State;
@@ -40,8 +45,8 @@ use std::io::{BufRead, Read, Write};
 use textio::{ProgramFault, write_text};
 use vrfiface::VufCheck;
 
-/// How a run ended, with its status: 3 if evidence or an alarm is told, also one of an earlier run; else 1 if the
-/// directory or the client refused; else 0.
+/// How a run ended, with its status: 3 if evidence or an alarm is told, also one of an earlier run, or the last epoch is not
+/// as late as it is wanted; else 1 if the directory or the client refused; else 0.
 #[derive(Clone, Copy, Debug, PartialEq, Eq)]
 pub enum RunEnd {
     /// All was asked.
@@ -49,8 +54,11 @@ pub enum RunEnd {
     /// No reply came, new roots were refused, or a fault followed evidence or an alarm. The status is 1, or 3 after evidence
     /// or an alarm.
     Stopped(u8),
-    /// A write failed, and evidence or an alarm had been found, of which perhaps not all is told. The status is 3.
+    /// A write failed, and evidence or an alarm had been found, or a last epoch that is not late enough, of which perhaps not
+    /// all is told. The status is 3.
     Unwritten,
+    /// The last epoch is this one, which is not as late as it is wanted. This is told behind all else. The status is 3.
+    Stale(u64),
 }
 
 impl RunEnd {
@@ -60,7 +68,7 @@ impl RunEnd {
     {
         match self {
             RunEnd::Whole(status) | RunEnd::Stopped(status) => status,
-            RunEnd::Unwritten => CAUGHT,
+            RunEnd::Unwritten | RunEnd::Stale(_) => CAUGHT,
         }
     }
 }
@@ -71,17 +79,20 @@ pub(crate) struct Run {
     alloc: Global,
     state: Option<State>,
     said: Said,
+    /// What its last epoch has to be above.
+    limit: Limit,
+    /// The words for a directory that does not answer.
+    silence: &'static [u8],
 }
 
 /// The line of the words.
-fn line_of_words(alloc: Global, order: AskOrder<'_>) -> Result<Vec<u8>, AllocError>
+pub(crate) fn line_of_words(alloc: Global, order: AskOrder<'_>) -> Result<Vec<u8>, AllocError>
     ensures { IfOk result (λ line. line.items ≡ words_line (ask_values order.entry).words) }
 {
     let mut line = Vec::new(alloc);
     push_word(&mut line, order.command)?;
     push_word(&mut line, order.first)?;
     push_word(&mut line, order.second)?;
-    push_word(&mut line, order.third)?;
     Ok(line)
 }
 
@@ -99,12 +110,14 @@ fn push_word(line: &mut Vec<u8>, word: Option<&str>) -> Result<(), AllocError>
 }
 
 impl Run {
-    /// A run that has a state, or none.
-    pub(crate) fn new(alloc: Global, has_state: bool) -> Self
+    /// A run that has a state, or none, with a limit, and with the words for a directory that does not answer.
+    pub(crate) fn new(alloc: Global, has_state: bool, limit: Limit, silence: &'static [u8]) -> Self
         ensures none { has_state ≡ false → result.state ≡ None }
         ensures some { result.state ≡ None → has_state ≡ false }
         ensures fresh { IsFresh result.state }
+        ensures looks { IsUnlooked result.state }
         ensures said { report_of result.said ≡ emptied 0 }
+        ensures limit { result.limit ≡ limit }
     {
         let state = if has_state {
             Some(State::new(alloc))
@@ -115,7 +128,28 @@ impl Run {
             alloc,
             state,
             said: Said::new(alloc),
+            limit,
+            silence,
         }
+    }
+
+    /// The run of an order.
+    pub(crate) fn of(
+        alloc: Global,
+        order: &AskOrder<'_>,
+        silence: &'static [u8],
+    ) -> Result<Self, AllocError>
+        ensures { IfOk result (IsNewFor (ask_values order.now)) }
+    {
+        let limit = Limit::of(alloc, order)?;
+        Ok(Run::new(alloc, order.state.is_some(), limit, silence))
+    }
+
+    /// The last epoch, if it is not as late as it is wanted.
+    pub(crate) fn stale(&self) -> Option<u64>
+        ensures { Finds (self.now).limit result }
+    {
+        self.limit.stale()
     }
 
     /// Ends a run with its status. That of evidence or an alarm stays, even if a fault follows.
@@ -129,7 +163,9 @@ impl Run {
         ensures stopped { OnErr outcome (IfOk result (EndsWith (outcome ≡ Err (Program CannotWrite)) (self.old).said (W.contents writer.old) (W.contents writer.new))) }
         ensures failed { OnErr outcome (IfErr result (FailsWith (outcome ≡ Err (Program CannotWrite)) (self.old).said (W.contents writer.old) (W.contents writer.new))) }
         ensures gives { IfErr result (λ given. IsFaultOfSaving given ⊎ (outcome ≡ Err (Program given))) }
+        ensures fails { (fault : ProgramFault) → outcome ≡ Err (Program fault) → (self.old).said.status < CAUGHT → IfOk result (λ ended. ⊥) }
         ensures grows { Grows (W.contents writer.old) (W.contents writer.new) }
+        ensures limit { (self.new).limit ≡ (self.old).limit }
     {
         let fault = match outcome {
             Ok(()) => return Ok(RunEnd::Whole(self.said.status)),
@@ -161,7 +197,9 @@ impl Run {
         ensures written { OnOk result ((fault ≢ Program CannotWrite) × Appends (W.contents writer.old) (W.contents writer.new) (self.old).said.text.items) }
         ensures unwritten { IfErr result (λ given. ((fault ≢ Program CannotWrite) × Appends (W.contents writer.old) (W.contents writer.new) (self.old).said.text.items) ⊎ (given ≡ CannotWrite)) }
         ensures gives { IfErr result (λ given. IsFaultOfSaving given ⊎ (fault ≡ Program given)) }
+        ensures fails { OnOk result ((given : ProgramFault) → fault ≢ Program given) }
         ensures grows { Grows (W.contents writer.old) (W.contents writer.new) }
+        ensures limit { (self.new).limit ≡ (self.old).limit }
     {
         match fault {
             RunFault::Program(fault) => {
@@ -175,7 +213,7 @@ impl Run {
             RunFault::Ask(AskFault::Stopped) => self.write(writer, errors),
             RunFault::Ask(AskFault::NoReply) => {
                 // What was told is written even if memory runs out here.
-                let noted = self.said.words.extend_from_slice(b"no reply\n");
+                let noted = self.said.words.extend_from_slice(self.silence);
                 self.write(writer, errors)?;
                 noted?;
                 Ok(())
@@ -204,17 +242,22 @@ impl Run {
         H: NodeHash + Drop,
         V: VufCheck + Drop,
         S: Verifier + Drop,
-        ensures runs { OnOk result (report_of (self.old).said ≡ emptied 0 → RunsWhole H.digest_of V.accepted S.verified (ExchangesFrames T.contents T.remaining) keys.now.signing_key keys.now.token (ask_values order.entry)
-            ((self.old).state ≡ None) stream.old stream.new (R.remaining reader.old) (self.new).said.status (W.contents writer.old) (W.contents writer.new)) }
+        ensures runs { OnOk result (report_of (self.old).said ≡ emptied 0 → IsLimitOf (ask_values order.entry) (self.old).limit → RunsLate H.digest_of V.accepted S.verified (ExchangesFrames T.contents T.remaining) keys.now.signing_key keys.now.token (ask_values order.entry)
+            ((self.old).state ≡ None) stream.old stream.new (R.remaining reader.old) (λ after last. (self.new).limit.last ≡ Some last) (self.new).said.status (W.contents writer.old) (W.contents writer.new)) }
         ensures faults { IfErr result (StopsOr (IsFaultWith (¬ ((self.old).state ≡ None)) (AsksInput (ask_values order.entry).words)
             (λ number. IfSome (lines_asked (ask_values order.entry).words (R.remaining reader.old)) (λ lines. IsFirstUnasked 1 lines number)))) }
-        ensures part { OnErr result (report_of (self.old).said ≡ emptied 0 → EndsEarly H.digest_of V.accepted S.verified (ExchangesFrames T.contents T.remaining) keys.now.signing_key keys.now.token (ask_values order.entry)
-            ((self.old).state ≡ None) stream.old (R.remaining reader.old) (W.contents writer.old) (HoldsBack (result ≡ Err (Program CannotWrite)) (W.contents writer.new) (self.new).said)) }
+        ensures part { OnErr result (report_of (self.old).said ≡ emptied 0 → IsLimitOf (ask_values order.entry) (self.old).limit → EndsEarly H.digest_of V.accepted S.verified (ExchangesFrames T.contents T.remaining) keys.now.signing_key keys.now.token (ask_values order.entry)
+            ((self.old).state ≡ None) stream.old (R.remaining reader.old) (W.contents writer.old) (λ after last. (self.new).limit.last ≡ Some last)
+            (LoadsNone ((self.old).state ≡ None) result (self.old).limit (self.new).limit (self.new).said.status) (HoldsBack (result ≡ Err (Program CannotWrite)) (W.contents writer.new) (self.new).said)) }
         ensures kept { IsFresh (self.old).state → (old : List ℕ) (acts : List Act) → W.contents writer.old ≡ Some old → K.has keeper.old acts
             → LeavesTold H.digest_of V.accepted S.verified (lines_asked (ask_values order.entry).words (R.remaining reader.old)) keys.now.signing_key old (λ done. K.has keeper.new (done ++ acts)) }
+        ensures marks { OnOk result (IsFresh (self.old).state → IsUnlooked (self.old).state → report_of (self.old).said ≡ emptied 0 → (old : List ℕ) (acts : List Act) → W.contents writer.old ≡ Some old → K.has keeper.old acts
+            → LeavesMarked H.digest_of V.accepted S.verified (ExchangesFrames T.contents T.remaining) keys.now.signing_key keys.now.token (ask_values order.entry) ((self.old).state ≡ None) stream.old stream.new (R.remaining reader.old) (self.new).said.status
+            (W.contents writer.old) (W.contents writer.new) old (λ done. K.has keeper.new (done ++ acts))) }
         ensures unread { ¬ AsksInput (ask_values order.entry).words → reader.new ≡ reader.old }
         ensures grows { Grows (W.contents writer.old) (W.contents writer.new) }
         ensures rises { (self.old).said.status ≤ (self.new).said.status }
+        ensures limit { IsSameLimit (self.old).limit (self.new).limit }
     {
         let asked = self.ask_all(keeper, stream, checks, keys, order, reader, writer, errors);
         self.leave(asked, keeper, writer)
@@ -241,17 +284,22 @@ impl Run {
         H: NodeHash + Drop,
         V: VufCheck + Drop,
         S: Verifier + Drop,
-        ensures runs { OnOk result (report_of (self.old).said ≡ emptied 0 → RunsWhole H.digest_of V.accepted S.verified (ExchangesFrames T.contents T.remaining) keys.now.signing_key keys.now.token (ask_values order.entry)
-            ((self.old).state ≡ None) stream.old stream.new (R.remaining reader.old) (self.new).said.status (W.contents writer.old) (W.contents writer.new)) }
+        ensures runs { OnOk result (report_of (self.old).said ≡ emptied 0 → IsLimitOf (ask_values order.entry) (self.old).limit → RunsLate H.digest_of V.accepted S.verified (ExchangesFrames T.contents T.remaining) keys.now.signing_key keys.now.token (ask_values order.entry)
+            ((self.old).state ≡ None) stream.old stream.new (R.remaining reader.old) (λ after last. (self.new).limit.last ≡ Some last) (self.new).said.status (W.contents writer.old) (W.contents writer.new)) }
         ensures faults { IfErr result (StopsOr (IsFaultWith (¬ ((self.old).state ≡ None)) (AsksInput (ask_values order.entry).words)
             (λ number. IfSome (lines_asked (ask_values order.entry).words (R.remaining reader.old)) (λ lines. IsFirstUnasked 1 lines number)))) }
-        ensures part { report_of (self.old).said ≡ emptied 0 → EndsEarly H.digest_of V.accepted S.verified (ExchangesFrames T.contents T.remaining) keys.now.signing_key keys.now.token (ask_values order.entry)
-            ((self.old).state ≡ None) stream.old (R.remaining reader.old) (W.contents writer.old) (HoldsBack (result ≡ Err (Program CannotWrite)) (W.contents writer.new) (self.new).said) }
+        ensures part { report_of (self.old).said ≡ emptied 0 → IsLimitOf (ask_values order.entry) (self.old).limit → EndsEarly H.digest_of V.accepted S.verified (ExchangesFrames T.contents T.remaining) keys.now.signing_key keys.now.token (ask_values order.entry)
+            ((self.old).state ≡ None) stream.old (R.remaining reader.old) (W.contents writer.old) (λ after last. (self.new).limit.last ≡ Some last)
+            (LoadsNone ((self.old).state ≡ None) result (self.old).limit (self.new).limit (self.new).said.status) (HoldsBack (result ≡ Err (Program CannotWrite)) (W.contents writer.new) (self.new).said) }
         ensures kept { IsFresh (self.old).state → (old : List ℕ) (acts : List Act) → W.contents writer.old ≡ Some old → K.has keeper.old acts
             → IsLeft H.digest_of V.accepted S.verified (lines_asked (ask_values order.entry).words (R.remaining reader.old)) keys.now.signing_key old (λ done. K.has keeper.new (done ++ acts)) (self.new).state (W.contents writer.new) }
+        ensures marks { OnOk result (IsFresh (self.old).state → IsUnlooked (self.old).state → report_of (self.old).said ≡ emptied 0 → (old : List ℕ) (acts : List Act) → W.contents writer.old ≡ Some old → K.has keeper.old acts
+            → RunsMarked H.digest_of V.accepted S.verified (ExchangesFrames T.contents T.remaining) keys.now.signing_key keys.now.token (ask_values order.entry) ((self.old).state ≡ None) stream.old stream.new (R.remaining reader.old) (self.new).said.status
+            (W.contents writer.old) (W.contents writer.new) old (λ done. K.has keeper.new (done ++ acts)) (self.new).state) }
         ensures unread { ¬ AsksInput (ask_values order.entry).words → reader.new ≡ reader.old }
         ensures grows { Grows (W.contents writer.old) (W.contents writer.new) }
         ensures rises { (self.old).said.status ≤ (self.new).said.status }
+        ensures limit { IsSameLimit (self.old).limit (self.new).limit }
     {
         let mut asker = self.begin(keeper, stream, checks, keys)?;
         self.prepare(&mut asker, keeper, stream, writer, errors)?;
@@ -276,6 +324,7 @@ impl Run {
         ensures err { IfErr result (λ fault. (asked ≡ Err fault) ⊎ ((asked ≡ Ok tt) × StopsOr IsFaultOfSaving fault)) }
         ensures said { (self.new).said ≡ (self.old).said }
         ensures hands { (acts : List Act) → K.has keeper.old acts → LeavesState (K.has keeper.new) acts (self.old).state (W.contents writer.now) }
+        ensures limit { (self.new).limit ≡ (self.old).limit }
     {
         let Some(state) = self.state.as_mut() else {
             return asked;
@@ -310,11 +359,16 @@ impl Run {
             → (start : Found) × RunStands H.digest_of V.accepted S.verified lines start old (λ done. K.has keeper.new (done ++ acts)) asker (self.new).said.text.items (self.new).state (Some old)) }
         ensures left { OnErr result (IsFresh (self.old).state → (lines : Option (List (List ℕ))) (old : List ℕ) (acts : List Act) → K.has keeper.old acts
             → IsLeft H.digest_of V.accepted S.verified lines keys.now.signing_key old (λ done. K.has keeper.new (done ++ acts)) (self.new).state (Some old)) }
+        ensures looks { IsUnlooked (self.old).state → IsUnlooked (self.new).state }
         ensures still { ((self.new).state ≡ None) ↔ ((self.old).state ≡ None) }
         ensures rises { (self.old).said.status ≤ (self.new).said.status }
+        ensures limit { IsSameLimit (self.old).limit (self.new).limit }
+        ensures notes { IfOk result (λ asker. HasNoted asker (self.new).limit) }
+        ensures first { OnErr result (report_of (self.old).said ≡ emptied 0 → NotesFirst H.digest_of V.accepted S.verified keys.now.signing_key ((self.old).state ≡ None) result (self.old).limit (self.new).limit (self.new).said.status) }
     {
         match self.load(keeper, checks, keys)? {
             Ok(asker) => {
+                self.limit.note(&asker);
                 self.tell_evidence(&asker.known)?;
                 Ok(asker)
             }
@@ -327,6 +381,7 @@ impl Run {
         ensures tells { OnOk result (report_of (self.new).said ≡ told_after (report_of (self.old).said) (evidence_again known.now)) }
         ensures untold { OnErr result (report_of (self.new).said ≡ report_of (self.old).said) }
         ensures still { (self.new).state ≡ (self.old).state }
+        ensures limit { (self.new).limit ≡ (self.old).limit }
     {
         let now = evidence_said(self.alloc, known)?;
         self.said.join(now)
@@ -351,9 +406,12 @@ impl Run {
         ensures loads { IfOk result (λ loaded. IfOk loaded (λ asker. HasLoaded (K.has keeper.old) (K.has keeper.new) asker (self.new).state)) }
         ensures fresh { IfOk result (λ loaded. IfErr loaded (λ unused. HasBegun (K.has keeper.old) (K.has keeper.new) (self.old).state (self.new).state)) }
         ensures fails { OnErr result (HasFailed (K.has keeper.old) (K.has keeper.new) (self.old).state (self.new).state) }
+        ensures looks { IsUnlooked (self.old).state → IsUnlooked (self.new).state }
+        ensures counts { IsFresh (self.old).state → HasNoChanges (self.new).state }
         ensures err { IfErr result IsFaultOfState }
         ensures still { ((self.new).state ≡ None) ↔ ((self.old).state ≡ None) }
         ensures said { report_of (self.new).said ≡ report_of (self.old).said }
+        ensures limit { (self.new).limit ≡ (self.old).limit }
     {
         match self.state.as_mut() {
             Some(state) => state.load(keeper, checks, keys.signing_key, keys.token, &mut self.said),
@@ -381,7 +439,11 @@ impl Run {
         ensures faults { IfErr result (StopsOr (λ fault. fault ≡ OutOfMemory)) }
         ensures still { (self.new).state ≡ (self.old).state }
         ensures rises { (self.old).said.status ≤ (self.new).said.status }
+        ensures limit { IsSameLimit (self.old).limit (self.new).limit }
+        ensures notes { IfOk result (λ asker. HasNoted asker (self.new).limit) }
+        ensures first { OnErr result ((self.new).limit.last ≡ Some 0) }
     {
+        self.limit.begin();
         let said = &mut self.said;
         let asker = Asker::start_at_head(
             self.alloc,
@@ -394,6 +456,7 @@ impl Run {
         if self.state.is_some() {
             tell_epoch(b"state: begins at epoch ", asker.head(), said)?;
         }
+        self.limit.note(&asker);
         Ok(asker)
     }
 
@@ -421,10 +484,17 @@ impl Run {
         ensures stands { (lines : Option (List (List ℕ))) (start : Found) (old : List ℕ) (acts : List Act) → RunStands H.digest_of V.accepted S.verified lines start old (λ done. K.has keeper.old (done ++ acts)) asker.old (self.old).said.text.items (self.old).state (W.contents writer.old)
             → StateIsKept H.digest_of V.accepted S.verified lines (asker.old).key start old (λ done. K.has keeper.new (done ++ acts)) (self.new).state (W.contents writer.new)
             × OnOk result (RunStands H.digest_of V.accepted S.verified lines start old (λ done. K.has keeper.new (done ++ acts)) asker.new (self.new).said.text.items (self.new).state (W.contents writer.new)) }
+        ensures marks { OnOk result ((lines : Option (List (List ℕ))) (start : Found) (old : List ℕ) (acts : List Act) → RunStands H.digest_of V.accepted S.verified lines start old (λ done. K.has keeper.old (done ++ acts)) asker.old (self.old).said.text.items (self.old).state (W.contents writer.old)
+            → MarksOn (self.old).state asker.old.monitors.items (self.new).state asker.new.monitors.items) }
         ensures stays { background_of asker.new ≡ background_of asker.old }
         ensures faults { IfErr result (StopsOr IsFaultOfSaving) }
         ensures grows { Grows (W.contents writer.old) (W.contents writer.new) }
         ensures rises { (self.old).said.status ≤ (self.new).said.status }
+        ensures limit { IsSameLimit (self.old).limit (self.new).limit }
+        ensures notes { OnOk result (HasNoted asker.new (self.new).limit) }
+        ensures noted { HasNoted asker.old (self.old).limit → (seen : Scene T) × ((seen ≡ scene asker.old (self.old).said stream.old)
+            ⊎ PreparesSome H.digest_of V.accepted S.verified (ExchangesFrames T.contents T.remaining) (background_of asker.old) ((self.old).state ≡ None) (scene asker.old (self.old).said stream.old) seen)
+            × HasNotedAs (IsLast (asker.old).marks.items seen.client seen.monitors) (self.new).limit }
     {
         let prepared = self.look_around(asker, stream);
         self.settle(asker, prepared, keeper, writer, errors)
@@ -449,6 +519,7 @@ impl Run {
         ensures still { (self.new).state ≡ (self.old).state }
         ensures changes { asker.new.changes ≡ asker.old.changes }
         ensures rises { (self.old).said.status ≤ (self.new).said.status }
+        ensures limit { (self.new).limit ≡ (self.old).limit }
     {
         self.take_new(asker, stream)?;
         asker.test_promises(stream, &mut self.said)
@@ -475,6 +546,7 @@ impl Run {
         ensures still { (self.new).state ≡ (self.old).state }
         ensures changes { asker.new.changes ≡ asker.old.changes }
         ensures rises { (self.old).said.status ≤ (self.new).said.status }
+        ensures limit { (self.new).limit ≡ (self.old).limit }
     {
         if self.state.is_none() {
             return asker.follow(stream, &mut self.said);
@@ -507,9 +579,13 @@ impl Run {
             (scene asker.old (self.old).said stream.old) told (W.contents writer.old) now × HoldsBack (result ≡ Err (Program CannotWrite)) (W.contents writer.new) (self.new).said told now) }
         ensures stands { (start : Found) (old : List ℕ) (acts : List Act) → RunStands H.digest_of V.accepted S.verified (option_map lines_of (R.remaining reader.old)) start old (λ done. K.has keeper.old (done ++ acts)) asker.old (self.old).said.text.items (self.old).state (W.contents writer.old)
             → StateIsKept H.digest_of V.accepted S.verified (option_map lines_of (R.remaining reader.old)) (asker.old).key start old (λ done. K.has keeper.new (done ++ acts)) (self.new).state (W.contents writer.new) }
+        ensures marks { OnOk result ((start : Found) (old : List ℕ) (acts : List Act) → RunStands H.digest_of V.accepted S.verified (option_map lines_of (R.remaining reader.old)) start old (λ done. K.has keeper.old (done ++ acts)) asker.old (self.old).said.text.items (self.old).state (W.contents writer.old)
+            → RunStands H.digest_of V.accepted S.verified (option_map lines_of (R.remaining reader.old)) start old (λ done. K.has keeper.new (done ++ acts)) asker.new (self.new).said.text.items (self.new).state (W.contents writer.new)
+            × (asker.new.key ≡ asker.old.key) × MarksOn (self.old).state asker.old.monitors.items (self.new).state asker.new.monitors.items) }
         ensures faults { IfErr result (StopsOr (IsFaultWith ⊥ ⊤ (λ number. IfSome (R.remaining reader.old) (λ input. IsFirstUnasked 1 (lines_of input) number)))) }
         ensures grows { Grows (W.contents writer.old) (W.contents writer.new) }
         ensures rises { (self.old).said.status ≤ (self.new).said.status }
+        ensures limit { IsSameLimit (self.old).limit (self.new).limit }
     {
         let mut line = Vec::new(self.alloc);
         // Every loop of Rattle has an end: this one's is past any input.
@@ -549,10 +625,18 @@ impl Run {
             → RunStands H.digest_of V.accepted S.verified lines start old (λ done. K.has keeper.old (done ++ acts)) asker.old (self.old).said.text.items (self.old).state (W.contents writer.old)
             → StateIsKept H.digest_of V.accepted S.verified lines (asker.old).key start old (λ done. K.has keeper.new (done ++ acts)) (self.new).state (W.contents writer.new)
             × OnOk result (RunStands H.digest_of V.accepted S.verified lines start old (λ done. K.has keeper.new (done ++ acts)) asker.new (self.new).said.text.items (self.new).state (W.contents writer.new)) }
+        ensures marks { OnOk result ((lines : Option (List (List ℕ))) (start : Found) (old : List ℕ) (acts : List Act) → AsksAmong lines line.now
+            → RunStands H.digest_of V.accepted S.verified lines start old (λ done. K.has keeper.old (done ++ acts)) asker.old (self.old).said.text.items (self.old).state (W.contents writer.old)
+            → RunStands H.digest_of V.accepted S.verified lines start old (λ done. K.has keeper.new (done ++ acts)) asker.new (self.new).said.text.items (self.new).state (W.contents writer.new)
+            × MarksOn (self.old).state asker.old.monitors.items (self.new).state asker.new.monitors.items) }
         ensures stays { background_of asker.new ≡ background_of asker.old }
         ensures faults { IfErr result (StopsOr (λ fault. IsFaultOfSaving fault ⊎ ((fault ≡ NotACommand number) × CannotBeAsked (line_of line.now)))) }
         ensures grows { Grows (W.contents writer.old) (W.contents writer.new) }
         ensures rises { (self.old).said.status ≤ (self.new).said.status }
+        ensures limit { IsSameLimit (self.old).limit (self.new).limit }
+        ensures notes { OnOk result (HasNoted asker.new (self.new).limit) }
+        ensures noted { HasNoted asker.old (self.old).limit → (seen : Scene T) × AsksSomeLine H.digest_of V.accepted S.verified (ExchangesFrames T.contents T.remaining) (background_of asker.old) line.now (scene asker.old (self.old).said stream.old) seen
+            × HasNotedAs (IsLast (asker.old).marks.items seen.client seen.monitors) (self.new).limit }
     {
         let not_a_command = Err(RunFault::Program(ProgramFault::NotACommand(number)));
         let Some(line) = read_line(self.alloc, line)? else {
@@ -586,15 +670,18 @@ impl Run {
         ensures writes { OnOk result (Appends (W.contents writer.old) (W.contents writer.new) (self.old).said.text.items × (report_of (self.new).said ≡ emptied (self.old).said.status)) }
         ensures leaves { HoldsBack (result ≡ Err (Program CannotWrite)) (W.contents writer.new) (self.new).said (report_of (self.old).said) (W.contents writer.old) }
         ensures keeps { IsSettled result → KeepsUp asker.now (self.old).said.text.items (self.old).state (self.new).state }
-        ensures kept { (lines : Option (List (List ℕ))) (key : List ℕ) (start : Found) (old : List ℕ) (acts : List Act) → AreAsked lines start.known asker.now.changes.items → StateIsSaved H.digest_of V.accepted S.verified lines key start old (λ done. K.has keeper.old (done ++ acts)) (self.old).state (W.contents writer.old)
-            → (asked ≢ Err NoMemory → StateStands H.digest_of V.accepted S.verified lines key start old (λ done. K.has keeper.old (done ++ acts)) (self.old).state (W.contents writer.old) (standing asker.now.client asker.now.monitors.items (self.old).said.text.items))
+        ensures kept { (lines : Option (List (List ℕ))) (key : List ℕ) (start : Found) (old : List ℕ) (acts : List Act) → AreNew lines start.known (self.old).state asker.now.changes.items → StateIsSaved H.digest_of V.accepted S.verified lines key start old (λ done. K.has keeper.old (done ++ acts)) (self.old).state (W.contents writer.old)
+            → (asked ≢ Err NoMemory → StateStands H.digest_of V.accepted S.verified lines key start old (λ done. K.has keeper.old (done ++ acts)) (self.old).state (W.contents writer.old) asker.now.changes.items (standing asker.now.client asker.now.monitors.items (self.old).said.text.items))
             → StateIsKept H.digest_of V.accepted S.verified lines key start old (λ done. K.has keeper.new (done ++ acts)) (self.new).state (W.contents writer.new) }
-        ensures stands { OnOk result ((lines : Option (List (List ℕ))) (key : List ℕ) (start : Found) (old : List ℕ) (acts : List Act) → AreAsked lines start.known asker.now.changes.items
-            → StateStands H.digest_of V.accepted S.verified lines key start old (λ done. K.has keeper.old (done ++ acts)) (self.old).state (W.contents writer.old) (standing asker.now.client asker.now.monitors.items (self.old).said.text.items)
-            → StateStands H.digest_of V.accepted S.verified lines key start old (λ done. K.has keeper.new (done ++ acts)) (self.new).state (W.contents writer.new) (standing asker.now.client asker.now.monitors.items [])) }
+        ensures stands { OnOk result ((lines : Option (List (List ℕ))) (key : List ℕ) (start : Found) (old : List ℕ) (acts : List Act) → AreNew lines start.known (self.old).state asker.now.changes.items
+            → StateStands H.digest_of V.accepted S.verified lines key start old (λ done. K.has keeper.old (done ++ acts)) (self.old).state (W.contents writer.old) asker.now.changes.items (standing asker.now.client asker.now.monitors.items (self.old).said.text.items)
+            → StateStands H.digest_of V.accepted S.verified lines key start old (λ done. K.has keeper.new (done ++ acts)) (self.new).state (W.contents writer.new) asker.now.changes.items (standing asker.now.client asker.now.monitors.items [])) }
         ensures faults { IfErr result (StopsOr IsFaultOfSaving) }
         ensures grows { Grows (W.contents writer.old) (W.contents writer.new) }
         ensures status { (self.new).said.status ≡ (self.old).said.status }
+        ensures limit { IsSameLimit (self.old).limit (self.new).limit }
+        ensures notes { OnOk result (HasNoted asker.now (self.new).limit) }
+        ensures noted { ((asked ≢ Err NoMemory) × HasNoted asker.now (self.new).limit) ⊎ ((¬ IsSettled result) × ((self.new).limit ≡ (self.old).limit)) }
     {
         let told = Vec::from_slice(self.alloc, &self.said.text)?;
         self.add(asker, &told, keeper, writer)?;
@@ -609,6 +696,7 @@ impl Run {
     fn explain_stop(&mut self, head: u64, asked: &Result<(), AskFault>) -> Result<(), AllocError>
         ensures said { report_of (self.new).said ≡ report_of (self.old).said }
         ensures still { (self.new).state ≡ (self.old).state }
+        ensures limit { (self.new).limit ≡ (self.old).limit }
     {
         if *asked != Err(AskFault::Stopped) {
             return Ok(());
@@ -631,14 +719,15 @@ impl Run {
         V: VufCheck + Drop,
         S: Verifier + Drop,
         ensures adds { OnOk result (AddsTo asker.now told.now (self.old).state (self.new).state) }
-        ensures kept { (lines : Option (List (List ℕ))) (key : List ℕ) (start : Found) (old : List ℕ) (acts : List Act) → AreAsked lines start.known asker.now.changes.items → StateIsSaved H.digest_of V.accepted S.verified lines key start old (λ done. K.has keeper.old (done ++ acts)) (self.old).state (W.contents writer.now)
+        ensures kept { (lines : Option (List (List ℕ))) (key : List ℕ) (start : Found) (old : List ℕ) (acts : List Act) → AreNew lines start.known (self.old).state asker.now.changes.items → StateIsSaved H.digest_of V.accepted S.verified lines key start old (λ done. K.has keeper.old (done ++ acts)) (self.old).state (W.contents writer.now)
             → StateIsKept H.digest_of V.accepted S.verified lines key start old (λ done. K.has keeper.new (done ++ acts)) (self.new).state (W.contents writer.now) }
-        ensures stands { OnOk result ((lines : Option (List (List ℕ))) (key : List ℕ) (start : Found) (old : List ℕ) (acts : List Act) (said : List ℕ) → AreAsked lines start.known asker.now.changes.items
-            → StateStands H.digest_of V.accepted S.verified lines key start old (λ done. K.has keeper.old (done ++ acts)) (self.old).state (W.contents writer.now) (standing asker.now.client asker.now.monitors.items said)
-            → StateStands H.digest_of V.accepted S.verified lines key start old (λ done. K.has keeper.new (done ++ acts)) (self.new).state (W.contents writer.now) (standing asker.now.client asker.now.monitors.items said)) }
+        ensures stands { OnOk result ((lines : Option (List (List ℕ))) (key : List ℕ) (start : Found) (old : List ℕ) (acts : List Act) (said : List ℕ) → AreNew lines start.known (self.old).state asker.now.changes.items
+            → StateStands H.digest_of V.accepted S.verified lines key start old (λ done. K.has keeper.old (done ++ acts)) (self.old).state (W.contents writer.now) asker.now.changes.items (standing asker.now.client asker.now.monitors.items said)
+            → StateStands H.digest_of V.accepted S.verified lines key start old (λ done. K.has keeper.new (done ++ acts)) (self.new).state (W.contents writer.now) asker.now.changes.items (standing asker.now.client asker.now.monitors.items said)) }
         ensures up_to { OnOk result (IfSome (self.new).state (λ state. IsUpTo asker.now.client state.epoch)) }
         ensures said { (self.new).said ≡ (self.old).said }
         ensures err { IfErr result IsFaultOfSaving }
+        ensures limit { (self.new).limit ≡ (self.old).limit }
     {
         match self.state.as_mut() {
             Some(state) => state.add(keeper, writer, asker, told),
@@ -646,8 +735,8 @@ impl Run {
         }
     }
 
-    /// Adds the alarms and how far names were watched to the files of the state, if there is one, once this is told. Where
-    /// memory ran out in a question, an alarm may be untold, and nothing is added.
+    /// Notes the last epoch, and adds the alarms and how far names were watched to the files of the state, if there is one,
+    /// once this is told. Where memory ran out in a question, an alarm may be untold, and nothing is noted or added.
     fn save<K, W, H, V, S>(
         &mut self,
         asker: &Asker<H, V, S>,
@@ -664,16 +753,19 @@ impl Run {
         S: Verifier + Drop,
         ensures saves { OnOk result (asked.now ≢ Err NoMemory → SavesTo asker.now told.now (self.old).state (self.new).state) }
         ensures kept { (lines : Option (List (List ℕ))) (key : List ℕ) (start : Found) (old : List ℕ) (acts : List Act) → IfSome (self.old).state (λ state. IsUpTo asker.now.client state.epoch)
-            → StateStands H.digest_of V.accepted S.verified lines key start old (λ done. K.has keeper.old (done ++ acts)) (self.old).state (W.contents writer.now) (standing asker.now.client asker.now.monitors.items [])
+            → StateStands H.digest_of V.accepted S.verified lines key start old (λ done. K.has keeper.old (done ++ acts)) (self.old).state (W.contents writer.now) asker.now.changes.items (standing asker.now.client asker.now.monitors.items [])
             → StateIsKept H.digest_of V.accepted S.verified lines key start old (λ done. K.has keeper.new (done ++ acts)) (self.new).state (W.contents writer.now)
-            × OnOk result (StateStands H.digest_of V.accepted S.verified lines key start old (λ done. K.has keeper.new (done ++ acts)) (self.new).state (W.contents writer.now) (standing asker.now.client asker.now.monitors.items [])) }
-        ensures none { asked.now ≡ Err NoMemory → ((self.new).state ≡ (self.old).state) × (keeper.new ≡ keeper.old) }
+            × OnOk result (StateStands H.digest_of V.accepted S.verified lines key start old (λ done. K.has keeper.new (done ++ acts)) (self.new).state (W.contents writer.now) asker.now.changes.items (standing asker.now.client asker.now.monitors.items [])) }
+        ensures none { asked.now ≡ Err NoMemory → ((self.new).state ≡ (self.old).state) × (keeper.new ≡ keeper.old) × ((self.new).limit ≡ (self.old).limit) }
         ensures said { (self.new).said ≡ (self.old).said }
         ensures err { IfErr result IsFaultOfSaving }
+        ensures limit { IsSameLimit (self.old).limit (self.new).limit }
+        ensures notes { asked.now ≢ Err NoMemory → HasNoted asker.now (self.new).limit }
     {
         if *asked == Err(AskFault::OutOfMemory) {
             return Ok(());
         }
+        self.limit.note(asker);
         match self.state.as_mut() {
             Some(state) => state.save(keeper, writer, asker, told),
             None => Ok(()),
@@ -778,6 +870,7 @@ impl Run {
         ensures status { (self.new).said.status ≡ (self.old).said.status }
         ensures err { IfErr result (λ fault. fault ≡ CannotWrite) }
         ensures grows { Grows (W.contents writer.old) (W.contents writer.new) }
+        ensures limit { (self.new).limit ≡ (self.old).limit }
     {
         let told = write_text(writer, &self.said.text);
         self.said.text.clear();
@@ -815,10 +908,11 @@ where
     V: VufCheck + Drop,
     S: Verifier + Drop,
     ensures does { IfSome result (λ asked. OnOk asked (DoesLine H.digest_of V.accepted S.verified (ExchangesFrames T.contents T.remaining) (background_of asker.old) (line_seen line.now) (scene asker.old said.old stream.old) (scene asker.new said.new stream.new))) }
+    ensures whole { IfSome result (λ asked. OnOk asked (DoesLineNoting H.digest_of V.accepted S.verified (ExchangesFrames T.contents T.remaining) (background_of asker.old) (line_seen line.now) (asker_changes asker.old) (asker_changes asker.new) (scene asker.old said.old stream.old) (scene asker.new said.new stream.new))) }
     ensures reaches { (reached : Scene T) × DoesSome H.digest_of V.accepted S.verified (ExchangesFrames T.contents T.remaining) (background_of asker.old) (line_seen line.now) (scene asker.old said.old stream.old) reached × (report_of said.new ≡ reached.told) }
-    ensures stands { IfSome result (λ asked. asked ≢ Err NoMemory → (reached : Scene T) × DoesSomeNoting H.digest_of V.accepted S.verified (ExchangesFrames T.contents T.remaining) (background_of asker.old) (line_seen line.now) (asker_changes asker.old) (asker_changes asker.new)
+    ensures stands { IfSome result (λ asked. asked ≢ Err NoMemory → (reached : Scene T) × DoesSomeNoting H.digest_of V.accepted S.verified (ExchangesFrames T.contents T.remaining) (background_of asker.old) NoReply (line_seen line.now) (asker_changes asker.old) (asker_changes asker.new)
         (scene asker.old said.old stream.old) reached × (report_of said.new ≡ reached.told) × (asker.new.client ≡ reached.client) × (asker.new.monitors.items ≡ reached.monitors)) }
-    ensures notes { IfSome result (λ asked. (reached : Scene T) × DoesSomeNoting H.digest_of V.accepted S.verified (ExchangesFrames T.contents T.remaining) (background_of asker.old) (line_seen line.now) (asker_changes asker.old) (asker_changes asker.new)
+    ensures notes { IfSome result (λ asked. (fault : Fault) × (reached : Scene T) × DoesSomeNoting H.digest_of V.accepted S.verified (ExchangesFrames T.contents T.remaining) (background_of asker.old) fault (line_seen line.now) (asker_changes asker.old) (asker_changes asker.new)
         (scene asker.old said.old stream.old) reached) }
     ensures stays { background_of asker.new ≡ background_of asker.old }
     ensures none { MatchOption result (CannotBeAsked (Some (line_seen line.now))) (λ asked. ⊤) }

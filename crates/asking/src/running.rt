@@ -1,17 +1,22 @@
 // A run of questions over a connection. Contracts do not know what a socket or a file has.
-ghost use Rattle.std.specs.Prelude.{◌≡◌, ◌⊎◌, ◌↔◌, ◌++◌, ℕ, List, Err, IfErr, IfOk, None, OnErr, Some, MatchResult};
-ghost use Rattle.std.specs.Io.KnownBytes.{Keeps};
+ghost use Rattle.std.specs.Prelude.{◌≡◌, ◌⊎◌, ◌↔◌, ◌++◌, ℕ, List, Err, IfErr, IfOk, IfSome, None, Some, MatchResult, Ok};
+ghost use Rattle.std.specs.Io.KnownBytes.{Appends, Keeps};
+ghost use Rattle.textio.specs.Output.{WritesSome};
 ghost use Rattle.textio.specs.declared.program_fault.ProgramFault.TheVariants.{BadHex};
 ghost use Rattle.asking.specs.AskOptions.{ask_keys_of, ask_values};
-ghost use Rattle.asking.specs.Ending.{AsksOverSocket, FailsAs, FailsOverSocket, RunsAs};
+ghost use Rattle.asking.specs.Ending.{AsksAs, AsksOverSocket, FailsAs, FailsLate, FailsOverSocket, IsNewFor, IsUnknown, RunsAs};
+ghost use Rattle.asking.specs.Lateness.{stale_line, IsSameLimit};
 ghost use Rattle.asking.specs.Exchanges.{ExchangesFrames};
+ghost use Rattle.asking.specs.Marking.{LeavesMarked};
 ghost use Rattle.asking.specs.RunFaults.{AsksInput, IsRunFault};
 ghost use Rattle.asking.specs.Runs.{lines_asked, Grows};
 ghost use Rattle.asking.specs.Saves.{Act, LeavesTold};
+ghost use Rattle.asking.specs.declared.run.RunEnd.TheVariants.{Whole, Unwritten, Stale};
 
+use crate::connecting::Connection;
 use crate::keeper::Keeper;
+use crate::lateness::write_stale;
 use crate::run::{Run, RunEnd};
-use crate::said::REFUSED;
 use crate::settling::{name_to_settle, settle_over};
 use crate::state_files::StateFiles;
 use crate::{AskKeys, AskOrder, Checks};
@@ -21,18 +26,21 @@ use sigiface::Verifier;
 use std::alloc::Global;
 use std::fs::{File, Files};
 use std::io::{BufRead, Read, Write};
-use std::net::{Net, TcpListener, TcpStream, ToSocketAddrs};
-use std::time::{Clock, Duration, Instant};
-use textio::{ProgramFault, hex32_or_zeros, option_hex32, write_text};
+use std::net::{Net, TcpListener, TcpStream};
+use std::time::Clock;
+use textio::{ProgramFault, hex32_or_zeros, option_hex32};
 use vrfiface::VufCheck;
 
-/// How long a connection is waited for, and a reply.
-const SECONDS: u64 = 60;
+/// The words for a directory that does not answer.
+const NO_REPLY: &[u8] = b"no reply\n";
+
+/// Those for one to which no connection comes about.
+const NO_CONNECTION: &[u8] = b"cannot connect\n";
 
 /// Asks what the words of an order ask, or the lines of the input, over a connection to its address, and
 /// writes the line of each answer. The words of refusals go to the errors. Words that settle a name ask nothing. Returns
-/// the status: 3 if evidence or an alarm is told, also one of an earlier run; else 1 if the directory or the client refused,
-/// or no reply came; else 0.
+/// the status: 3 if evidence or an alarm is told, also one of an earlier run, or the last epoch is not as late as it is
+/// wanted; else 1 if the directory or the client refused, or no reply came; else 0.
 ///
 /// # Errors
 ///
@@ -133,19 +141,18 @@ where
     ensures fails { ask_keys_of (ask_values order.entry) ≡ Some (keys.signing_key, keys.token)
         → IfErr result (λ fault. FailsOverSocket (ask_values order.entry) (R.remaining reader.old) fault (W.contents writer.old) (W.contents writer.new)) }
 {
-    let Some(mut stream) = connected(alloc, system, order.address) else {
-        write_text(errors, b"cannot connect\n")?;
-        return Ok(REFUSED);
+    let mut connection = Connection::to(alloc, system, order.address);
+    let silence = if connection.is_there() {
+        NO_REPLY
+    } else {
+        NO_CONNECTION
     };
-    // A request is sent at once, and a silent directory is given up. If these fail, it only takes longer.
-    let _set = stream.set_nodelay(true);
-    let _set = stream.set_read_timeout(Some(Duration::from_secs(SECONDS)));
-    let _set = stream.set_write_timeout(Some(Duration::from_secs(SECONDS)));
     let mut keeper = StateFiles::new(alloc, system, order.state.unwrap_or(""))?;
-    let ended = ask_over(
-        alloc,
+    let mut run = Run::of(alloc, &order, silence)?;
+    let ended = ask_in(
+        &mut run,
         &mut keeper,
-        &mut stream,
+        &mut connection,
         Checks::keyed(keys.signing_key),
         keys,
         order,
@@ -154,33 +161,6 @@ where
         errors,
     )?;
     Ok(ended.status())
-}
-
-/// A connection to one of the addresses of a host, the first that answers. All of them have the time of one together: the
-/// host's owner chooses how many there are.
-fn connected<N>(alloc: Global, system: &N, address: &str) -> Option<TcpStream>
-where
-    N: Net<Listener = TcpListener, Stream = TcpStream> + Clock,
-{
-    let begun = Instant::now(system).ok()?;
-    let mut addresses = Vec::new(alloc);
-    for address in address.to_socket_addrs(system).ok()? {
-        addresses.push(address).ok()?;
-    }
-    let mut count = u32::try_from(addresses.len()).ok()?;
-    for address in &addresses {
-        let left = Duration::from_secs(SECONDS).saturating_sub(begun.elapsed(system).ok()?);
-        // A silent address leaves a share of the time to each behind it.
-        let share = left / count.max(1);
-        if share.is_zero() {
-            break;
-        }
-        if let Ok(stream) = TcpStream::connect_timeout(system, address, share) {
-            return Some(stream);
-        }
-        count = count.saturating_sub(1);
-    }
-    None
 }
 
 /// Asks what the words of an order ask, or the lines of the input, over a stream to a directory, and writes the
@@ -216,11 +196,123 @@ where
         (order.entry.state ≡ None) stream.old (R.remaining reader.old) fault (W.contents writer.old) (W.contents writer.new)) }
     ensures keeps { (old : List ℕ) (acts : List Act) → W.contents writer.old ≡ Some old → K.has keeper.old acts
         → LeavesTold H.digest_of V.accepted S.verified (lines_asked (ask_values order.entry).words (R.remaining reader.old)) keys.signing_key old (λ done. K.has keeper.new (done ++ acts)) }
+    ensures marks { (status : ℕ) → result ≡ Ok (Whole status) → (old : List ℕ) (acts : List Act) → W.contents writer.old ≡ Some old → K.has keeper.old acts
+        → LeavesMarked H.digest_of V.accepted S.verified (ExchangesFrames T.contents T.remaining) keys.signing_key keys.token (ask_values order.entry) (order.entry.state ≡ None) stream.old stream.new (R.remaining reader.old) status
+        (W.contents writer.old) (W.contents writer.new) old (λ done. K.has keeper.new (done ++ acts)) }
     ensures faults { IfErr result (IsRunFault (ask_values order.entry) (R.remaining reader.old)) }
     ensures unread { ¬ AsksInput (ask_values order.entry).words → reader.new ≡ reader.old }
     ensures grows { Grows (W.contents writer.old) (W.contents writer.new) }
 {
-    let mut run = Run::new(alloc, order.state.is_some());
+    let mut run = Run::of(alloc, &order, NO_REPLY)?;
+    ask_in(
+        &mut run, keeper, stream, checks, keys, order, reader, writer, errors,
+    )
+}
+
+/// Asks what an order asks in a run that begins, and tells behind all else if its last epoch is not as late as it is wanted.
+fn ask_in<K, T, R, W, E, H, V, S>(
+    run: &mut Run,
+    keeper: &mut K,
+    stream: &mut T,
+    checks: Checks<H, V, S>,
+    keys: AskKeys,
+    order: AskOrder<'_>,
+    reader: &mut R,
+    writer: &mut W,
+    errors: &mut E,
+) -> Result<RunEnd, ProgramFault>
+where
+    K: Keeper,
+    T: Read + Write,
+    R: BufRead,
+    W: Write,
+    E: Write,
+    H: NodeHash + Drop,
+    V: VufCheck + Drop,
+    S: Verifier + Drop,
+    ensures runs { IsNewFor (ask_values order.entry) run.old → IfOk result (λ ended. RunsAs H.digest_of V.accepted S.verified (ExchangesFrames T.contents T.remaining) keys.signing_key keys.token (ask_values order.entry)
+        (order.entry.state ≡ None) stream.old stream.new (R.remaining reader.old) ended (W.contents writer.old) (W.contents writer.new)) }
+    ensures fails { IsNewFor (ask_values order.entry) run.old → IfErr result (λ fault. FailsAs H.digest_of V.accepted S.verified (ExchangesFrames T.contents T.remaining) keys.signing_key keys.token (ask_values order.entry)
+        (order.entry.state ≡ None) stream.old (R.remaining reader.old) fault (W.contents writer.old) (W.contents writer.new)) }
+    ensures keeps { IsNewFor (ask_values order.entry) run.old → (old : List ℕ) (acts : List Act) → W.contents writer.old ≡ Some old → K.has keeper.old acts
+        → LeavesTold H.digest_of V.accepted S.verified (lines_asked (ask_values order.entry).words (R.remaining reader.old)) keys.signing_key old (λ done. K.has keeper.new (done ++ acts)) }
+    ensures marks { IsNewFor (ask_values order.entry) run.old → (status : ℕ) → result ≡ Ok (Whole status) → (old : List ℕ) (acts : List Act) → W.contents writer.old ≡ Some old → K.has keeper.old acts
+        → LeavesMarked H.digest_of V.accepted S.verified (ExchangesFrames T.contents T.remaining) keys.signing_key keys.token (ask_values order.entry) (order.entry.state ≡ None) stream.old stream.new (R.remaining reader.old) status
+        (W.contents writer.old) (W.contents writer.new) old (λ done. K.has keeper.new (done ++ acts)) }
+    ensures faults { IsNewFor (ask_values order.entry) run.old → IfErr result (IsRunFault (ask_values order.entry) (R.remaining reader.old)) }
+    ensures unread { ¬ AsksInput (ask_values order.entry).words → reader.new ≡ reader.old }
+    ensures grows { Grows (W.contents writer.old) (W.contents writer.new) }
+{
+    let ended = ask_to_end(
+        run, keeper, stream, checks, keys, order, reader, writer, errors,
+    );
+    tell_late(ended, run.stale(), writer, errors)
+}
+
+/// Asks what an order asks in a run that begins.
+fn ask_to_end<K, T, R, W, E, H, V, S>(
+    run: &mut Run,
+    keeper: &mut K,
+    stream: &mut T,
+    checks: Checks<H, V, S>,
+    keys: AskKeys,
+    order: AskOrder<'_>,
+    reader: &mut R,
+    writer: &mut W,
+    errors: &mut E,
+) -> Result<RunEnd, ProgramFault>
+where
+    K: Keeper,
+    T: Read + Write,
+    R: BufRead,
+    W: Write,
+    E: Write,
+    H: NodeHash + Drop,
+    V: VufCheck + Drop,
+    S: Verifier + Drop,
+    ensures runs { IsNewFor (ask_values order.entry) run.old → IfOk result (λ ended. AsksAs H.digest_of V.accepted S.verified (ExchangesFrames T.contents T.remaining) keys.signing_key keys.token (ask_values order.entry)
+        (order.entry.state ≡ None) stream.old stream.new (R.remaining reader.old) (λ after last. (run.new).limit.last ≡ Some last) ended (W.contents writer.old) (W.contents writer.new)) }
+    ensures fails { IsNewFor (ask_values order.entry) run.old → IfErr result (λ fault. FailsLate H.digest_of V.accepted S.verified (ExchangesFrames T.contents T.remaining) keys.signing_key keys.token (ask_values order.entry)
+        (order.entry.state ≡ None) stream.old (R.remaining reader.old) (λ after last. (run.new).limit.last ≡ Some last) (IsUnknown (order.entry.state ≡ None) fault × ((run.new).limit.last ≡ None)) fault (W.contents writer.old) (W.contents writer.new)) }
+    ensures keeps { IsNewFor (ask_values order.entry) run.old → (old : List ℕ) (acts : List Act) → W.contents writer.old ≡ Some old → K.has keeper.old acts
+        → LeavesTold H.digest_of V.accepted S.verified (lines_asked (ask_values order.entry).words (R.remaining reader.old)) keys.signing_key old (λ done. K.has keeper.new (done ++ acts)) }
+    ensures marks { IsNewFor (ask_values order.entry) run.old → (status : ℕ) → result ≡ Ok (Whole status) → (old : List ℕ) (acts : List Act) → W.contents writer.old ≡ Some old → K.has keeper.old acts
+        → LeavesMarked H.digest_of V.accepted S.verified (ExchangesFrames T.contents T.remaining) keys.signing_key keys.token (ask_values order.entry) (order.entry.state ≡ None) stream.old stream.new (R.remaining reader.old) status
+        (W.contents writer.old) (W.contents writer.new) old (λ done. K.has keeper.new (done ++ acts)) }
+    ensures faults { IsNewFor (ask_values order.entry) run.old → IfErr result (IsRunFault (ask_values order.entry) (R.remaining reader.old)) }
+    ensures unread { ¬ AsksInput (ask_values order.entry).words → reader.new ≡ reader.old }
+    ensures grows { Grows (W.contents writer.old) (W.contents writer.new) }
+    ensures limit { IsSameLimit (run.old).limit (run.new).limit }
+{
     let outcome = run.ask(keeper, stream, checks, &keys, order, reader, writer, errors);
     run.end(outcome, writer, errors)
+}
+
+/// The end of a run: it is told if the last epoch is not as late as it is wanted. Behind that a fault is told, and is no
+/// error.
+fn tell_late<W: Write, E: Write>(
+    ended: Result<RunEnd, ProgramFault>,
+    stale: Option<u64>,
+    writer: &mut W,
+    errors: &mut E,
+) -> Result<RunEnd, ProgramFault>
+    ensures late { stale ≡ None → (result ≡ ended) × (writer.new ≡ writer.old) }
+    ensures stale { IfSome stale (λ epoch. ((result ≡ Ok (Stale epoch)) × Appends (W.contents writer.old) (W.contents writer.new) (stale_line epoch))
+        ⊎ ((result ≡ Ok Unwritten) × WritesSome (W.contents writer.old) (W.contents writer.new) (stale_line epoch))) }
+    ensures err { IfErr result (λ fault. ended ≡ Err fault) }
+    ensures grows { Grows (W.contents writer.old) (W.contents writer.new) }
+{
+    let Some(epoch) = stale else {
+        return ended;
+    };
+    if let Err(fault) = ended {
+        let _told = fault.tell(errors);
+    }
+    match write_stale(writer, epoch) {
+        Ok(()) => Ok(RunEnd::Stale(epoch)),
+        Err(fault) => {
+            let _told = fault.tell(errors);
+            Ok(RunEnd::Unwritten)
+        }
+    }
 }

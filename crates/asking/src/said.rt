@@ -20,7 +20,7 @@ const OTHER_REPLY: u8 = 25;
 pub(crate) const OTHER_INDEX: u8 = 26;
 
 /// What is said to a line.
-#[derive(Debug, Drop)]
+#[derive(Drop)]
 pub struct Said {
     /// The lines for the output.
     pub text: Vec<u8>,
@@ -84,8 +84,7 @@ impl Said {
         ensures status { OnOk result ((self.new).status ≡ (self.old).status) }
     {
         self.words.extend_from_slice(what)?;
-        push_hex(&mut self.words, name.bytes())?;
-        Ok(())
+        push_hex(&mut self.words, name.bytes())
     }
 
     /// Tells that a reply does not answer what was asked.
@@ -106,8 +105,7 @@ impl Said {
     {
         self.words.extend_from_slice(b": ")?;
         self.words.extend_from_slice(words)?;
-        self.words.push(b'\n')?;
-        Ok(())
+        self.words.extend_from_slice(b"\n")
     }
 }
 
@@ -115,9 +113,8 @@ fn push_refusal(text: &mut Vec<u8>, what: &[u8], number: u8) -> Result<(), Alloc
     ensures { OnOk result (text.new.items ≡ text.old.items ++ refuses_text what.now number) }
 {
     text.extend_from_slice(what)?;
-    text.push(b' ')?;
-    push_number(text, u64::from(number))?;
-    Ok(())
+    text.extend_from_slice(b" ")?;
+    push_number(text, u64::from(number))
 }
 
 /// The words for a refusal of the directory.
@@ -139,8 +136,6 @@ pub(crate) fn directory_words(code: u8) -> &'static [u8] {
         14 => b"out of memory",
         15 => b"no root is asked for, or more than 64",
         19 => b"the record was not kept",
-        25 => b"the binding of the name on the latest page is final",
-        26 => b"the policy is neither open nor final",
         _ => b"no reason is known by this number",
     }
 }

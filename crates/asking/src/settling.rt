@@ -14,6 +14,7 @@ ghost use Rattle.asking.specs.Standing.{IsFresh};
 ghost use Rattle.asking.specs.declared.said.TheConstants.{CAUGHT};
 
 use crate::keeper::Keeper;
+use crate::lateness::Limit;
 use crate::run::Run;
 use crate::said::CAUGHT;
 use crate::{AskKeys, AskOrder, Checks, Said};
@@ -34,9 +35,7 @@ pub(crate) fn name_to_settle(
 ) -> Result<Option<Name>, AllocError>
     ensures { IfOk result (λ found. MatchOption found ((name : List ℕ) → ¬ IsSettling (ask_values order.now) name) (IsSettling (ask_values order.now))) }
 {
-    let (Some(command), Some(digits), None, None) =
-        (order.command, order.first, order.second, order.third)
-    else {
+    let (Some(command), Some(digits), None) = (order.command, order.first, order.second) else {
         return Ok(None);
     };
     if command != "settle" || order.state.is_none() {
@@ -81,7 +80,7 @@ where
         → LeavesTold H.digest_of V.accepted S.verified lines keys.now.signing_key old (λ done. K.has keeper.new (done ++ acts)) }
     ensures grows { Grows (W.contents writer.old) (W.contents writer.new) }
 {
-    let mut run = Run::new(alloc, true);
+    let mut run = Run::new(alloc, true, Limit::none(), b"");
     let settled = settle_in(&mut run, keeper, checks, keys, name, writer, errors);
     end_settled(settled, run.status(), errors)
 }

@@ -3,19 +3,20 @@
 ghost use Rattle.std.specs.Prelude.{◌≡◌, ◌⊎◌, ◌+◌, ◌<◌, ◌≤◌, ◌++◌, ◌∷◌, ℕ, [], false, true, List, None, Option, Some, Contains, drop, length, IfErr, IfOk, OnErr, OnOk};
 ghost use Rattle.std.specs.List.{AllByRecursion};
 ghost use Rattle.rootchain.specs.Promises.{IsSignedPromise};
+ghost use Rattle.rootchain.specs.declared.signed_promise.SignedPromise.{SignedPromise as Signed};
 ghost use Rattle.memory.specs.Leaving.{Leaves, Settles};
-ghost use Rattle.memory.specs.Learning.{AreGone, Each, MarksOne};
-ghost use Rattle.memory.specs.Memories.{nothing};
+ghost use Rattle.memory.specs.Learning.{Each, MarksOne};
+ghost use Rattle.memory.specs.Memories.{nothing, Memory as Known};
 ghost use Rattle.memory.specs.Texts.{items_text, memory_text, TakesAll};
 ghost use Rattle.memory.specs.declared.item.Item.{Item as Remembered};
 ghost use Rattle.monitor.specs.Monitors.{Monitor as Watcher};
-ghost use Rattle.asking.specs.Keeping.{LearnsAfter, LearnsBefore, LearnsPromises, MayMove};
+ghost use Rattle.asking.specs.Keeping.{AreTested, LearnsAfter, LearnsBefore, LearnsPromises, MayMove};
 ghost use Rattle.asking.specs.Remembering.{AreWithin};
 ghost use Rattle.asking.specs.Reports.{report_of};
 ghost use Rattle.asking.specs.RunFaults.{IsFaultOfSaving, IsFaultOfState};
 ghost use Rattle.asking.specs.Runs.{IsSoundFor, KeepsAll};
 ghost use Rattle.asking.specs.Saves.{roots_above, stored_nothing, Act, AddsLines, AddsRoots, AreEarlier, Found, HasOneOfEachName, IsHeadEpoch, Loads, LoadsFor, Writes};
-ghost use Rattle.asking.specs.Standing.{standing, AddsNoOwn, AddsOwn, AreAsked, IsKept, IsUpTo, KeepsMarks, Stands};
+ghost use Rattle.asking.specs.Standing.{standing, AddsNoOwn, AddsOwn, AreAsked, AreLate, IsKept, IsUpTo, KeepsMarks, Stands};
 
 use crate::keeper::{Keeper, Loaded};
 use crate::{Asker, Checks, Said};
@@ -43,8 +44,10 @@ pub(crate) struct State {
     size: Option<usize>,
     /// How many changes of this run were looked at.
     changes: usize,
-    /// The promises that were tested in this run.
-    tested: Vec<SignedPromise>,
+    /// Whether promises were tested in this run.
+    has_tested: bool,
+    /// The promises that the client keeps, once some were tested.
+    kept: Vec<SignedPromise>,
     /// How many promises the client kept, the head, and how many monitors there were, when it was last looked.
     count: usize,
     head: u64,
@@ -58,11 +61,21 @@ fn behind<A>(elements: &[A], count: usize) -> &[A]
     elements.split_at(count.min(elements.len())).1
 }
 
+/// Appends copies of promises.
+fn keep_also(kept: &mut Vec<SignedPromise>, promises: &[SignedPromise]) -> Result<(), AllocError>
+    ensures { OnOk result (kept.new.items ≡ kept.old.items ++ promises.now) }
+{
+    for signed in promises {
+        kept.push(signed.copied())?;
+    }
+    Ok(())
+}
+
 impl State {
     /// A state that is not loaded.
     pub(crate) fn new(alloc: Global) -> Self
         ensures fresh { (result.memory ≡ nothing) × (result.epoch ≡ 0) × (result.is_loaded ≡ false) }
-        ensures looked { (result.changes ≡ 0) × (result.monitors ≡ 0) × (result.tested.items ≡ []) }
+        ensures looked { (result.changes ≡ 0) × (result.monitors ≡ 0) × (result.has_tested ≡ false) }
     {
         State {
             alloc,
@@ -71,7 +84,8 @@ impl State {
             memory: Memory::new(alloc),
             size: Some(0),
             changes: 0,
-            tested: Vec::new(alloc),
+            has_tested: false,
+            kept: Vec::new(alloc),
             count: 0,
             head: 0,
             monitors: 0,
@@ -102,7 +116,7 @@ impl State {
         ensures knows { IfOk result (λ loaded. IfOk loaded (λ asker. (asker.key ≡ key) × (asker.token ≡ token) × (asker.monitors.items ≡ []) × (asker.changes.items ≡ []))) }
         ensures memory { IfOk result (λ loaded. IfOk loaded (λ asker. ((self.new).memory ≡ asker.known) × (asker.marks.items ≡ asker.known.marks))) }
         ensures marks { IfOk result (λ loaded. IfOk loaded (λ asker. AreWithin asker.client.chain asker.known × HasOneOfEachName asker.known × IsHeadEpoch asker.client.chain (self.new).epoch)) }
-        ensures looked { ((self.new).changes ≡ (self.old).changes) × ((self.new).monitors ≡ (self.old).monitors) × ((self.new).tested ≡ (self.old).tested) }
+        ensures looked { ((self.new).changes ≡ (self.old).changes) × ((self.new).monitors ≡ (self.old).monitors) × ((self.new).has_tested ≡ (self.old).has_tested) }
         ensures none { IfOk result (λ loaded. IfErr loaded (λ unused. ((self.new).memory ≡ (self.old).memory) × ((self.new).epoch ≡ (self.old).epoch))) }
         ensures sound { IfOk result (λ loaded. IfOk loaded (λ asker. IsSoundFor H.digest_of V.accepted S.verified key asker.client)) }
         ensures kept { IfOk result (λ loaded. IfOk loaded (λ asker. KeepsAll asker.client asker.earlier.items)) }
@@ -157,10 +171,10 @@ impl State {
         ensures looked { ((self.new).head ≡ (self.old).head) × ((self.new).monitors ≡ (self.old).monitors) }
         ensures changes { OnOk result ((self.new).changes ≡ length asker.now.changes.items) }
         ensures up_to { OnOk result (IsUpTo asker.now.client (self.new).epoch) }
-        ensures kept { (lines : Option (List (List ℕ))) (key : List ℕ) (start : Found) (old : List ℕ) (acts : List Act) → AreAsked lines start.known asker.now.changes.items → IsKept H.digest_of V.accepted S.verified lines key start old (λ done. K.has keeper.old (done ++ acts)) (self.old).epoch (self.old).memory [] (W.contents writer.now)
+        ensures kept { (lines : Option (List (List ℕ))) (key : List ℕ) (start : Found) (old : List ℕ) (acts : List Act) → AreAsked lines start.known asker.now.changes.items × AreLate (self.old).memory (drop (self.old).changes asker.now.changes.items) → IsKept H.digest_of V.accepted S.verified lines key start old (λ done. K.has keeper.old (done ++ acts)) (self.old).epoch (self.old).memory [] (W.contents writer.now)
             → (unsaved : List Remembered) × IsKept H.digest_of V.accepted S.verified lines key start old (λ done. K.has keeper.new (done ++ acts)) (self.new).epoch (self.new).memory unsaved (W.contents writer.now) }
-        ensures stands { OnOk result ((lines : Option (List (List ℕ))) (key : List ℕ) (start : Found) (old : List ℕ) (acts : List Act) (said : List ℕ) → AreAsked lines start.known asker.now.changes.items → Stands H.digest_of V.accepted S.verified lines key start old (λ done. K.has keeper.old (done ++ acts)) (self.old).epoch (self.old).memory [] (W.contents writer.now) (standing asker.now.client asker.now.monitors.items said)
-            → Stands H.digest_of V.accepted S.verified lines key start old (λ done. K.has keeper.new (done ++ acts)) (self.new).epoch (self.new).memory [] (W.contents writer.now) (standing asker.now.client asker.now.monitors.items said)) }
+        ensures stands { OnOk result ((lines : Option (List (List ℕ))) (key : List ℕ) (start : Found) (old : List ℕ) (acts : List Act) (said : List ℕ) → AreAsked lines start.known asker.now.changes.items × AreLate (self.old).memory (drop (self.old).changes asker.now.changes.items) → Stands H.digest_of V.accepted S.verified lines key start old (λ done. K.has keeper.old (done ++ acts)) (self.old).epoch (self.old).memory [] (W.contents writer.now) asker.now.changes.items (standing asker.now.client asker.now.monitors.items said)
+            → Stands H.digest_of V.accepted S.verified lines key start old (λ done. K.has keeper.new (done ++ acts)) (self.new).epoch (self.new).memory [] (W.contents writer.now) asker.now.changes.items (standing asker.now.client asker.now.monitors.items said)) }
     {
         // If a fault comes before all is handed on, nothing tells how much is kept.
         let size = self.size.take();
@@ -201,8 +215,8 @@ impl State {
         ensures looked { OnOk result (((self.new).monitors ≡ length asker.now.monitors.items) × IsHeadEpoch asker.now.client.chain (self.new).head) }
         ensures changes { (self.new).changes ≡ (self.old).changes }
         ensures kept { (lines : Option (List (List ℕ))) (key : List ℕ) (start : Found) (old : List ℕ) (acts : List Act) → IsUpTo asker.now.client (self.old).epoch
-            → Stands H.digest_of V.accepted S.verified lines key start old (λ done. K.has keeper.old (done ++ acts)) (self.old).epoch (self.old).memory [] (W.contents writer.now) (standing asker.now.client asker.now.monitors.items [])
-            → (unsaved : List Remembered) × Stands H.digest_of V.accepted S.verified lines key start old (λ done. K.has keeper.new (done ++ acts)) (self.new).epoch (self.new).memory unsaved (W.contents writer.now) (standing asker.now.client asker.now.monitors.items [])
+            → Stands H.digest_of V.accepted S.verified lines key start old (λ done. K.has keeper.old (done ++ acts)) (self.old).epoch (self.old).memory [] (W.contents writer.now) asker.now.changes.items (standing asker.now.client asker.now.monitors.items [])
+            → (unsaved : List Remembered) × Stands H.digest_of V.accepted S.verified lines key start old (λ done. K.has keeper.new (done ++ acts)) (self.new).epoch (self.new).memory unsaved (W.contents writer.now) asker.now.changes.items (standing asker.now.client asker.now.monitors.items [])
             × OnOk result (unsaved ≡ []) }
     {
         let size = self.size.take();
@@ -240,13 +254,18 @@ impl State {
         Ok(())
     }
 
-    /// Notes the promises that the client no longer keeps: they were tested.
+    /// Notes which promises the client keeps, if it no longer keeps some: they were tested.
     fn note_tested(&mut self, promises: &[SignedPromise]) -> Result<(), AllocError>
-        ensures tested { OnOk result (((length promises.now ≡ (self.old).count) × ((self.new).tested ≡ (self.old).tested)) ⊎ AreGone (self.old).memory promises.now (self.new).tested.items) }
+        ensures tested { OnOk result (((length promises.now ≡ (self.old).count) × ((self.new).has_tested ≡ (self.old).has_tested) × ((self.new).kept ≡ (self.old).kept))
+            ⊎ (((self.new).has_tested ≡ true) × ((self.new).kept.items ≡ promises.now))) }
         ensures same { ((self.new).memory ≡ (self.old).memory) × ((self.new).epoch ≡ (self.old).epoch) × ((self.new).changes ≡ (self.old).changes) × ((self.new).head ≡ (self.old).head) × ((self.new).monitors ≡ (self.old).monitors) }
     {
         if promises.len() != self.count {
-            self.tested = self.memory.gone(self.alloc, promises)?;
+            // Where memory runs out, none counts as tested.
+            self.has_tested = false;
+            self.kept.clear();
+            keep_also(&mut self.kept, promises)?;
+            self.has_tested = true;
             self.count = promises.len();
         }
         Ok(())
@@ -256,7 +275,7 @@ impl State {
     pub(crate) fn settle(&mut self, name: &Name) -> usize
         ensures settles { Settles name.now (self.old).memory (self.new).memory }
         ensures counted { result + length (self.new).memory.alarms ≡ length (self.old).memory.alarms }
-        ensures same { ((self.new).is_loaded ≡ (self.old).is_loaded) × ((self.new).epoch ≡ (self.old).epoch) × ((self.new).tested ≡ (self.old).tested) }
+        ensures same { ((self.new).is_loaded ≡ (self.old).is_loaded) × ((self.new).epoch ≡ (self.old).epoch) × ((self.new).has_tested ≡ (self.old).has_tested) × ((self.new).kept ≡ (self.old).kept) }
         ensures unsaved { 0 < result → (self.new).size ≡ None }
     {
         let count = self.memory.settle(name);
@@ -282,11 +301,12 @@ impl State {
         ensures takes { AllByRecursion IsSignedPromise asker.now.changes.items → OnOk result ((news : List Remembered) × TakesAll news (self.old).memory (self.new).memory × (lines.new.items ≡ lines.old.items ++ items_text news)) }
         ensures taken { AllByRecursion IsSignedPromise asker.now.changes.items → OnErr result ((news : List Remembered) × TakesAll news (self.old).memory (self.new).memory) }
         ensures some { OnErr result (KeepsMarks (self.old).memory (self.new).memory) }
-        ensures own { AddsOwn asker.now.changes.items (self.old).memory (self.new).memory }
+        ensures own { AddsOwn (drop (self.old).changes asker.now.changes.items) (self.old).memory (self.new).memory }
         ensures changes { OnOk result ((self.new).changes ≡ length asker.now.changes.items) }
         ensures same { ((self.new).epoch ≡ (self.old).epoch) × ((self.new).head ≡ (self.old).head) × ((self.new).monitors ≡ (self.old).monitors) }
     {
         let fresh = self.memory.fresh(asker.client.promises());
+        keep_also(&mut self.kept, fresh)?;
         let own = behind(&asker.changes, self.changes);
         self.memory.learn_promises(own, true, lines)?;
         self.memory.learn_promises(fresh, false, lines)?;
@@ -338,12 +358,12 @@ impl State {
         writer: &W,
     ) -> Result<(), ProgramFault>
         ensures err { IfErr result IsFaultOfSaving }
-        ensures leaves { OnOk result (((self.old).is_loaded ≡ false) ⊎ ((self.old).epoch ≡ 0) ⊎ Leaves (self.old).tested.items (self.old).memory (self.new).memory) }
+        ensures leaves { OnOk result (((self.old).is_loaded ≡ false) ⊎ ((self.old).epoch ≡ 0) ⊎ ((tested : List Signed) × AreTested self.old tested × Leaves tested (self.old).memory (self.new).memory)) }
         ensures marks { (self.new).memory.marks ≡ (self.old).memory.marks }
         ensures evidence { (self.new).memory.evidence ≡ (self.old).memory.evidence }
         ensures own { AddsNoOwn (self.old).memory (self.new).memory }
         ensures hands { (acts : List Act) → K.has keeper.old acts → K.has keeper.new acts
-            ⊎ (((self.old).is_loaded ≡ true) × Leaves (self.old).tested.items (self.old).memory (self.new).memory × K.has keeper.new (Writes (memory_text (self.new).memory) (W.contents writer.now) ∷ acts)) }
+            ⊎ (((self.old).is_loaded ≡ true) × ((tested : List Signed) × (known : Known) × Leaves tested (self.old).memory known × K.has keeper.new (Writes (memory_text known) (W.contents writer.now) ∷ acts))) }
         ensures writes { OnOk result (((self.old).is_loaded ≡ false) ⊎ ((self.old).epoch ≡ 0) ⊎ ((self.old).size ≡ Some (length (memory_text (self.new).memory)))
             ⊎ ((acts : List Act) → K.has keeper.old acts → K.has keeper.new (Writes (memory_text (self.new).memory) (W.contents writer.now) ∷ acts))) }
         ensures beside { (self.old).epoch ≡ 0 → (acts : List Act) → K.has keeper.old acts → K.has keeper.new acts }
@@ -353,14 +373,25 @@ impl State {
         if !self.is_loaded || self.epoch == 0 {
             return Ok(());
         }
-        self.memory.leave(&self.tested);
+        let tested = self.tested()?;
+        self.memory.leave(&tested);
         let mut text = Vec::new(self.alloc);
         self.memory.write(&mut text)?;
-        // At least these lines are kept, some perhaps in the older form. Where they are as long, nothing is to be dropped.
+        // At least these lines are kept, some perhaps in the older form. Where they are as long, they stay.
         if self.size == Some(text.len()) {
             return Ok(());
         }
         keeper.replace(&text, writer)
+    }
+
+    /// The promises that are remembered, and that the client no longer keeps as they were tested in this run.
+    fn tested(&self) -> Result<Vec<SignedPromise>, AllocError>
+        ensures { IfOk result (λ tested. AreTested self.now tested.items) }
+    {
+        if !self.has_tested {
+            return Ok(Vec::new(self.alloc));
+        }
+        self.memory.gone(self.alloc, &self.kept)
     }
 
     /// Hands lines on to be kept, behind so many bytes, if that is known.

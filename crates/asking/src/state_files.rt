@@ -72,8 +72,7 @@ fn push_words(words: &mut Vec<u8>, path: &str, what: &[u8]) -> Result<(), AllocE
     words.extend_from_slice(path.as_bytes())?;
     words.extend_from_slice(b": ")?;
     words.extend_from_slice(what)?;
-    words.push(b'\n')?;
-    Ok(())
+    words.extend_from_slice(b"\n")
 }
 
 /// A fault that a file of the state has. Where it is of a line, the file is named in a line of the errors.

@@ -11,7 +11,7 @@ use sigiface::Verifier;
 use vrfiface::VufCheck;
 
 /// So many roots from an epoch on, asked for when the chain had a head of the epoch `held`.
-#[derive(Clone, Copy, Debug)]
+#[derive(Clone, Copy)]
 pub(crate) struct Wanted {
     pub(crate) held: u64,
     pub(crate) from: u64,

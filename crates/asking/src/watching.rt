@@ -1,19 +1,21 @@
 // The monitors of names.
-ghost use Rattle.std.specs.Prelude.{◌≡◌, ◌≢◌, ◌⊎◌, ◌-◌, ◌++◌, ◌∷◌, [], ℕ, codes, length, slice_get, IfErr, IfOk, OnErr, OnOk, Some};
+ghost use Rattle.std.specs.Prelude.{◌≡◌, ◌≢◌, ◌⊎◌, ◌-◌, ◌++◌, ◌∷◌, [], ℕ, codes, length, option_map, slice_get, IfErr, IfOk, OnErr, OnOk, Some};
+ghost use Rattle.commands.specs.Operations.{Lookup};
+ghost use Rattle.wire.specs.Frames.{Frame};
+ghost use Rattle.wire.specs.Requests.{Query};
 ghost use Rattle.client.specs.declared.client_refusal.Refusal.TheVariants.{Memory};
 ghost use Rattle.rootchain.specs.declared.signed_promise.SignedPromise.{SignedPromise};
 ghost use Rattle.asking.specs.Askers.{asker_marks};
 ghost use Rattle.asking.specs.Asking.{handed_told, HandsAll, HandsTo, NotesLast};
 ghost use Rattle.asking.specs.Exchanges.{ExchangesFrames};
 ghost use Rattle.asking.specs.Refused.{client_refuses};
-ghost use Rattle.asking.specs.Scenes.{scene, HaltsAfter, HaltsIn, Remains, StaysWhole};
+ghost use Rattle.asking.specs.Scenes.{scene, GivesBody, HaltsAfter, HaltsIn, Remains, StaysWhole};
 ghost use Rattle.asking.specs.Reports.{report_of, silent, Report, Tells};
 ghost use Rattle.asking.specs.Watching.{step_told, GoesOn, GoesSome, StepsOnce, StepsSome, StepsThrough, WatchesAt, WatchesEpoch};
 ghost use Rattle.asking.specs.declared.ask_fault.AskFault.TheVariants.{Stopped};
 
-use crate::answering::body_of;
+use crate::answering::ask_for;
 use crate::checking::tell_client;
-use crate::exchange::frame_in;
 use crate::said::CAUGHT;
 use crate::{AskFault, Asker, Checks, Said};
 use encoding::Name;
@@ -115,14 +117,30 @@ where
         let Some(epoch) = monitor.next_epoch() else {
             return Ok(false);
         };
-        let name = Vec::from_slice(self.alloc, monitor.name().bytes())?;
-        let ask = Ask::Lookup { name, epoch };
-        let reply = self.request(stream, &ask)?;
-        let Some(found) = body_of(self.alloc, &ask, &frame_in(&reply)?, said)? else {
+        let name = monitor.name().copied();
+        let Some(found) = self.look_up(stream, &name, epoch, said)? else {
             return Ok(false);
         };
         let (monitors, checks) = (&mut self.monitors, &mut self.checks);
-        Ok(watch_at(self.alloc, monitors, place, checks, epoch, found, said)?)
+        Ok(watch_at(self.alloc, monitors, place, checks, epoch, &found, said)?)
+    }
+
+    /// Looks a name up at an epoch. Returns the body of the reply if it is an answer; else tells why it is none.
+    pub(crate) fn look_up<T: Read + Write>(
+        &self,
+        stream: &mut T,
+        name: &Name,
+        epoch: u64,
+        said: &mut Said,
+    ) -> Result<Option<Vec<u8>>, AskFault>
+        ensures gives { IfOk result (λ body. (frame : Frame) × ExchangesFrames T.contents T.remaining stream.old (Query (Lookup name.now epoch)) frame stream.new
+            × GivesBody (Query (Lookup name.now epoch)) frame said.old (option_map (λ bytes. bytes.items) body) said.new) }
+        ensures err { IfErr result (λ fault. fault ≢ Stopped) }
+        ensures untold { OnErr result (report_of said.new ≡ report_of said.old) }
+    {
+        let name = Vec::from_slice(self.alloc, name.bytes())?;
+        let ask = Ask::Lookup { name, epoch };
+        ask_for(self.alloc, stream, self.token, &ask, said)
     }
 }
 
@@ -165,7 +183,7 @@ where
         return Ok(None);
     }
     let key = &signed.promise.key;
-    match monitor.expect(&mut checks.hash, &checks.verifier, key, promise) {
+    match monitor.expect_change(&mut checks.hash, &checks.verifier, key, promise) {
         Ok(()) => Ok(None),
         Err(Refusal::Client(client::Refusal::Memory)) => Err(AllocError),
         Err(why) => Ok(Some(why)),

@@ -1,9 +1,11 @@
 -- The number that an option's text gives.
-use Rattle.std.proofs.Common.{◌≡◌, ◌≤◌, ◌<◌, ℕ, Bool, true, false, List, Ok, Err, refl, arith}
+use Rattle.std.proofs.Common.{◌≡◌, ◌∙◌, ◌≤◌, ◌<◌, ℕ, Bool, true, false, List, [], Option, None, Some, Ok, Err, ap, option_map, unwrap_or, refl, arith, subst, sym}
+use Rattle.std.specs.Borrow.{Bor}
 use Rattle.std.specs.declared.num.ParseIntError.{ParseIntError}
 use Rattle.std.specs.Str.Parse.{ParsesUnsigned, digits_value, without_leading_plus}
 use Rattle.clap.specs.declared.builder.value_parser.ValueParser.TheVariants.{Unsigned}
 use Rattle.clap.specs.ValueTests.{is_unsigned_in}
+use Rattle.clap.specs.Words.{Text}
 use Rattle.clap.proofs.ValueTestLemmas.{accepts-Accepts, Accepts-accepts}
 use Rattle.directoryd.specs.CommandLine.{greatest}
 use Rattle.directoryd.specs.Orders.{number_from}
@@ -27,3 +29,15 @@ none_read least text error read = go (is_unsigned_in least greatest text) refl
     go true passes =
         let accepted = accepts-Accepts false (Unsigned least greatest) text passes in
         absurd (read (accepted.0, accepted.1))
+
+-- the number of an option that is given
+pub number_given : (given : Option (Bor Text)) (text : Bor Text) (first : Option Text) (number : ℕ) → given ≡ Some text → option_map (λ t. t.now) given ≡ first → number ≡ number_from 0 (unwrap_or first [])
+    → ◌≡◌ {A = Option ℕ} (Some number) (option_map (number_from 0) first)
+number_given given text first number is same value =
+    let some : first ≡ Some text.now = sym same ∙ ap (λ (g : Option (Bor Text)). option_map (λ t. t.now) g) is in
+    subst (λ (f : Option Text). number ≡ number_from 0 (unwrap_or f []) → ◌≡◌ {A = Option ℕ} (Some number) (option_map (number_from 0) f)) (sym some) (λ v. ap Some v) value
+
+-- and of one that is not
+pub none_given : (given : Option (Bor Text)) (first : Option Text) → given ≡ None → option_map (λ t. t.now) given ≡ first → ◌≡◌ {A = Option ℕ} None (option_map (number_from 0) first)
+none_given given first none same =
+    subst (λ (f : Option Text). ◌≡◌ {A = Option ℕ} None (option_map (number_from 0) f)) (sym (ap (λ (g : Option (Bor Text)). option_map (λ t. t.now) g) none) ∙ same) refl

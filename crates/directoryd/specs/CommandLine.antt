@@ -43,6 +43,10 @@ bounded_rule name least most default = record (text_rule name) { defaults = defa
 abbrev pub number_rule : Text → ℕ → Text → Rule
 number_rule name least default = bounded_rule name least greatest default
 
+-- an option whose value is such a number, without a default
+abbrev pub optional_rule : Text → ℕ → ℕ → Rule
+optional_rule name least most = record (text_rule name) { parser = Some (Unsigned least most) }
+
 -- an option without a value
 abbrev pub flag_rule : Text → Rule
 flag_rule name = record (new_rule name) { long = Some name; action = Some SetTrue }
@@ -99,8 +103,8 @@ listen_app =
 
 abbrev pub ask_app : App
 ask_app = with_rule (with_rule (with_rule (with_rule (with_rule (with_rule (with_rule (with_rule (with_rule (with_rule (new_app (codes "ask"))
-    (text_rule (codes "provider"))) (text_rule (codes "token"))) (text_rule (codes "keys"))) (text_rule (codes "state"))) (flag_rule (codes "text")))
-    (positional_rule (codes "address"))) (word_rule (codes "command"))) (word_rule (codes "first"))) (word_rule (codes "second"))) (word_rule (codes "third"))
+    (text_rule (codes "provider"))) (text_rule (codes "token"))) (text_rule (codes "keys"))) (text_rule (codes "state"))) (flag_rule (codes "text"))) (optional_rule (codes "after") 0 greatest))
+    (positional_rule (codes "address"))) (word_rule (codes "command"))) (word_rule (codes "first"))) (word_rule (codes "second"))
 
 -- the program without its subcommands, of which one has to be there; it has a version
 abbrev pub bare_app : App

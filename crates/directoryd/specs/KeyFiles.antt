@@ -125,6 +125,7 @@ ask_with file asked = record {
   state = asked.state;
   address = asked.address;
   words = asked.words;
+  after = asked.after;
 }
 
 -- the public key in a provider's file, put to what is asked of a directory

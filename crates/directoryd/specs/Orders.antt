@@ -96,6 +96,10 @@ connections_in rows = record {
   address = text_in (codes "address") rows;
 }
 
+-- the epoch that the last one has to be above, if one is given
+abbrev pub after_in : List Row → Option ℕ
+after_in rows = option_map (number_from 0) (first_of (codes "after") rows)
+
 -- the values of what is asked of a directory
 abbrev pub asking_in : List Row → AskOptions
 asking_in rows = record {
@@ -103,7 +107,8 @@ asking_in rows = record {
   token = first_of (codes "token") rows;
   state = first_of (codes "state") rows;
   address = text_in (codes "address") rows;
-  words = first_of (codes "command") rows ∷ first_of (codes "first") rows ∷ first_of (codes "second") rows ∷ first_of (codes "third") rows ∷ [];
+  words = first_of (codes "command") rows ∷ first_of (codes "first") rows ∷ first_of (codes "second") rows ∷ [];
+  after = after_in rows;
 }
 
 -- from where the texts of what is asked come

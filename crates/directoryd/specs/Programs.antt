@@ -1,5 +1,5 @@
 -- What the programs do, and how the process ends.
-use Rattle.std.specs.Prelude.{◌≡◌, ◌⊎◌, ◌↔◌, ◌&&◌, ℕ, zero, suc, List, Bool, true, false, Option, None, Result, Ok, Err, IfErr, IfOk, Vec, String, map, string_bytes, codes, ⊤}
+use Rattle.std.specs.Prelude.{◌≡◌, ◌⊎◌, ◌↔◌, ◌&&◌, ℕ, zero, suc, List, Bool, true, false, not, is_some, if◌then◌else◌, Option, Some, None, Result, Ok, Err, IfErr, IfOk, Vec, String, map, string_bytes, codes, ⊤}
 use Rattle.std.specs.IoError.{error_kind}
 use Rattle.std.specs.declared.io.Error.{Error as IoError}
 use Rattle.std.specs.declared.io.ErrorKind.TheVariants as io
@@ -27,7 +27,7 @@ use Rattle.directoryd.specs.declared.refusing.TheConstants.{WRONG_WORDS}
 use Rattle.directoryd.specs.CommandLine.{status_of, RefusesWords}
 use Rattle.directoryd.specs.Orders.{AskTextValues, IsTask, Task, the_root, the_path, the_audit, the_verdict, the_script, the_session, the_connections, the_questions}
 use Rattle.directoryd.specs.KeyFiles.{ask_with, directory_with, provided, HasNoKeys, Uses}
-use Rattle.directoryd.specs.TextNames.{lacks_command, texted}
+use Rattle.directoryd.specs.TextNames.{has_last, lacks_command, texted}
 use Rattle.directoryd.specs.declared.keys.KeysKind.TheVariants.{Public, Secret}
 use Rattle.server.specs.ConnectionOptions.{ConnectionOptions}
 use Rattle.server.specs.DirectoryOptions.{DirectoryOptions}
@@ -96,6 +96,16 @@ ListensKeyed asked taken keys err err-new result =
 abbrev pub no_command : List ℕ
 no_command = codes "error: '--text' is for a COMMAND of the words; names in the lines of the input are hexadecimal digits\n"
 
+-- the line about a last epoch of words that have none
+abbrev pub no_last : List ℕ
+no_last = codes "error: '--after' is for the COMMAND 'watch' or 'head' of the words\n"
+
+-- the line about options that the words have no use for, if there are some
+abbrev pub wrong_line : AskOptions → AskTextValues → Option (List ℕ)
+wrong_line asked texts =
+    if texts.is_text && lacks_command asked.words then Some no_command
+    else (if is_some asked.after && not (has_last asked.words) then Some no_last else None)
+
 -- a directory is asked with the keys that are used, or they are not taken: a text that is no key is a fault before all else
 abbrev pub AsksFrom : AskOptions → AskTextValues → Option (List ℕ) → Option (List ℕ) → Option (List ℕ) → Option (List ℕ) → Option (List ℕ) → Result ℕ ProgramFault → Type 0
 AsksFrom asked texts input out out-new err err-new outcome =
@@ -106,18 +116,18 @@ AsksFrom asked texts input out out-new err err-new outcome =
     × IfErr outcome (λ fault. (fault ≡ BadHex) ⊎ IsRunFault used input fault) × Grows out out-new
     × IfOk outcome (λ status. AsksOverSocket used input status out out-new) × IfErr outcome (λ fault. FailsOverSocket used input fault out out-new)))
 
--- a line says that the lines of the input have no text
-abbrev pub RefusesLines : Option (List ℕ) → Option (List ℕ) → Option (List ℕ) → Option (List ℕ) → Result ℕ ProgramFault → Type 0
-RefusesLines out out-new err err-new outcome = Keeps out out-new × Prints WRONG_WORDS no_command err err-new outcome
+-- such a line is told
+abbrev pub RefusesLine : List ℕ → Option (List ℕ) → Option (List ℕ) → Option (List ℕ) → Option (List ℕ) → Result ℕ ProgramFault → Type 0
+RefusesLine line out out-new err err-new outcome = Keeps out out-new × Prints WRONG_WORDS line err err-new outcome
 
--- so with a name that is text, if it is among the words; or names of the lines of the input are to be text
-abbrev pub AsksIf : Bool → AskOptions → AskTextValues → Option (List ℕ) → Option (List ℕ) → Option (List ℕ) → Option (List ℕ) → Option (List ℕ) → Result ℕ ProgramFault → Type 0
-AsksIf true asked texts input out out-new err err-new outcome = RefusesLines out out-new err err-new outcome
-AsksIf false asked texts input out out-new err err-new outcome =
+-- so with a name that is text, if it is among the words; or the words have no use for an option
+abbrev pub AsksUnless : Option (List ℕ) → AskOptions → AskTextValues → Option (List ℕ) → Option (List ℕ) → Option (List ℕ) → Option (List ℕ) → Option (List ℕ) → Result ℕ ProgramFault → Type 0
+AsksUnless (Some line) asked texts input out out-new err err-new outcome = RefusesLine line out out-new err err-new outcome
+AsksUnless None asked texts input out out-new err err-new outcome =
     WantsMemory out out-new err err-new outcome ⊎ AsksFrom (texted texts.is_text asked) texts input out out-new err err-new outcome
 
 abbrev pub AsksKeyed : AskOptions → AskTextValues → Option (List ℕ) → Option (List ℕ) → Option (List ℕ) → Option (List ℕ) → Option (List ℕ) → Result ℕ ProgramFault → Type 0
-AsksKeyed asked texts = AsksIf (texts.is_text && lacks_command asked.words) asked texts
+AsksKeyed asked texts = AsksUnless (wrong_line asked texts) asked texts
 
 -- What is ordered is done: a root is written, or the path of an index; an input is audited; a file is judged;
 -- a script is played; a directory begins, or goes on from its journal, and serves one session; one serves

@@ -6,7 +6,7 @@ use Rattle.directoryd.specs.declared.order.tables.Argument.{Argument}
 use Rattle.directoryd.specs.declared.order.tables.Kind.{Kind}
 use Rattle.directoryd.specs.declared.order.tables.Kind.TheVariants as kind
 use Rattle.directoryd.specs.declared.order.tables.Subcommand.{Subcommand}
-use Rattle.directoryd.specs.CommandLine.{bounded_rule, flag_rule, hash_rule, positional_rule, required_rule, text_rule, word_rule}
+use Rattle.directoryd.specs.CommandLine.{bounded_rule, flag_rule, hash_rule, optional_rule, positional_rule, required_rule, text_rule, word_rule}
 
 -- the rule of an argument of this name and kind
 abbrev pub rule_by : ValueParser → Text → Kind → Rule
@@ -15,6 +15,7 @@ rule_by names name kind.Positional = positional_rule name
 rule_by names name kind.Text = text_rule name
 rule_by names name kind.Required = required_rule name
 rule_by names name (kind.Number least most default) = bounded_rule name least most default.now
+rule_by names name (kind.Optional least most) = optional_rule name least most
 rule_by names name kind.Flag = flag_rule name
 rule_by names name kind.Hash = record (hash_rule names) { id = name; long = Some name }
 

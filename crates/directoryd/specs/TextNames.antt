@@ -8,9 +8,8 @@ use Rattle.asking.specs.AskOptions.{AskOptions}
 -- whether the first word behind this command is a name
 abbrev pub takes_name : Text → Bool
 takes_name command =
-    (((((((bytes_eq command (codes "register") || bytes_eq command (codes "change")) || bytes_eq command (codes "register2")) || bytes_eq command (codes "change2"))
-    || bytes_eq command (codes "promise")) || bytes_eq command (codes "lookup")) || bytes_eq command (codes "watch")) || bytes_eq command (codes "watch2"))
-    || bytes_eq command (codes "settle")
+    ((((bytes_eq command (codes "register") || bytes_eq command (codes "change")) || bytes_eq command (codes "promise"))
+    || bytes_eq command (codes "lookup")) || bytes_eq command (codes "watch")) || bytes_eq command (codes "settle")
 
 -- the hexadecimal digits of the name among the words, if there is one
 abbrev pub name_digits : List (Option Text) → Option Text
@@ -25,6 +24,11 @@ with_digits _ words = words
 -- what is asked, with the name in hexadecimal digits if it was given as text
 abbrev pub texted : Bool → AskOptions → AskOptions
 texted is_text asked = record asked { words = with_digits (if is_text then name_digits asked.words else None) asked.words }
+
+-- the words ask what has a last epoch
+abbrev pub has_last : List (Option Text) → Bool
+has_last (Some command ∷ more) = bytes_eq command (codes "watch") || bytes_eq command (codes "head")
+has_last _ = false
 
 -- the lines of the input are asked
 abbrev pub lacks_command : List (Option Text) → Bool

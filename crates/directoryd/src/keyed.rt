@@ -9,7 +9,7 @@ ghost use Rattle.directoryd.specs.Programs.{AsksFrom, AsksKeyed, ListensKeyed, S
 use crate::keys::{KeysKind, ask_with, directory_with, keys_at, listen_with, provided};
 use crate::naming::{digits_of, with_digits};
 use crate::order::AskTexts;
-use crate::refusing::refuse_lines;
+use crate::refusing::{refuse_line, wrong_line};
 use crate::{ask, listen, serve_directory};
 use asking::AskOrder;
 use server::{DirectoryOrder, ListenOrder};
@@ -71,7 +71,7 @@ where
     }
 }
 
-/// Asks a directory that listens. A name that is text has to be among the words.
+/// Asks a directory that listens. A name that is text has to be among the words, and what has a last epoch, if one is wanted.
 pub(crate) fn ask_keyed<N, R, W, E>(
     alloc: Global,
     system: &N,
@@ -89,8 +89,8 @@ where
     ensures { AsksKeyed (ask_values order.entry) (texts_of texts.entry) (R.remaining reader.old) (W.contents writer.old) (W.contents writer.new)
         (E.contents errors.old) (E.contents errors.new) result }
 {
-    if texts.is_text && order.command.is_none() {
-        return refuse_lines(errors);
+    if let Some(line) = wrong_line(&order, &texts) {
+        return refuse_line(line, errors);
     }
     match digits_of(alloc, &order, texts.is_text) {
         Ok(digits) => {

@@ -9,7 +9,7 @@ ghost use Rattle.directoryd.specs.Tables.{app_in, apps_in, rule_in};
 ghost use Rattle.items.specs.TreeOptions.{tree_values};
 ghost use Rattle.server.specs.DirectoryOptions.{directory_values};
 ghost use Rattle.asking.specs.AskOptions.{ask_values};
-ghost use Rattle.directoryd.specs.Orders.{asked_in, asking_in, connections_in, directory_in, flag_in, hash_named, number_from, task_in, text_in, texts_in, texts_of, the_connections, values_in, IsTask};
+ghost use Rattle.directoryd.specs.Orders.{after_in, asked_in, asking_in, connections_in, directory_in, flag_in, hash_named, number_from, task_in, text_in, texts_in, texts_of, the_connections, values_in, IsTask};
 
 mod subcommands;
 mod tables;
@@ -40,7 +40,7 @@ nobody yet.
 
 Status 0: done, or help or the version was asked for. Status 1: a fault, which is one line on standard
 error; or `ask` was refused something. Status 2: the command line is wrong. Status 3: `judge` printed
-`no evidence`; or `ask` caught the provider, or found that a name is not as expected.
+`no evidence`; or `ask` caught the provider, or found that a name is not as expected or an epoch stale.
 
 `directoryd COMMAND --help` shows the options of a command, and an example. In the repository, README.md
 says what this is, docs/OPERATING.md how to run a directory, and docs/FORMATS.md what each byte means.
@@ -71,6 +71,10 @@ fn argument<'a>(alloc: Global, row: &Argument, names: ValueParser<'a>) -> Arg<'a
             .long(row.name)
             .value_name(row.value)
             .default_value(default)
+            .value_parser(ValueParser::unsigned(least, most)),
+        Kind::Optional(least, most) => named
+            .long(row.name)
+            .value_name(row.value)
             .value_parser(ValueParser::unsigned(least, most)),
         Kind::Flag => named.long(row.name).action(ArgAction::SetTrue),
         Kind::Hash => named
@@ -206,6 +210,16 @@ fn listen_order<'a>(found: &ArgMatches<'a>) -> Order<'a>
     Order::Listen(order, found.get_str("keys"))
 }
 
+/// The epoch that the last one has to be above, if one is given.
+fn after(found: &ArgMatches<'_>) -> Option<u64>
+    ensures { result ≡ after_in (rows_of (found_of found.now)) }
+{
+    match found.get_str("after") {
+        Some(_) => Some(number(found, "after", 0)),
+        None => None,
+    }
+}
+
 /// What is asked of a directory, as a subcommand has it.
 fn ask_order<'a>(found: &ArgMatches<'a>) -> AskOrder<'a>
     ensures { ask_values result ≡ asking_in (rows_of (found_of found.now)) }
@@ -218,7 +232,7 @@ fn ask_order<'a>(found: &ArgMatches<'a>) -> AskOrder<'a>
         command: found.get_str("command"),
         first: found.get_str("first"),
         second: found.get_str("second"),
-        third: found.get_str("third"),
+        after: after(found),
     }
 }
 

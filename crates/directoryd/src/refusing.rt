@@ -1,11 +1,17 @@
-ghost use Rattle.std.specs.Prelude.{◌≡◌, ◌↔◌, Err, IfErr};
+ghost use Rattle.std.specs.Prelude.{◌≡◌, ◌↔◌, ◌∷◌, Err, IfErr, List, Option, option_map};
 ghost use Rattle.std.specs.IoError.{error_kind};
 ghost use Rattle.clap.specs.Words.{kind_of};
 ghost use Rattle.clap.specs.declared.error.kind.ErrorKind.TheVariants.{OutOfMemory};
 ghost use Rattle.directoryd.specs.CommandLine.{status_of};
-ghost use Rattle.directoryd.specs.Programs.{no_command, no_text, Prints, ShowsText};
+ghost use Rattle.directoryd.specs.Programs.{no_text, wrong_line, Prints, ShowsText};
+ghost use Rattle.directoryd.specs.Orders.{texts_of};
+ghost use Rattle.directoryd.specs.TextNames.{has_last};
+ghost use Rattle.asking.specs.AskOptions.{ask_values};
+ghost use Rattle.clap.specs.Words.{Text};
 ghost use Rattle.directoryd.specs.declared.refusing.TheConstants.{WRONG_WORDS};
 
+use crate::order::AskTexts;
+use asking::AskOrder;
 use clap::Error;
 use clap::error::ErrorKind;
 use std::alloc::Global;
@@ -21,6 +27,9 @@ static NO_TEXT: &[u8] = b"error: invalid UTF-8 was detected in one or more argum
 /// The line about a name that is to be text where the lines of the input are asked.
 static NO_COMMAND: &[u8] =
     b"error: '--text' is for a COMMAND of the words; names in the lines of the input are hexadecimal digits\n";
+
+/// The line about a last epoch of words that have none.
+static NO_LAST: &[u8] = b"error: '--after' is for the COMMAND 'watch' or 'head' of the words\n";
 
 /// Writes a text whole, and returns this status.
 fn print<W: Write>(writer: &mut W, text: &[u8], status: u8) -> Result<u8, ProgramFault>
@@ -80,13 +89,36 @@ pub fn refuse_bytes<E: Write>(error: &io::Error, errors: &mut E) -> Result<u8, P
     print(errors, NO_TEXT, WRONG_WORDS)
 }
 
-/// Says that the lines of the input have no text.
+/// Whether the words ask what has a last epoch.
+fn has_last(command: Option<&str>) -> bool
+    ensures { (more : List (Option Text)) → result ≡ has_last (option_map (λ text. text.now) command.entry ∷ more) }
+{
+    match command {
+        Some(command) => command == "watch" || command == "head",
+        None => false,
+    }
+}
+
+/// The line about options that the words have no use for, if there are some.
+pub(crate) fn wrong_line<'a>(order: &AskOrder<'_>, texts: &AskTexts<'_>) -> Option<&'a [u8]>
+    ensures { option_map (λ line. line.now) result ≡ wrong_line (ask_values order.now) (texts_of texts.now) }
+{
+    if texts.is_text && order.command.is_none() {
+        return Some(NO_COMMAND);
+    }
+    if order.after.is_some() && !has_last(order.command) {
+        return Some(NO_LAST);
+    }
+    None
+}
+
+/// Says that the words have no use for an option.
 ///
 /// # Errors
 ///
 /// `CannotWrite`.
-pub(crate) fn refuse_lines<E: Write>(errors: &mut E) -> Result<u8, ProgramFault>
-    ensures { Prints WRONG_WORDS no_command (E.contents errors.old) (E.contents errors.new) result }
+pub(crate) fn refuse_line<E: Write>(line: &[u8], errors: &mut E) -> Result<u8, ProgramFault>
+    ensures { Prints WRONG_WORDS line.now (E.contents errors.old) (E.contents errors.new) result }
 {
-    print(errors, NO_COMMAND, WRONG_WORDS)
+    print(errors, line, WRONG_WORDS)
 }

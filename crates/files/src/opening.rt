@@ -1,5 +1,6 @@
 // Files are opened to be read and appended to.
-ghost use Rattle.std.specs.Prelude.{◌≡◌, IfErr, Some};
+ghost use Rattle.std.specs.Fs.{asks_append, asks_read};
+ghost use Rattle.std.specs.Prelude.{◌≡◌, true, IfErr, Some};
 ghost use Rattle.files.specs.Faults.{IsLockFault, IsSystemFault};
 ghost use Rattle.files.specs.Folders.{folder_of, or_here};
 
@@ -67,19 +68,30 @@ pub(crate) fn sync_folder<F: Files<File = File>>(files: &F, path: &str) -> io::R
     File::open(files, folder_of(path))?.sync_all()
 }
 
-/// Puts the entry of a file on the disk of its folder, if the file is empty and so may be new.
-fn sync_entry<F: Files<File = File>>(files: &F, path: &str, file: &File) -> io::Result<()> {
-    if file.metadata()?.len() > 0 {
-        return Ok(());
+/// A file whose entry is on the disk of its folder. That of one that is not new may not be: whoever made it, or had it take
+/// the place of another, may have been stopped before.
+fn with_entry<F: Files<File = File>>(
+    files: &F,
+    path: &str,
+    file: File,
+) -> Result<File, ProgramFault>
+    ensures { IfErr result IsSystemFault }
+{
+    match sync_folder(files, path) {
+        Ok(()) => Ok(file),
+        Err(_) => Err(ProgramFault::CannotWrite),
     }
-    sync_folder(files, path)
 }
 
 /// How a kept file is opened.
-fn options() -> OpenOptions {
+fn options() -> OpenOptions
+    ensures reads { asks_read result ≡ true }
+    ensures appends { asks_append result ≡ true }
+{
     let mut options = OpenOptions::new();
-    options.read(true).append(true);
+    // No clause of the system says what this leaves as it was.
     options.mode(OWNER_ALONE);
+    options.read(true).append(true);
     options
 }
 
@@ -95,7 +107,7 @@ pub fn open_existing<F: Files<File = File>>(
     ensures { IfErr result IsSystemFault }
 {
     match options().open(files, path) {
-        Ok(file) => Ok(Some(file)),
+        Ok(file) => Ok(Some(with_entry(files, path, file)?)),
         Err(error) => match error.kind() {
             ErrorKind::NotFound => Ok(None),
             _ => Err(fault_of(files, path, &error)),
@@ -114,13 +126,9 @@ pub fn open_kept<F: Files<File = File>>(files: &F, path: &str) -> Result<File, P
 {
     let mut options = options();
     options.create(true);
-    let file = match options.open(files, path) {
-        Ok(file) => file,
-        Err(error) => return Err(fault_of(files, path, &error)),
-    };
-    match sync_entry(files, path, &file) {
-        Ok(()) => Ok(file),
-        Err(_) => Err(ProgramFault::CannotWrite),
+    match options.open(files, path) {
+        Ok(file) => with_entry(files, path, file),
+        Err(error) => Err(fault_of(files, path, &error)),
     }
 }
 

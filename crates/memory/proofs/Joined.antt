@@ -1,13 +1,11 @@
 -- Lists that take an element.
-use Rattle.std.proofs.Common.{◌≡◌, ◌≢◌, ℕ, suc, Bool, true, false, ◌<◌, List, [], ◌∷◌, ◌++◌, length, map, get_or, set, take, drop, All, Contains, refl, sym, ap, subst, ◌∙◌, inl, arith, length-append}
+use Rattle.std.proofs.Common.{◌≡◌, ◌≢◌, ℕ, suc, Bool, true, false, ◌<◌, List, [], ◌∷◌, ◌++◌, length, map, get_or, set, take, drop, All, Contains, refl, sym, ap, subst, ◌∙◌, inl}
 use Rattle.std.specs.Bool.{MatchBool}
 use Rattle.std.specs.List.{AllByRecursion}
 use Rattle.std.proofs.lemmas.List.{get_or_default, get_or-map, get_or-set_same, map-id, map-set, set-get_or, set_split}
 use Rattle.std.proofs.lemmas.List.Elements.{All-head, All-tail}
 use Rattle.memory.specs.Lists.{HasNoRepeat, Puts}
-
-pub push_differs : {A : Type 0} (xs : List A) (x : A) → xs ++ x ∷ [] ≢ xs
-push_differs xs x is = let longer = ap length is in omega (arith, longer, length-append xs (x ∷ []))
+use Rattle.memory.specs.Taking.{later}
 
 pub set_differs : {A : Type 0} (xs : List A) (place : ℕ) (kept new : A) → place < length xs → get_or xs place kept ≡ kept → kept ≢ new → set xs place new ≢ xs
 set_differs {A} xs place kept new within at differs is =
@@ -53,10 +51,10 @@ push-once {A} xs new none once =
     subst HasNoRepeat (map-id (xs ++ new ∷ [])) (push-no_repeat (λ (x : A). x) xs new none (subst HasNoRepeat (sym (map-id xs)) once))
 
 -- what is there stays so
-pub puts-contained : {A : Type 0} (joined : A → A → A) (new : A) (xs : List A) → joined new new ≡ new → Contains xs new → Puts (λ (x : A). x) joined new xs xs
-puts-contained {A} joined new xs same (place, within, at) =
-    let puts = puts-at (λ (x : A). x) joined new xs place new within at refl in
-    subst (Puts (λ (x : A). x) joined new xs) (set_same xs place new (joined new new) at same) puts
+pub puts-contained : {A : Type 0} (new : A) (xs : List A) → Contains xs new → Puts (λ (x : A). x) later new xs xs
+puts-contained {A} new xs (place, within, at) =
+    let puts = puts-at (λ (x : A). x) later new xs place new within at refl in
+    subst (Puts (λ (x : A). x) later new xs) (set_same xs place new new at refl) puts
 
 pub none-contained : {A : Type 0} (xs : List A) (new : A) → ¬ Contains xs new → All (λ (kept : A). kept ≢ new) xs
 none-contained {A} xs new none = λ k d within is. none (k, within, get_or_default xs k new d within ∙ is)

@@ -1,8 +1,8 @@
 -- A text spells its memory.
-use Rattle.std.proofs.Common.{◌≡◌, ◌≢◌, ℕ, zero, suc, ◌+◌, ◌<◌, true, false, List, [], ◌∷◌, ◌++◌, length, map, All, Result, Ok, Err, get_or, take, drop, refl, sym, ap, subst, ◌∙◌, inl, inr, arith, append_assoc, append-nil}
+use Rattle.std.proofs.Common.{◌≡◌, ◌≢◌, ℕ, ◌+◌, ◌<◌, false, List, [], ◌∷◌, ◌++◌, length, map, All, Result, Ok, refl, sym, ap, subst, ◌∙◌, inl, inr, arith, append_assoc, append-nil}
 use Rattle.std.specs.Prelude.{◌==◌}
 use Rattle.std.specs.List.{AllByRecursion}
-use Rattle.std.proofs.lemmas.Bool.{eq-eqb, ne_eqb}
+use Rattle.std.proofs.lemmas.Bool.{ne_eqb}
 use Rattle.std.proofs.lemmas.List.{map-id}
 use Rattle.std.proofs.lemmas.List.Elements.{All-cons, All-nil}
 use Rattle.textio.specs.Lines.{lines_of, onto_first}
@@ -16,7 +16,6 @@ use Rattle.memory.specs.declared.alarm.Alarm.{Alarm as AlarmMade}
 use Rattle.memory.specs.declared.item.Item.{Item}
 use Rattle.memory.specs.declared.item.Item.TheVariants.{Promised, Watched, Alarm, Evidence}
 use Rattle.memory.specs.declared.read_fault.ReadFault.{ReadFault}
-use Rattle.memory.specs.declared.read_fault.ReadFault.TheVariants.{BadItem}
 use Rattle.memory.proofs.OneItem.{first_of, line_parts, plain-item, rest_of, ArePlain}
 use Rattle.memory.proofs.Plain.{IsPlain}
 use Rattle.memory.proofs.SaidLines.{alone_evidence}
@@ -48,24 +47,13 @@ lines-one (byte ∷ line) rest none =
     let other : (byte == 10) ≡ false = ne_eqb byte 10 none.0 in
     rw other (ap (onto_first byte) (lines-one line rest none.1))
 
--- a text is split at its first LF
-pub lines-at : (text : List ℕ) (place : ℕ) → place < length text → ((j : ℕ) → j < place → get_or text j 0 ≢ 10) → get_or text place 0 ≡ 10
-    → lines_of text ≡ take place text ∷ lines_of (drop 1 (drop place text))
-lines-at [] place within before at = absurd (omega (arith, within))
-lines-at (byte ∷ text) zero within before at = let lf : (byte == 10) ≡ true = eq-eqb byte 10 at in rw lf refl
-lines-at (byte ∷ text) (suc place) within before at =
-    let other : (byte == 10) ≡ false = ne_eqb byte 10 (before 0 (omega arith)) in
-    rw other (ap (onto_first byte) (lines-at text place (omega (arith, within)) (λ j below. before (suc j) (omega (arith, below))) at))
-
-pub lines-none : (byte : ℕ) (text : List ℕ) → ((j : ℕ) → j < length (byte ∷ text) → get_or (byte ∷ text) j 0 ≢ 10) → lines_of (byte ∷ text) ≡ (byte ∷ text) ∷ []
-lines-none byte [] none = let other : (byte == 10) ≡ false = ne_eqb byte 10 (none 0 (omega arith)) in rw other refl
-lines-none byte (next ∷ text) none =
-    let other : (byte == 10) ≡ false = ne_eqb byte 10 (none 0 (omega arith)) in
-    rw other (ap (onto_first byte) (lines-none next text (λ j below. none (suc j) (omega (arith, below)))))
-
-pub lines-all : (text : List ℕ) → 0 < length text → ((j : ℕ) → j < length text → get_or text j 0 ≢ 10) → lines_of text ≡ text ∷ []
-lines-all [] some none = absurd (omega (arith, some))
-lines-all (byte ∷ text) some none = lines-none byte text none
+-- a line with no LF behind it
+pub lines-last : (line : List ℕ) → HasNoLf line → 0 < length line → lines_of line ≡ line ∷ []
+lines-last [] none some = absurd (omega (arith, some))
+lines-last (byte ∷ []) none some = let other : (byte == 10) ≡ false = ne_eqb byte 10 none.0 in rw other refl
+lines-last (byte ∷ next ∷ line) none some =
+    let other : (byte == 10) ≡ false = ne_eqb byte 10 none.0 in
+    rw other (ap (onto_first byte) (lines-last (next ∷ line) none.1 (omega arith)))
 
 pub lines-items : (items : List Item) → AllByRecursion IsSound items → lines_of (items_text items) ≡ map item_line items
 lines-items [] sound = refl
@@ -159,9 +147,3 @@ pub recalls-taken : (number : ℕ) (line : List ℕ) (lines : List (List ℕ)) (
 recalls-taken number line lines before after result (inl (none, same)) rest =
     subst (λ (l : List ℕ). Recalls number (l ∷ lines) before result) (sym none) (subst (λ (m : Memory). Recalls (number + 1) lines m result) same rest)
 recalls-taken number line lines before after result (inr (item, is, takes)) rest = recalls-item number line lines item before after result is takes rest
-
-pub recalls-bad : (number : ℕ) (line : List ℕ) (lines : List (List ℕ)) (before after : Memory) (at : ℕ) → TakesLine line number before after (Err (BadItem at))
-    → Recalls number (line ∷ lines) before (Err (BadItem at))
-recalls-bad number line lines before after at (same, none, (byte, more, is)) =
-    let P = λ (l : List ℕ). (item : Item) → ¬ IsLineOf l item in
-    subst (λ (l : List ℕ). Recalls number (l ∷ lines) before (Err (BadItem at))) (sym is) (inr (subst P is none, ap (λ (n : ℕ). Err (BadItem n)) same))

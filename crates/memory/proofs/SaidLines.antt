@@ -1,17 +1,15 @@
 -- What the words of a line say, and that nothing else says it.
-use Rattle.std.proofs.Common.{◌≡◌, ◌≢◌, ℕ, ◌^◌, ◌<◌, ◌≤◌, Bool, true, false, List, [], ◌∷◌, ◌++◌, Option, codes, refl, sym, ap, subst, ◌∙◌, inl, inr, arith}
+use Rattle.std.proofs.Common.{◌≡◌, ◌≢◌, ℕ, ◌^◌, ◌<◌, Bool, true, false, List, [], ◌∷◌, ◌++◌, Option, codes, refl, sym, subst, ◌∙◌, inl, inr, arith}
 use Rattle.std.specs.Fmt.{decimal}
-use Rattle.encoding.specs.declared.bound_key.BoundKey.{BoundKey}
 use Rattle.hex.specs.Hex.{encode_lower}
 use Rattle.rootchain.specs.declared.signed_promise.SignedPromise.{SignedPromise}
 use Rattle.rootchain.specs.Promises.{signed_promise_bytes}
-use Rattle.memory.specs.Lines.{found_words, line_of, promise_word, IsEvidenceLine, IsLineOf}
-use Rattle.memory.specs.Words.{HasNoSpace, IsAlarmText, IsFinding, IsFoundText, IsMarkText, IsNameWord, IsNumberWord, IsPromiseWord, IsSpan}
+use Rattle.memory.specs.Lines.{found_word, line_of, promise_word, IsEvidenceLine, IsLineOf}
+use Rattle.memory.specs.Words.{HasNoSpace, IsAlarmText, IsFinding, IsFoundWord, IsMarkText, IsNameWord, IsNumberWord, IsPromiseWord, IsSpan}
 use Rattle.memory.specs.declared.alarm.Alarm.{Alarm as AlarmMade}
 use Rattle.memory.specs.declared.item.Item.{Item}
 use Rattle.memory.specs.declared.item.Item.TheVariants.{Promised, Watched, Alarm, Evidence}
 use Rattle.memory.specs.declared.mark.Mark.{Mark}
-use Rattle.memory.proofs.FoundTexts.{found-line}
 use Rattle.memory.proofs.OneItem.{plain-alarm, plain-evidence, plain-watched, promise_alarm, promise_watched, watched_alarm}
 use Rattle.memory.proofs.OneWord.{decimal_same, plain-promise_word}
 use Rattle.memory.proofs.Plain.{no_space, plain-decimal, plain-hex}
@@ -44,57 +42,39 @@ module _ (first second : List ℕ) (none : HasNoSpace first) where
       let other : epoch ≡ span.1 = decimal_same epoch span.1 q.0 both.1.0 (sym q.1 ∙ both.1.1) in
       omega (arith, one, other, above, is.0)
 
-pub rising : (first second : List ℕ) (since epoch : ℕ) → IsNumberWord first since → IsNumberWord second epoch → since ≤ epoch → IsSpan (first ++ 32 ∷ second) (since, epoch)
-rising first second since epoch p q below =
-    let whole : first ++ 32 ∷ second ≡ decimal since ++ 32 ∷ decimal epoch = rw (p.1, q.1) refl in
-    (below, q.0, inl whole)
-
-pub one_epoch : (text : List ℕ) (epoch : ℕ) → IsNumberWord text epoch → IsSpan text (epoch, epoch)
-one_epoch text epoch p = (omega arith, p.0, inr (refl, p.1))
-
 pub no_epoch : (text : List ℕ) → HasNoSpace text → ((n : ℕ) → ¬ IsNumberWord text n) → (span : ℕ × ℕ) → ¬ IsSpan text span
 no_epoch text none refuses span is = refuses span.1 (span_alone text none span is)
 
 -- ---- an epoch, and what was found
 
-pub no_finding : (text : List ℕ) → HasNoSpace text → (finding : ℕ × Option BoundKey) → ¬ IsFinding text finding
-no_finding text none finding is = never_alone (decimal finding.0) (line_of (found_words finding.1)) text none (sym (is.2 ∙ found-line (decimal finding.0) finding.1))
+pub no_finding : (text : List ℕ) → HasNoSpace text → (finding : ℕ × Option (List ℕ)) → ¬ IsFinding text finding
+no_finding text none finding is = never_alone (decimal finding.0) (found_word finding.1) text none (sym is.2)
 
-pub finding_two : (first second : List ℕ) → HasNoSpace first → (finding : ℕ × Option BoundKey) → IsFinding (first ++ 32 ∷ second) finding
-    → IsNumberWord first finding.0 × IsFoundText second finding.1
-finding_two first second none finding is =
-    let same = first_same first (decimal finding.0) second (line_of (found_words finding.1)) none (no_space _ (plain-decimal finding.0 is.0)) (is.2 ∙ found-line (decimal finding.0) finding.1) in
+pub finding_two : (text first second : List ℕ) → text ≡ first ++ 32 ∷ second → HasNoSpace first → (finding : ℕ × Option (List ℕ)) → IsFinding text finding
+    → IsNumberWord first finding.0 × IsFoundWord second finding.1
+finding_two text first second parts none finding is =
+    let same = first_same first (decimal finding.0) second (found_word finding.1) none (no_space _ (plain-decimal finding.0 is.0)) (sym parts ∙ is.2) in
     ((is.0, same.0), (is.1, same.1))
-
-pub finding_is : (first second : List ℕ) (epoch : ℕ) (found : Option BoundKey) → IsNumberWord first epoch → IsFoundText second found → IsFinding (first ++ 32 ∷ second) (epoch, found)
-finding_is first second epoch found p q =
-    let whole : first ++ 32 ∷ second ≡ decimal epoch ++ 32 ∷ line_of (found_words found) = rw (p.1, q.1) refl in
-    (p.0, q.0, whole ∙ sym (found-line (decimal epoch) found))
 
 -- ---- what stands behind the first words
 
 pub no_mark_text : (text : List ℕ) → HasNoSpace text → (mark : Mark) → ¬ IsMarkText text mark
 no_mark_text text none mark (named, (rest, is, span)) = never_alone (encode_lower mark.name) rest text none (sym is)
 
-pub mark_two : (word behind : List ℕ) → HasNoSpace word → (mark : Mark) → IsMarkText (word ++ 32 ∷ behind) mark → IsNameWord word mark.name × IsSpan behind (mark.since, mark.epoch)
-mark_two word behind none mark (named, (rest, is, span)) =
-    let same = first_same word (encode_lower mark.name) behind rest none (no_space _ (plain-hex mark.name named.2)) is in
+pub mark_two : (text word behind : List ℕ) → text ≡ word ++ 32 ∷ behind → HasNoSpace word → (mark : Mark) → IsMarkText text mark
+    → IsNameWord word mark.name × IsSpan behind (mark.since, mark.epoch)
+mark_two text word behind parts none mark (named, (rest, is, span)) =
+    let same = first_same word (encode_lower mark.name) behind rest none (no_space _ (plain-hex mark.name named.2)) (sym parts ∙ is) in
     ((named, same.0), subst (λ (t : List ℕ). IsSpan t (mark.since, mark.epoch)) (sym same.1) span)
-
-pub mark_is : (word behind : List ℕ) (mark : Mark) → IsNameWord word mark.name → IsSpan behind (mark.since, mark.epoch) → IsMarkText (word ++ 32 ∷ behind) mark
-mark_is word behind mark named span = (named.0, (behind, ap (λ (w : List ℕ). w ++ 32 ∷ behind) named.1, span))
 
 pub no_alarm_text : (text : List ℕ) → HasNoSpace text → (alarm : AlarmMade) → ¬ IsAlarmText text alarm
 no_alarm_text text none alarm (named, (rest, is, finding)) = never_alone (encode_lower alarm.name) rest text none (sym is)
 
-pub alarm_two : (word behind : List ℕ) → HasNoSpace word → (alarm : AlarmMade) → IsAlarmText (word ++ 32 ∷ behind) alarm
+pub alarm_two : (text word behind : List ℕ) → text ≡ word ++ 32 ∷ behind → HasNoSpace word → (alarm : AlarmMade) → IsAlarmText text alarm
     → IsNameWord word alarm.name × IsFinding behind (alarm.epoch, alarm.found)
-alarm_two word behind none alarm (named, (rest, is, finding)) =
-    let same = first_same word (encode_lower alarm.name) behind rest none (no_space _ (plain-hex alarm.name named.2)) is in
+alarm_two text word behind parts none alarm (named, (rest, is, finding)) =
+    let same = first_same word (encode_lower alarm.name) behind rest none (no_space _ (plain-hex alarm.name named.2)) (sym parts ∙ is) in
     ((named, same.0), subst (λ (t : List ℕ). IsFinding t (alarm.epoch, alarm.found)) (sym same.1) finding)
-
-pub alarm_is : (word behind : List ℕ) (alarm : AlarmMade) → IsNameWord word alarm.name → IsFinding behind (alarm.epoch, alarm.found) → IsAlarmText (word ++ 32 ∷ behind) alarm
-alarm_is word behind alarm named finding = (named.0, (behind, ap (λ (w : List ℕ). w ++ 32 ∷ behind) named.1, finding))
 
 -- ---- lines
 
@@ -119,33 +99,13 @@ says word behind none (Watched mark) (sound, inr (at, is)) =
     let same = first_same word (codes "watched") behind (encode_lower mark.name ++ 32 ∷ decimal mark.epoch) none (no_space (codes "watched") plain-watched) is in
     (same.0, (sound.0, (decimal mark.epoch, same.1, (sound.1, sound.2, inr (at, refl)))))
 says word behind none (Alarm alarm) (sound, inl is) =
-    let rest = line_of (decimal alarm.epoch ∷ found_words alarm.found) in
+    let rest = line_of (decimal alarm.epoch ∷ found_word alarm.found ∷ []) in
     let same = first_same word (codes "alarm") behind (encode_lower alarm.name ++ 32 ∷ rest) none (no_space (codes "alarm") plain-alarm) is in
     (same.0, (sound.0, (rest, same.1, (sound.1, sound.2, refl))))
 says word behind none (Evidence line) (sound, inl is) = never_evidence word behind line sound is
 says word behind none (Evidence line) (sound, inr never) = never
 says word behind none (Promised promised) (sound, inr never) = absurd never
 says word behind none (Alarm alarm) (sound, inr never) = absurd never
-
-pub says_promise : (is_own : Bool) (behind : List ℕ) (signed : SignedPromise) → IsPromiseWord behind signed
-    → IsLineOf (promise_word is_own ++ 32 ∷ behind) (Promised (record { signed = signed; is_own = is_own }))
-says_promise is_own behind signed (sound, is) = (sound, inl (ap (λ (b : List ℕ). promise_word is_own ++ 32 ∷ b) is))
-
-pub says_mark : (behind : List ℕ) (mark : Mark) → IsMarkText behind mark → IsLineOf (codes "watched" ++ 32 ∷ behind) (Watched mark)
-says_mark behind mark (named, (rest, is, (below, fits, inl two))) =
-    let P = λ (b : List ℕ). codes "watched" ++ 32 ∷ b in
-    let Q = λ (r : List ℕ). codes "watched" ++ 32 ∷ (encode_lower mark.name ++ 32 ∷ r) in
-    ((named, below, fits), inl (ap P is ∙ ap Q two))
-says_mark behind mark (named, (rest, is, (below, fits, inr (at, one)))) =
-    let P = λ (b : List ℕ). codes "watched" ++ 32 ∷ b in
-    let Q = λ (r : List ℕ). codes "watched" ++ 32 ∷ (encode_lower mark.name ++ 32 ∷ r) in
-    ((named, below, fits), inr (at, ap P is ∙ ap Q one))
-
-pub says_alarm : (behind : List ℕ) (alarm : AlarmMade) → IsAlarmText behind alarm → IsLineOf (codes "alarm" ++ 32 ∷ behind) (Alarm alarm)
-says_alarm behind alarm (named, (rest, is, (fits, found, two))) =
-    let P = λ (b : List ℕ). codes "alarm" ++ 32 ∷ b in
-    let Q = λ (r : List ℕ). codes "alarm" ++ 32 ∷ (encode_lower alarm.name ++ 32 ∷ r) in
-    ((named, fits, found), inl (ap P is ∙ ap Q two))
 
 pub no_promised : (is_own : Bool) (behind : List ℕ) → ((signed : SignedPromise) → ¬ IsPromiseWord behind signed) → (item : Item) → ¬ IsLineOf (promise_word is_own ++ 32 ∷ behind) item
 no_promised is_own behind refuses item is = by item (says (promise_word is_own) behind (no_space (promise_word is_own) (plain-promise_word is_own)) item is)

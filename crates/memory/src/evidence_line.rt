@@ -3,7 +3,7 @@ ghost use Rattle.std.specs.Prelude.{◌≡◌};
 use std::marker::Model;
 
 /// The line of evidence against the provider: the text of `audits::evidence_json`, without an LF.
-#[derive(Debug, Drop)]
+#[derive(Drop)]
 pub struct EvidenceLine {
     text: Vec<u8>,
 }

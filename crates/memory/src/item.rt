@@ -1,7 +1,7 @@
 use crate::{Alarm, EvidenceLine, Mark, Promised};
 
 /// What a line of the memory says.
-#[derive(Debug, Drop)]
+#[derive(Drop)]
 pub enum Item {
     Promised(Promised),
     Watched(Mark),

@@ -1,5 +1,5 @@
 /// What is looked for among the lines that were told.
-#[derive(Clone, Copy, Debug, PartialEq, Eq)]
+#[derive(Clone, Copy)]
 pub enum Kind {
     Alarms,
     EvidenceLines,

@@ -31,20 +31,17 @@ pub(crate) fn leave_promises(promises: &mut Vec<Promised>, marks: &[Mark], teste
 fn is_needed(promised: &Promised, marks: &[Mark], tested: &[SignedPromise]) -> bool
     ensures { IsTrue result ↔ IsNeeded tested.now marks.now promised.now }
 {
-    is_untested(&promised.signed, tested)
-        || promised.is_own && has_awaiting(&promised.signed, marks)
-}
-
-/// Whether a promise is not among these.
-fn is_untested(signed: &SignedPromise, tested: &[SignedPromise]) -> bool
-    ensures { IsTrue result ↔ All (λ other. other ≢ signed.now) tested.now }
-{
-    tested.iter().all(|other| other != signed)
+    !tested.contains(&promised.signed) || promised.is_own && has_awaiting(&promised.signed, marks)
 }
 
 /// Whether a mark awaits the promise.
 fn has_awaiting(signed: &SignedPromise, marks: &[Mark]) -> bool
     ensures { IsTrue result ↔ Any (IsAwaited signed.now) marks.now }
 {
-    marks.iter().any(|mark| is_awaited(signed, mark))
+    for mark in marks {
+        if is_awaited(signed, mark) {
+            return true;
+        }
+    }
+    false
 }

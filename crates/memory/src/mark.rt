@@ -1,7 +1,7 @@
 use encoding::Name;
 
 /// How far a name was watched: each root of the chain above `since`, up to `epoch`.
-#[derive(Debug, Drop, PartialEq, Eq)]
+#[derive(Drop, PartialEq, Eq)]
 pub struct Mark {
     pub name: Name,
     pub since: u64,

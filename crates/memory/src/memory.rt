@@ -18,7 +18,7 @@ use std::marker::Model;
 
 /// What the client of an owner remembers: promises, how far names were watched, alarms and evidence, each
 /// list in the order in which they came. No promise, no name of a mark, no alarm and no evidence is there twice.
-#[derive(Debug, Drop)]
+#[derive(Drop)]
 pub struct Memory {
     promises: Promises,
     marks: Vec<Mark>,

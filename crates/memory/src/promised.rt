@@ -1,7 +1,7 @@
 use rootchain::SignedPromise;
 
 /// A promise that the client keeps.
-#[derive(Debug, Drop, PartialEq, Eq)]
+#[derive(Drop)]
 pub struct Promised {
     pub signed: SignedPromise,
     /// Whether it is for a change of the owner's own.

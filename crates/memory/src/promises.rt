@@ -15,7 +15,7 @@ use std::collections::BTreeSet;
 use std::marker::Model;
 
 /// Promises, in the order in which they came.
-#[derive(Debug, Drop)]
+#[derive(Drop)]
 pub(crate) struct Promises {
     alloc: Global,
     list: Vec<Promised>,
@@ -114,7 +114,14 @@ fn last_place(promises: &[Promised], signed: &SignedPromise) -> Option<usize>
     ensures { MatchOption result (All (λ kept. kept.signed ≢ signed.now) promises.now)
         (λ place. (place < length promises.now) × ((d : PromisedMade) → (slice_index_or promises.now place d).signed ≡ signed.now)) }
 {
-    promises.iter().rposition(|kept| kept.signed == *signed)
+    let mut place = promises.len();
+    while 0 < place {
+        place -= 1;
+        if promises[place].signed == *signed {
+            return Some(place);
+        }
+    }
+    None
 }
 
 /// Makes a promise the owner's own if this says so. Returns whether it is another one now.

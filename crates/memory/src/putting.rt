@@ -42,7 +42,12 @@ pub(crate) fn place_of_mark(marks: &[Mark], name: &Name) -> Option<usize>
     ensures { MatchOption result (All (λ kept. kept.name ≢ name.now) marks.now)
         (λ place. (place < length marks.now) × ((d : Mark) → (slice_index_or marks.now place d).name ≡ name.now)) }
 {
-    marks.iter().position(|kept| kept.name == *name)
+    for place in 0..marks.len() {
+        if marks[place].name == *name {
+            return Some(place);
+        }
+    }
+    None
 }
 
 pub(crate) fn put_alarm(alarms: &mut Vec<Alarm>, new: Alarm) -> Result<bool, AllocError>
@@ -51,18 +56,11 @@ pub(crate) fn put_alarm(alarms: &mut Vec<Alarm>, new: Alarm) -> Result<bool, All
     ensures err { OnErr result (alarms.new.items ≡ alarms.old.items) }
     ensures once { HasNoRepeat alarms.old.items → HasNoRepeat alarms.new.items }
 {
-    if has_alarm(alarms, &new) {
+    if alarms.contains(&new) {
         return Ok(false);
     }
     alarms.push(new)?;
     Ok(true)
-}
-
-/// Whether the alarm is there.
-fn has_alarm(alarms: &[Alarm], alarm: &Alarm) -> bool
-    ensures { IsTrue result ↔ Contains alarms.now alarm.now }
-{
-    alarms.iter().any(|kept| kept == alarm)
 }
 
 pub(crate) fn put_evidence(
@@ -85,5 +83,10 @@ pub(crate) fn put_evidence(
 fn has_line(evidence: &[EvidenceLine], line: &EvidenceLine) -> bool
     ensures { IsTrue result ↔ Contains evidence.now line.now }
 {
-    evidence.iter().any(|kept| kept.bytes() == line.bytes())
+    for kept in evidence {
+        if kept.bytes() == line.bytes() {
+            return true;
+        }
+    }
+    false
 }

@@ -6,11 +6,11 @@ ghost use Rattle.memory.specs.Finding.{Finds};
 ghost use Rattle.memory.specs.Lines.{promise_word, IsEvidenceLine, IsLineOf};
 ghost use Rattle.memory.specs.Words.{HasNoSpace, IsAlarmText, IsFinding, IsMarkText, IsSpan};
 
-use crate::words::{first_word, read_found, read_name, read_number, read_promise};
+use crate::words::{first_part, read_found, read_name, read_number, read_promise};
 use crate::{Alarm, EvidenceLine, Item, Mark, Promised};
 use auditor::Evidence;
 use audits::{ReadFault, evidence_json, read_evidence};
-use encoding::BoundKey;
+use encoding::KeyData;
 use std::alloc::{AllocError, Global};
 
 /// The item of a line without its LF, or `None` if no item has it. A mark may have the older form `watched NAME
@@ -22,7 +22,7 @@ use std::alloc::{AllocError, Global};
 pub fn read_item(alloc: Global, line: &[u8]) -> Result<Option<Item>, AllocError>
     ensures { IfOk result (Finds (IsLineOf line.now)) }
 {
-    match first_word(line) {
+    match first_part(line, b' ') {
         (word, Some(behind)) => read_behind(alloc, word, behind),
         (word, None) => read_alone(alloc, word),
     }
@@ -69,68 +69,34 @@ fn promised_item(alloc: Global, is_own: bool, behind: &[u8]) -> Result<Option<It
     }
 }
 
-fn mark_item(alloc: Global, behind: &[u8]) -> Result<Option<Item>, AllocError>
-    ensures { IfOk result (Finds (IsLineOf (codes "watched" ++ 32 ∷ behind.now))) }
+/// The item of a line `watched NAME SINCE EPOCH` or `watched NAME EPOCH`, of which this stands behind the first word.
+fn mark_item(alloc: Global, text: &[u8]) -> Result<Option<Item>, AllocError>
+    ensures { IfOk result (Finds (IsLineOf (codes "watched" ++ 32 ∷ text.now))) }
 {
-    match read_mark(alloc, behind)? {
-        Some(mark) => Ok(Some(Item::Watched(mark))),
-        None => Ok(None),
-    }
-}
-
-fn alarm_item(alloc: Global, behind: &[u8]) -> Result<Option<Item>, AllocError>
-    ensures { IfOk result (Finds (IsLineOf (codes "alarm" ++ 32 ∷ behind.now))) }
-{
-    match read_alarm(alloc, behind)? {
-        Some(alarm) => Ok(Some(Item::Alarm(alarm))),
-        None => Ok(None),
-    }
-}
-
-/// `NAME SINCE EPOCH`, or `NAME EPOCH`
-fn read_mark(alloc: Global, text: &[u8]) -> Result<Option<Mark>, AllocError>
-    ensures { IfOk result (Finds (IsMarkText text.now)) }
-{
-    match first_word(text) {
-        (word, Some(behind)) => mark_of(alloc, word, behind),
-        (_, None) => Ok(None),
-    }
-}
-
-/// The mark of the name that a word writes, and the epochs behind it.
-fn mark_of(alloc: Global, word: &[u8], behind: &[u8]) -> Result<Option<Mark>, AllocError>
-    requires { HasNoSpace word.now }
-    ensures { IfOk result (Finds (IsMarkText (word.now ++ 32 ∷ behind.now))) }
-{
+    let (word, Some(behind)) = first_part(text, b' ') else {
+        return Ok(None);
+    };
     let Some((since, epoch)) = read_span(behind) else {
         return Ok(None);
     };
     match read_name(alloc, word)? {
-        Some(name) => Ok(Some(Mark { name, since, epoch })),
+        Some(name) => Ok(Some(Item::Watched(Mark { name, since, epoch }))),
         None => Ok(None),
     }
 }
 
-/// `NAME EPOCH KEY [POLICY]`
-fn read_alarm(alloc: Global, text: &[u8]) -> Result<Option<Alarm>, AllocError>
-    ensures { IfOk result (Finds (IsAlarmText text.now)) }
+/// The item of a line `alarm NAME EPOCH KEY`, of which this stands behind the first word.
+fn alarm_item(alloc: Global, text: &[u8]) -> Result<Option<Item>, AllocError>
+    ensures { IfOk result (Finds (IsLineOf (codes "alarm" ++ 32 ∷ text.now))) }
 {
-    match first_word(text) {
-        (word, Some(behind)) => alarm_of(alloc, word, behind),
-        (_, None) => Ok(None),
-    }
-}
-
-/// The alarm of the name that a word writes, and the finding behind it.
-fn alarm_of(alloc: Global, word: &[u8], behind: &[u8]) -> Result<Option<Alarm>, AllocError>
-    requires { HasNoSpace word.now }
-    ensures { IfOk result (Finds (IsAlarmText (word.now ++ 32 ∷ behind.now))) }
-{
+    let (word, Some(behind)) = first_part(text, b' ') else {
+        return Ok(None);
+    };
     let Some((epoch, found)) = read_finding(alloc, behind)? else {
         return Ok(None);
     };
     match read_name(alloc, word)? {
-        Some(name) => Ok(Some(Alarm { name, epoch, found })),
+        Some(name) => Ok(Some(Item::Alarm(Alarm { name, epoch, found }))),
         None => Ok(None),
     }
 }
@@ -139,7 +105,7 @@ fn alarm_of(alloc: Global, word: &[u8], behind: &[u8]) -> Result<Option<Alarm>, 
 fn read_span(text: &[u8]) -> Option<(u64, u64)>
     ensures { Finds (IsSpan text.now) result }
 {
-    match first_word(text) {
+    match first_part(text, b' ') {
         (word, Some(behind)) => two_epochs(word, behind),
         (word, None) => one_epoch(word),
     }
@@ -172,25 +138,13 @@ fn two_epochs(first: &[u8], second: &[u8]) -> Option<(u64, u64)>
     }
 }
 
-/// `EPOCH KEY [POLICY]`
-fn read_finding(alloc: Global, text: &[u8]) -> Result<Option<(u64, Option<BoundKey>)>, AllocError>
+/// `EPOCH KEY`
+fn read_finding(alloc: Global, text: &[u8]) -> Result<Option<(u64, Option<KeyData>)>, AllocError>
     ensures { IfOk result (Finds (IsFinding text.now)) }
 {
-    match first_word(text) {
-        (word, Some(behind)) => finding_of(alloc, word, behind),
-        (_, None) => Ok(None),
-    }
-}
-
-/// The epoch that a word writes, and what was found.
-fn finding_of(
-    alloc: Global,
-    word: &[u8],
-    behind: &[u8],
-) -> Result<Option<(u64, Option<BoundKey>)>, AllocError>
-    requires { HasNoSpace word.now }
-    ensures { IfOk result (Finds (IsFinding (word.now ++ 32 ∷ behind.now))) }
-{
+    let (word, Some(behind)) = first_part(text, b' ') else {
+        return Ok(None);
+    };
     let Some(epoch) = read_number(word) else {
         return Ok(None);
     };

@@ -4,6 +4,7 @@ ghost use Rattle.std.specs.Prelude.{◌≡◌, ◌∷◌, ◌<◌, length, Match
 ghost use Rattle.textio.specs.Lines.{lines_of};
 ghost use Rattle.memory.specs.Texts.{IsRead, TakesLine};
 
+use crate::words::first_part;
 use crate::{Memory, ReadFault, read_item};
 use std::alloc::Global;
 
@@ -33,12 +34,10 @@ pub fn first_line(text: &[u8]) -> (&[u8], &[u8])
     ensures lines { lines_of text.now ≡ result.0.now ∷ lines_of result.1.now }
     ensures less { length result.1.now < length text.now }
 {
-    match text.iter().position(|byte| *byte == b'\n') {
-        Some(place) => {
-            let (line, rest) = text.split_at(place);
-            (line, rest.split_at(1).1)
-        }
-        None => text.split_at(text.len()),
+    let (line, behind) = first_part(text, b'\n');
+    match behind {
+        Some(behind) => (line, behind),
+        None => (line, &[]),
     }
 }
 

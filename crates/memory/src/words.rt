@@ -1,30 +1,31 @@
 // A line is split at its spaces into words. Each says bytes or a number, in the one way in which it is written.
 
-ghost use Rattle.std.specs.Prelude.{◌≡◌, ◌↔◌, ◌∷◌, ◌++◌, Ok, Some, option_map, IfOk, IsTrue, MatchOption};
+ghost use Rattle.std.specs.Prelude.{◌≡◌, ◌≢◌, ◌↔◌, ◌∷◌, ◌++◌, Ok, Some, option_map, IfOk, IsTrue, MatchOption};
+ghost use Rattle.std.specs.List.{AllByRecursion};
 ghost use Rattle.encoding.specs.Limits.{IsKeyData, IsName};
 ghost use Rattle.hex.specs.Hex.{decode_of, encode_lower};
 ghost use Rattle.rootchain.specs.Promises.{SpellsPromise};
 ghost use Rattle.memory.specs.Finding.{Finds};
-ghost use Rattle.memory.specs.Words.{HasNoSpace, IsFoundText, IsHexOf, IsNameWord, IsNumberWord, IsPolicyWord, IsPromiseWord};
+ghost use Rattle.memory.specs.Words.{IsFoundWord, IsHexOf, IsNameWord, IsNumberWord, IsPromiseWord};
 
-use encoding::{BoundKey, KeyData, Name, Policy};
+use encoding::{KeyData, Name};
 use hex::FromHexError;
 use itoa::Buffer;
 use rootchain::SignedPromise;
 use std::alloc::{AllocError, Global};
 
-/// The first word of a text, and what stands behind the space that ends it, if one does.
-pub(crate) fn first_word(text: &[u8]) -> (&[u8], Option<&[u8]>)
-    ensures word { HasNoSpace result.0.now }
-    ensures parts { MatchOption result.1 (text.now ≡ result.0.now) (λ behind. text.now ≡ result.0.now ++ 32 ∷ behind.now) }
+/// What stands before the first of these bytes, and what stands behind it, if there is one.
+pub(crate) fn first_part(text: &[u8], end: u8) -> (&[u8], Option<&[u8]>)
+    ensures front { AllByRecursion (λ byte. byte ≢ end) result.0.now }
+    ensures parts { MatchOption result.1 (text.now ≡ result.0.now) (λ behind. text.now ≡ result.0.now ++ end ∷ behind.now) }
 {
-    match text.iter().position(|byte| *byte == b' ') {
-        Some(place) => {
-            let (word, rest) = text.split_at(place);
-            (word, Some(rest.split_at(1).1))
+    for place in 0..text.len() {
+        if text[place] == end {
+            let (front, rest) = text.split_at(place);
+            return (front, Some(rest.split_at(1).1));
         }
-        None => (text, None),
     }
+    (text, None)
 }
 
 /// The number that a word writes in decimal digits, with no zero in front.
@@ -94,70 +95,25 @@ fn name_of(bytes: &[u8]) -> Option<Name>
     }
 }
 
-/// The key that a text writes, with its policy if it has one, or that there was none.
-pub(crate) fn read_found(
-    alloc: Global,
-    text: &[u8],
-) -> Result<Option<Option<BoundKey>>, AllocError>
-    ensures { IfOk result (Finds (IsFoundText text.now)) }
-{
-    match first_word(text) {
-        (word, Some(behind)) => read_key_with(alloc, word, behind),
-        (word, None) => read_key(alloc, word),
-    }
-}
-
-/// `KEY POLICY`
-fn read_key_with(
-    alloc: Global,
-    word: &[u8],
-    behind: &[u8],
-) -> Result<Option<Option<BoundKey>>, AllocError>
-    requires { HasNoSpace word.now }
-    ensures { IfOk result (Finds (IsFoundText (word.now ++ 32 ∷ behind.now))) }
-{
-    let Some(policy) = read_policy(behind) else {
-        return Ok(None);
-    };
-    match read_hex(alloc, word)? {
-        Some(bytes) => Ok(key_of(&bytes, Some(policy))),
-        None => Ok(None),
-    }
-}
-
-/// `KEY`, or `absent`
-fn read_key(alloc: Global, word: &[u8]) -> Result<Option<Option<BoundKey>>, AllocError>
-    requires { HasNoSpace word.now }
-    ensures { IfOk result (Finds (IsFoundText word.now)) }
+/// The key that a word writes, or that there was none.
+pub(crate) fn read_found(alloc: Global, word: &[u8]) -> Result<Option<Option<KeyData>>, AllocError>
+    ensures { IfOk result (Finds (IsFoundWord word.now)) }
 {
     if word == b"absent".as_slice() {
         return Ok(Some(None));
     }
     match read_hex(alloc, word)? {
-        Some(bytes) => Ok(key_of(&bytes, None)),
+        Some(bytes) => Ok(key_of(&bytes)),
         None => Ok(None),
     }
 }
 
-/// The policy that a word names.
-fn read_policy(word: &[u8]) -> Option<Policy>
-    ensures { Finds (IsPolicyWord word.now) result }
-{
-    if word == b"open".as_slice() {
-        return Some(Policy::Open);
-    }
-    if word == b"final".as_slice() {
-        return Some(Policy::Final);
-    }
-    None
-}
-
-/// The key of these bytes with this policy, as what was found.
-fn key_of(bytes: &[u8], policy: Option<Policy>) -> Option<Option<BoundKey>>
-    ensures { MatchOption result (¬ IsKeyData bytes.now) (λ found. IsKeyData bytes.now × (found ≡ Some (record { value = bytes.now; policy = policy }))) }
+/// The key of these bytes, as what was found.
+fn key_of(bytes: &[u8]) -> Option<Option<KeyData>>
+    ensures { MatchOption result (¬ IsKeyData bytes.now) (λ found. IsKeyData bytes.now × (found ≡ Some bytes.now)) }
 {
     match KeyData::new(bytes) {
-        Ok(value) => Some(Some(BoundKey { value, policy })),
+        Ok(key) => Some(Some(key)),
         Err(_) => None,
     }
 }

@@ -1,4 +1,5 @@
 use Rattle.asking.specs.Saves.{IsAsked, IsAskedChange, IsOwnPromise}
+use Rattle.asking.proofs.MarkedRuns.{watched-over-runs}
 use Rattle.asking.proofs.StateRuns.{marks-over-runs, own-over-runs, roots-over-runs, spelled-over-runs, told-over-runs}
 use Rattle.asking.proofs.laws.stored_marks_are_told.Goals as goal
 
@@ -16,3 +17,6 @@ returns-clause-own g c = λ key. own-over-runs g.H.NodeHash.digest_of g.V.VufChe
 
 pub returns-clause-grow : goal.returns-clause-grow
 returns-clause-grow g c = λ key. roots-over-runs g.H.NodeHash.digest_of g.V.VufCheck.accepted IsAsked (IsOwnPromise g.S.Verifier.verified key) IsAskedChange
+
+pub returns-clause-watched : goal.returns-clause-watched
+returns-clause-watched g c = λ key. watched-over-runs g.H.NodeHash.digest_of g.V.VufCheck.accepted IsAsked (IsOwnPromise g.S.Verifier.verified key) IsAskedChange

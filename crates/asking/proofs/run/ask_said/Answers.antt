@@ -1,6 +1,5 @@
-use Rattle.std.proofs.Common.{Option, Global, Vec, ap, inl, refl, subst}
+use Rattle.std.proofs.Common.{ℕ, List, Option, Global, Vec, ap, inl, refl, subst}
 use Rattle.std.specs.Prelude.{OnOk}
-use Rattle.encoding.specs.declared.bound_key.BoundKey.{BoundKey}
 use Rattle.asking.specs.Exchanges.{ExchangesFrames}
 use Rattle.asking.specs.Joining.{own_for, BeginsWatch}
 use Rattle.asking.specs.Runs.{background_of}
@@ -11,12 +10,13 @@ use Rattle.asking.proofs.Ended.{asked_reaches, watched_reaches}
 use Rattle.asking.proofs.Ran.{ok_then}
 use Rattle.asking.proofs.Rising.{ask_rises, watch_rises}
 use Rattle.asking.proofs.Standing.{asked_notes, asked_stands, watched_stands}
+use Rattle.asking.specs.declared.ask_fault.AskFault.TheVariants.{NoReply}
 use Rattle.asking.proofs.run.ask_said.Goals as goal
 
 pub returns-in-Watch-clause-does : goal.returns-in-Watch-clause-does
 returns-in-Watch-clause-does g c =
     let promised = own_for c.args.asker.now.marks.items c.in-Watch.name c.args.asker.now.earlier.items c.args.asker.now.changes.items in
-    let begins = subst (λ (given : Option BoundKey). OnOk c.watch.result (BeginsWatch g.H.NodeHash.digest_of g.V.VufCheck.accepted g.S.Verifier.verified (ExchangesFrames g.T.Write.contents g.T.Read.remaining)
+    let begins = subst (λ (given : Option (List ℕ)). OnOk c.watch.result (BeginsWatch g.H.NodeHash.digest_of g.V.VufCheck.accepted g.S.Verifier.verified (ExchangesFrames g.T.Write.contents g.T.Read.remaining)
     c.args.asker.now.known c.args.asker.now.marks.items c.args.asker.now.key promised c.in-Watch.name given (scene c.args.asker.now c.args.said.now c.args.stream.now) (scene c.watch.new.self c.watch.new.said c.watch.new.stream)))
     c.as_ref.ensures.value c.watch.ensures.begins in
     rw c.in-Watch.is (ok_then c.watch.result begins (λ watched. (c.args.asker.now.changes.items, watched)))
@@ -24,6 +24,20 @@ returns-in-Watch-clause-does g c =
 pub returns-in-Ask-clause-does : goal.returns-in-Ask-clause-does
 returns-in-Ask-clause-does g c =
     rw c.in-Ask.is (ok_then c.ask.result c.ask.ensures.asks (λ asks. (c.args.asker.now.changes.items, c.ask.new.self.changes.items, asks)))
+
+pub returns-in-Watch-clause-whole : goal.returns-in-Watch-clause-whole
+returns-in-Watch-clause-whole g c =
+    let promised = own_for c.args.asker.now.marks.items c.in-Watch.name c.args.asker.now.earlier.items c.args.asker.now.changes.items in
+    let begins = subst (λ (given : Option (List ℕ)). OnOk c.watch.result (BeginsWatch g.H.NodeHash.digest_of g.V.VufCheck.accepted g.S.Verifier.verified (ExchangesFrames g.T.Write.contents g.T.Read.remaining)
+    c.args.asker.now.known c.args.asker.now.marks.items c.args.asker.now.key promised c.in-Watch.name given (scene c.args.asker.now c.args.said.now c.args.stream.now) (scene c.watch.new.self c.watch.new.said c.watch.new.stream)))
+    c.as_ref.ensures.value c.watch.ensures.begins in
+    rw c.in-Watch.is (ok_then c.watch.result begins (λ watched. (watched, ap (λ (changes : Vec SignedPromise Global). changes.items) c.watch.ensures.stays.4)))
+
+pub returns-in-Ask-clause-whole : goal.returns-in-Ask-clause-whole
+returns-in-Ask-clause-whole g c = rw c.in-Ask.is c.ask.ensures.asks
+
+pub returns-in-Pass-clause-whole : goal.returns-in-Pass-clause-whole
+returns-in-Pass-clause-whole g c = rw c.in-Pass.is (refl, refl)
 
 pub returns-in-Ask-clause-rises : goal.returns-in-Ask-clause-rises
 returns-in-Ask-clause-rises g c =
@@ -81,7 +95,7 @@ returns-in-Ask-clause-notes g c =
     c.ask.ensures.asks c.ask.ensures.unnoted c.ask.ensures.stops c.ask.ensures.halts)
 
 pub returns-in-Watch-clause-notes : goal.returns-in-Watch-clause-notes
-returns-in-Watch-clause-notes g c = (scene c.args.asker.now c.args.said.now c.args.stream.now, inl (refl, ap (λ (changes : Vec SignedPromise Global). changes.items) c.watch.ensures.stays.4))
+returns-in-Watch-clause-notes g c = (NoReply, scene c.args.asker.now c.args.said.now c.args.stream.now, inl (refl, ap (λ (changes : Vec SignedPromise Global). changes.items) c.watch.ensures.stays.4))
 
 pub returns-in-Pass-clause-notes : goal.returns-in-Pass-clause-notes
-returns-in-Pass-clause-notes g c = (scene c.args.asker.now c.args.said.now c.args.stream.now, inl (refl, refl))
+returns-in-Pass-clause-notes g c = (NoReply, scene c.args.asker.now c.args.said.now c.args.stream.now, inl (refl, refl))

@@ -1,13 +1,12 @@
 use Rattle.std.proofs.Common.{refl, rules}
 use Rattle.std.specs.Prelude.{Contains}
-use Rattle.memory.specs.Taking.{later}
 use Rattle.memory.proofs.Joined.{none-contained, push-once, puts-contained}
 use Rattle.memory.proofs.putting.put_alarm.Goals as goal
 
-pub returns-then-has_alarm-clause-puts : goal.returns-then-has_alarm-clause-puts
-returns-then-has_alarm-clause-puts c =
+pub returns-then-contains-clause-puts : goal.returns-then-contains-clause-puts
+returns-then-contains-clause-puts c =
     let there : Contains c.args.alarms.now.items c.args.new = search rules in
-    (puts-contained later c.args.new c.args.alarms.now.items refl there, refl)
+    (puts-contained c.args.new c.args.alarms.now.items there, refl)
 
 pub returns-clause-once : goal.returns-clause-once
 returns-clause-once c = λ once.

@@ -1,10 +1,21 @@
-use Rattle.std.proofs.Common.{◌≡◌, rules}
-use Rattle.memory.specs.Words.{HasNoSpace}
-use Rattle.memory.proofs.SaidLines.{no_finding}
+use Rattle.std.proofs.Common.{◌≡◌, ◌++◌, ◌∷◌, ℕ, List, Option, rules}
+use Rattle.memory.specs.Words.{HasNoSpace, IsFoundWord}
+use Rattle.memory.proofs.SaidLines.{finding_two, no_finding}
 use Rattle.memory.proofs.reading.read_finding.Goals as goal
 
-pub returns-in_default-None : goal.returns-in_default-None
-returns-in_default-None c =
-    let alone : c.args.text.now ≡ c.first_word.result.0.now = search rules in
-    let none : HasNoSpace c.args.text.now = rw alone c.first_word.ensures.word in
+pub returns-in_default : goal.returns-in_default
+returns-in_default c =
+    let alone : c.args.text.now ≡ c.first_part.result.0.now = search rules in
+    let none : HasNoSpace c.args.text.now = rw alone c.first_part.ensures.front in
     no_finding c.args.text.now none
+
+pub returns-in_default-read_number : goal.returns-in_default-read_number
+returns-in_default-read_number c =
+    let parts : c.args.text.now ≡ c.first_part.result.0.now ++ 32 ∷ c.in_default-Some.behind.now = search rules in
+    λ finding is. c.in_default-read_number.ensures finding.0 (finding_two _ _ _ parts c.first_part.ensures.front finding is).0
+
+pub returns-in-None : goal.returns-in-None
+returns-in-None c =
+    let parts : c.args.text.now ≡ c.first_part.result.0.now ++ 32 ∷ c.in_default-Some.behind.now = search rules in
+    let none : (found : Option (List ℕ)) → ¬ IsFoundWord c.in_default-Some.behind.now found = search rules in
+    λ finding is. none finding.1 (finding_two _ _ _ parts c.first_part.ensures.front finding is).1

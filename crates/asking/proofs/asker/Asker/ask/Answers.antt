@@ -35,14 +35,14 @@ pub returns-in_err-reply-clause-halts : goal.returns-in_err-reply-clause-halts
 returns-in_err-reply-clause-halts g c =
     let passed : c.from_residual.result ≡ Err c.in_err-reply.field-0.0 = search rules in
     rw passed (λ unstopped. halts_here c.args.self.now c.args.said.now c.args.stream.now
-    (AsksSome g.H.NodeHash.digest_of g.V.VufCheck.accepted g.S.Verifier.verified (ExchangesFrames g.T.Write.contents g.T.Read.remaining) c.args.self.now.marks.items c.args.self.now.token (ask_seen c.args.ask.now) c.args.self.now.changes.items c.args.self.now.changes.items (scene c.args.self.now c.args.said.now c.args.stream.now))
+    (AsksSome g.H.NodeHash.digest_of g.V.VufCheck.accepted g.S.Verifier.verified (ExchangesFrames g.T.Write.contents g.T.Read.remaining) c.in_err-reply.field-0.0 c.args.self.now.marks.items c.args.self.now.token (ask_seen c.args.ask.now) c.args.self.now.changes.items c.args.self.now.changes.items (scene c.args.self.now c.args.said.now c.args.stream.now))
     c.in_err-reply.field-0.0 (inl (refl, refl)))
 
 pub returns-in_err-frame-clause-halts : goal.returns-in_err-frame-clause-halts
 returns-in_err-frame-clause-halts g c =
     let passed : c.from_residual-in_err-frame.result ≡ Err c.in_err-frame.field-0.0 = search rules in
     rw passed (λ unstopped. halts_here c.args.self.now c.args.said.now c.args.stream.now
-    (AsksSome g.H.NodeHash.digest_of g.V.VufCheck.accepted g.S.Verifier.verified (ExchangesFrames g.T.Write.contents g.T.Read.remaining) c.args.self.now.marks.items c.args.self.now.token (ask_seen c.args.ask.now) c.args.self.now.changes.items c.args.self.now.changes.items (scene c.args.self.now c.args.said.now c.args.stream.now))
+    (AsksSome g.H.NodeHash.digest_of g.V.VufCheck.accepted g.S.Verifier.verified (ExchangesFrames g.T.Write.contents g.T.Read.remaining) c.in_err-frame.field-0.0 c.args.self.now.marks.items c.args.self.now.token (ask_seen c.args.ask.now) c.args.self.now.changes.items c.args.self.now.changes.items (scene c.args.self.now c.args.said.now c.args.stream.now))
     c.in_err-frame.field-0.0 (inl (refl, refl)))
 
 pub returns-in_err-catch_up-clause-halts : goal.returns-in_err-catch_up-clause-halts
@@ -60,7 +60,7 @@ returns-in_err-answer-clause-halts g c =
     rw passed (λ unstopped. halts_hearing g.H.NodeHash.digest_of g.V.VufCheck.accepted g.S.Verifier.verified (ExchangesFrames g.T.Write.contents g.T.Read.remaining) c.args.self.now.marks c.args.self.now c.args.said.now c.args.stream.now
     c.request.new.stream (ask_seen c.args.ask.now) (frame_seen c.in_ok-frame.frame) c.head-head.ensures.0 c.head-head.result c.epoch_of.result c.head-head.ensures.2
     c.catch_up.new.self c.catch_up.new.said c.catch_up.new.stream OutOfMemory c.answer.new.self c.answer.new.said c.head-head.ensures.1
-    (c.in_ok-reply.ensures.sent (frame_seen c.in_ok-frame.frame) (rw c.deref.ensures.value at c.in_ok-frame.ensures.ok)) c.epoch_of.ensures c.in_ok-catch_up.ensures.catches not c.in_ok-catch_up.ensures.stays.4 c.answer.ensures.noted c.in_err-answer.ensures.told)
+    (c.in_ok-reply.ensures.sent (frame_seen c.in_ok-frame.frame) (rw c.deref.ensures.value at c.in_ok-frame.ensures.ok)) c.epoch_of.ensures c.in_ok-catch_up.ensures.catches not refl c.in_ok-catch_up.ensures.stays.4 c.answer.ensures.noted c.in_err-answer.ensures.told)
 
 pub returns-clause-halts : goal.returns-clause-halts
 returns-clause-halts g c =

@@ -1,9 +1,12 @@
-use Rattle.std.proofs.Common.{◌∙◌, ap, subst}
+use Rattle.std.proofs.Common.{◌∙◌, List, Contains, ap, subst}
+use Rattle.std.specs.List.Sorted.{IsPermutation}
 use Rattle.textio.specs.Lines.{lines_of}
 use Rattle.memory.specs.Memories.{Memory}
+use Rattle.rootchain.specs.Promises.{IsSignedPromise}
+use Rattle.rootchain.specs.declared.signed_promise.SignedPromise.{SignedPromise}
 use Rattle.asking.specs.Remembering.{AreWithin}
 use Rattle.asking.proofs.Marks.{spelled_once}
-use Rattle.asking.proofs.Remembered.{formed_on, one_spelled, remembered_own}
+use Rattle.asking.proofs.Remembered.{formed_on, one_spelled, remembered_own, sorted-all}
 use Rattle.asking.proofs.asker.Asker.remember.Goals as goal
 
 pub returns-clause-spells : goal.returns-clause-spells
@@ -16,8 +19,9 @@ returns-clause-marks g c =
     c.in_ok-self.ensures ∙ c.marks.ensures ∙ ap (λ (memory : Memory). memory.marks) one
 
 pub returns-clause-formed : goal.returns-clause-formed
-returns-clause-formed g c =
-    formed_on (lines_of c.args.text.now) c.args.self.now.earlier.items c.remember_lines.new.self.earlier.items c.in_ok-memory.ensures.earlier
+returns-clause-formed g c formed =
+    sorted-all IsSignedPromise c.remember_lines.new.self.earlier.items c.sort_promises.new.promises.items c.sort_promises.ensures.permutation
+    (formed_on (lines_of c.args.text.now) c.args.self.now.earlier.items c.remember_lines.new.self.earlier.items c.in_ok-memory.ensures.earlier formed)
 
 pub returns-clause-within : goal.returns-clause-within
 returns-clause-within g c =
@@ -28,5 +32,15 @@ pub returns-clause-once : goal.returns-clause-once
 returns-clause-once g c = spelled_once c.args.text.now c.in_ok-self-2.field-0 c.in_ok-self-2.ensures.spells
 
 pub returns-clause-own : goal.returns-clause-own
-returns-clause-own g c =
-    remembered_own c.args.text.now c.in_ok-self-2.field-0 c.args.self.now.earlier.items c.remember_lines.new.self.earlier.items c.in_ok-self-2.ensures.spells c.in_ok-memory.ensures.earlier
+returns-clause-own g c empty =
+    remembered_own c.args.text.now c.in_ok-self-2.field-0 c.args.self.now.earlier.items c.remember_lines.new.self.earlier.items c.sort_promises.new.promises.items c.in_ok-self-2.ensures.spells c.in_ok-memory.ensures.earlier empty
+    c.sort_promises.ensures.permutation c.in_ok-sort_promises.ensures.ascend
+
+pub returns-clause-earlier : goal.returns-clause-earlier
+returns-clause-earlier g c =
+    let (own, are, grown) = c.in_ok-memory.ensures.earlier in
+    (own, are, subst (λ (xs : List SignedPromise). IsPermutation xs c.sort_promises.new.promises.items) grown c.sort_promises.ensures.permutation)
+
+pub returns-clause-kept : goal.returns-clause-kept
+returns-clause-kept g c keeps =
+    sorted-all (Contains c.remember_lines.new.self.client.promises) c.remember_lines.new.self.earlier.items c.sort_promises.new.promises.items c.sort_promises.ensures.permutation (c.in_ok-memory.ensures.kept keeps)

@@ -4,7 +4,6 @@ use Rattle.std.specs.Vec.{with_items}
 use Rattle.std.proofs.lemmas.List.{with_items_is}
 use Rattle.std.proofs.lemmas.Option.{slice_get_read}
 use Rattle.monitor.specs.Monitors.{Monitor}
-use Rattle.wire.specs.FrameViews.{frame_seen}
 use Rattle.asking.specs.Exchanges.{ExchangesFrames}
 use Rattle.asking.specs.Watching.{WatchesAt}
 use Rattle.asking.proofs.Stepped.{steps_none, steps_some}
@@ -18,9 +17,7 @@ returns-in_default-2-clause-steps g c =
     let next = rw c.in-Some-next_epoch.is at c.next_epoch.ensures in
     let gives = rw c.in_default-2.is at c.in_ok-found.ensures.gives in
     steps_none g.H.NodeHash.digest_of g.V.VufCheck.accepted (ExchangesFrames g.T.Write.contents g.T.Read.remaining) c.args.self.now c.args.said.now c.args.stream.now c.args.place
-    c.in-Some.monitor.now c.in_ok-name.name.items c.in-Some-next_epoch.epoch (frame_seen c.in_ok-frame_in.field-0) c.request.new.stream c.body_of.new.said at next
-    (c.in_ok-name.ensures.items ∙ c.bytes.ensures.value ∙ c.name.ensures)
-    (c.in_ok-reply.ensures.sent (frame_seen c.in_ok-frame_in.field-0) (rw c.deref-2.ensures.value at c.in_ok-frame_in.ensures.ok)) gives
+    c.in-Some.monitor.now c.copied-name.result c.in-Some-next_epoch.epoch gives.0 c.look_up.new.stream c.look_up.new.said at next (c.copied-name.ensures ∙ c.name.ensures) gives.1 gives.2
 
 pub returns-clause-steps : goal.returns-clause-steps
 returns-clause-steps g c =
@@ -33,12 +30,11 @@ returns-clause-steps g c =
     let long : length c.watch_at.new.monitors ≡ c.args.self.now.monitors.len =
     c.watch_at.auto.monitors ∙ ap (λ (ms : List Monitor). length ms) old ∙ sym c.args.self.now.monitors.ok.0 in
     let back = with_items_is c.args.self.now.monitors c.watch_at.new.monitors long in
-    let watches = subst (λ (all : List Monitor). WatchesAt g.H.NodeHash.digest_of g.V.VufCheck.accepted all c.args.place c.in-Some-next_epoch.epoch c.in-Some-2.found.now c.body_of.new.said c.in_ok-watch_at.field-0
+    let watches = subst (λ (all : List Monitor). WatchesAt g.H.NodeHash.digest_of g.V.VufCheck.accepted all c.args.place c.in-Some-next_epoch.epoch c.deref-2.result.now c.look_up.new.said c.in_ok-watch_at.field-0
     c.watch_at.new.said c.watch_at.new.monitors) old c.in_ok-watch_at.ensures.watches in
-    let watched = subst (λ (all : List Monitor). WatchesAt g.H.NodeHash.digest_of g.V.VufCheck.accepted c.args.self.now.monitors.items c.args.place c.in-Some-next_epoch.epoch c.in-Some-2.found.now c.body_of.new.said
+    let watched = subst (λ (all : List Monitor). WatchesAt g.H.NodeHash.digest_of g.V.VufCheck.accepted c.args.self.now.monitors.items c.args.place c.in-Some-next_epoch.epoch c.deref-2.result.now c.look_up.new.said
     c.in_ok-watch_at.field-0 c.watch_at.new.said all) (sym back) watches in
     steps_some g.H.NodeHash.digest_of g.V.VufCheck.accepted (ExchangesFrames g.T.Write.contents g.T.Read.remaining) c.args.self.now c.args.said.now c.args.stream.now c.args.place
-    c.in-Some.monitor.now c.in_ok-name.name.items c.in-Some-next_epoch.epoch (frame_seen c.in_ok-frame_in.field-0) c.request.new.stream c.body_of.new.said c.watch_at.new.said
-    c.in-Some-2.found.now c.in_ok-watch_at.field-0 (with_items c.args.self.now.monitors c.watch_at.new.monitors).items at next
-    (c.in_ok-name.ensures.items ∙ c.bytes.ensures.value ∙ c.name.ensures)
-    (c.in_ok-reply.ensures.sent (frame_seen c.in_ok-frame_in.field-0) (rw c.deref-2.ensures.value at c.in_ok-frame_in.ensures.ok)) gives watched
+    c.in-Some.monitor.now c.copied-name.result c.in-Some-next_epoch.epoch gives.0 c.look_up.new.stream c.look_up.new.said c.watch_at.new.said
+    c.deref-2.result.now c.in_ok-watch_at.field-0 (with_items c.args.self.now.monitors c.watch_at.new.monitors).items at next (c.copied-name.ensures ∙ c.name.ensures) gives.1
+    (gives.2.0, c.deref-2.ensures.value ∙ gives.2.1, gives.2.2) watched

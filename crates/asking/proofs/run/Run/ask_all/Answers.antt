@@ -1,8 +1,8 @@
-use Rattle.std.proofs.Common.{◌≡◌, ◌⊎◌, ◌∷◌, [], Err, None, refl, rules}
-use Rattle.std.specs.Prelude.{List, ℕ, IfSome, Ok, Option}
+use Rattle.std.proofs.Common.{◌≡◌, ◌⊎◌, ◌∷◌, [], Err, None, inl, inr, refl, rules}
+use Rattle.std.specs.Prelude.{List, ℕ, IfSome, Ok, Option, Some}
 use Rattle.textio.specs.declared.program_fault.ProgramFault.TheVariants.{CannotWrite, OutOfMemory}
 use Rattle.asking.specs.AskOptions.{ask_values}
-use Rattle.asking.specs.Ending.{AsksPart, HoldsBack}
+use Rattle.asking.specs.Ending.{AsksPart, HoldsBack, LoadsNone}
 use Rattle.asking.specs.Exchanges.{ExchangesFrames}
 use Rattle.asking.specs.Reports.{report_of, Report}
 use Rattle.asking.specs.RunFaults.{AsksInput, IsFaultOfSaving, IsFaultOfState, IsFaultWith, IsFirstUnasked}
@@ -11,12 +11,15 @@ use Rattle.asking.specs.Scenes.{scene}
 use Rattle.asking.specs.declared.ask_fault.RunFault.{RunFault}
 use Rattle.asking.proofs.Ended.{early_asking, early_none, early_preparing, leaves_with, line_not, part_once, some_prepares_with, writes_with}
 use Rattle.asking.proofs.Faulty.{beginning_with, grows_not, grows_on, input_fault, reads_input, saving_with, stops_more, words_fault}
+use Rattle.asking.specs.Lateness.{IsLimitOf}
+use Rattle.asking.proofs.Late.{err_again, late_asking, late_first, late_lines, late_none, late_preparing, late_words, limit_trans, same_limit}
 use Rattle.asking.proofs.Ran.{asks_input, asks_words, begins_run, leads_once, ok_then, whole}
 use Rattle.std.proofs.Common.{◌∙◌, ◌++◌, ap, subst, sym}
 use Rattle.asking.specs.Runs.{Background}
 use Rattle.asking.specs.Saves.{Act}
 use Rattle.asking.specs.Standing.{IsLeft, RunStands, StateIsKept}
 use Rattle.asking.proofs.Ran.{input_asked, words_among, words_asked}
+use Rattle.asking.proofs.MarkedRuns.{marks-first, marks-then, ok_both, run-saved, whole-marked}
 use Rattle.asking.proofs.RunSteps.{ok_have}
 use Rattle.asking.proofs.Written.{state-left}
 use Rattle.asking.specs.declared.ask_fault.RunFault.TheVariants.{Program}
@@ -36,12 +39,16 @@ returns-in-Some-clause-runs g c =
     (g.W.Write.contents c.prepare.new.writer) (g.W.Write.contents c.ask_line.new.writer) last} c.ask_line.result line once) in
     whole g.H.NodeHash.digest_of g.V.VufCheck.accepted g.S.Verifier.verified (ExchangesFrames g.T.Write.contents g.T.Read.remaining) c.args.keys.now.signing_key c.args.keys.now.token (ask_values c.args.order) (c.args.self.now.state ≡ None)
     c.ask_line.result (background_of c.in_ok-asker.asker) (background_of c.prepare.new.asker) c.args.stream.now start ready last (g.R.Read.remaining c.args.reader.now) (g.W.Write.contents c.args.writer.now)
-    (g.W.Write.contents c.prepare.new.writer) (g.W.Write.contents c.ask_line.new.writer) (report_of c.args.self.now.said)
+    (g.W.Write.contents c.prepare.new.writer) (g.W.Write.contents c.ask_line.new.writer) (report_of c.args.self.now.said) (IsLimitOf (ask_values c.args.order) c.args.self.now.limit) (λ after last. c.ask_line.new.self.limit.last ≡ Some last)
     (begins_run g.H.NodeHash.digest_of g.V.VufCheck.accepted g.S.Verifier.verified (ExchangesFrames g.T.Write.contents g.T.Read.remaining) c.args.keys.now.signing_key c.args.keys.now.token (c.args.self.now.state ≡ None) (background_of c.in_ok-asker.asker) c.args.stream.now start (report_of c.args.self.now.said)
     c.in_ok-asker.ensures.said c.in_ok-asker.ensures.begins c.in_ok-asker.ensures.knows)
     (writes_with g.H.NodeHash.digest_of g.V.VufCheck.accepted g.S.Verifier.verified (ExchangesFrames g.T.Write.contents g.T.Read.remaining) c.args.keys.now.signing_key c.args.keys.now.token (ask_values c.args.order)
     (c.begin.new.self.state ≡ None) (c.args.self.now.state ≡ None) c.begin.ensures.still.1 c.begin.ensures.still.0 (background_of c.in_ok-asker.asker) (scene c.in_ok-asker.asker c.begin.new.self.said c.begin.new.stream)
     (g.W.Write.contents c.args.writer.now) (g.W.Write.contents c.prepare.new.writer) (scene c.prepare.new.asker c.prepare.new.self.said c.prepare.new.stream) c.in_ok-prepare.ensures.prepares) c.in_ok-prepare.ensures.stays asks
+    (late_words g.H.NodeHash.digest_of g.V.VufCheck.accepted g.S.Verifier.verified (ExchangesFrames g.T.Write.contents g.T.Read.remaining) c.args.order (IsLimitOf (ask_values c.args.order) c.args.self.now.limit) c.ask_line.result c.ask_line.new.self.limit c.ask_line.new.asker c.ask_line.new.self.said c.ask_line.new.stream (background_of c.in_ok-asker.asker).marks
+    (ap (λ (b : Background). b.marks) (c.ask_line.ensures.stays ∙ c.in_ok-prepare.ensures.stays))
+    (λ is. same_limit (ask_values c.args.order) c.args.self.now.limit c.ask_line.new.self.limit (limit_trans c.args.self.now.limit c.prepare.new.self.limit c.ask_line.new.self.limit (limit_trans c.args.self.now.limit c.begin.new.self.limit c.prepare.new.self.limit c.begin.ensures.limit c.prepare.ensures.limit) c.ask_line.ensures.limit) is)
+    c.ask_line.ensures.notes)
 
 pub returns-clause-runs : goal.returns-clause-runs
 returns-clause-runs g c =
@@ -52,12 +59,13 @@ returns-clause-runs g c =
     (g.W.Write.contents c.prepare.new.writer) (g.W.Write.contents c.ask_lines.new.writer) last) c.ask_lines.result (g.R.Read.remaining c.args.reader.now) c.args.order c.in-None.is c.ask_lines.ensures.asks in
     whole g.H.NodeHash.digest_of g.V.VufCheck.accepted g.S.Verifier.verified (ExchangesFrames g.T.Write.contents g.T.Read.remaining) c.args.keys.now.signing_key c.args.keys.now.token (ask_values c.args.order) (c.args.self.now.state ≡ None)
     c.ask_lines.result (background_of c.in_ok-asker.asker) (background_of c.prepare.new.asker) c.args.stream.now start ready last (g.R.Read.remaining c.args.reader.now) (g.W.Write.contents c.args.writer.now)
-    (g.W.Write.contents c.prepare.new.writer) (g.W.Write.contents c.ask_lines.new.writer) (report_of c.args.self.now.said)
+    (g.W.Write.contents c.prepare.new.writer) (g.W.Write.contents c.ask_lines.new.writer) (report_of c.args.self.now.said) (IsLimitOf (ask_values c.args.order) c.args.self.now.limit) (λ after last. c.ask_lines.new.self.limit.last ≡ Some last)
     (begins_run g.H.NodeHash.digest_of g.V.VufCheck.accepted g.S.Verifier.verified (ExchangesFrames g.T.Write.contents g.T.Read.remaining) c.args.keys.now.signing_key c.args.keys.now.token (c.args.self.now.state ≡ None) (background_of c.in_ok-asker.asker) c.args.stream.now start (report_of c.args.self.now.said)
     c.in_ok-asker.ensures.said c.in_ok-asker.ensures.begins c.in_ok-asker.ensures.knows)
     (writes_with g.H.NodeHash.digest_of g.V.VufCheck.accepted g.S.Verifier.verified (ExchangesFrames g.T.Write.contents g.T.Read.remaining) c.args.keys.now.signing_key c.args.keys.now.token (ask_values c.args.order)
     (c.begin.new.self.state ≡ None) (c.args.self.now.state ≡ None) c.begin.ensures.still.1 c.begin.ensures.still.0 (background_of c.in_ok-asker.asker) (scene c.in_ok-asker.asker c.begin.new.self.said c.begin.new.stream)
     (g.W.Write.contents c.args.writer.now) (g.W.Write.contents c.prepare.new.writer) (scene c.prepare.new.asker c.prepare.new.self.said c.prepare.new.stream) c.in_ok-prepare.ensures.prepares) c.in_ok-prepare.ensures.stays asks
+    (late_lines g.H.NodeHash.digest_of g.V.VufCheck.accepted g.S.Verifier.verified (ExchangesFrames g.T.Write.contents g.T.Read.remaining) c.args.order (IsLimitOf (ask_values c.args.order) c.args.self.now.limit) c.ask_lines.result (background_of c.in_ok-asker.asker).marks last (λ after last'. c.ask_lines.new.self.limit.last ≡ Some last') c.in-None.is)
 
 pub returns-in_err-asker-clause-faults : goal.returns-in_err-asker-clause-faults
 returns-in_err-asker-clause-faults g c =
@@ -94,15 +102,19 @@ pub returns-in_err-asker-clause-grows : goal.returns-in_err-asker-clause-grows
 returns-in_err-asker-clause-grows g c = grows_not (g.W.Write.contents c.args.writer.now)
 
 pub returns-in_err-asker-clause-part : goal.returns-in_err-asker-clause-part
-returns-in_err-asker-clause-part g c = early_none g.H.NodeHash.digest_of g.V.VufCheck.accepted g.S.Verifier.verified (ExchangesFrames g.T.Write.contents g.T.Read.remaining) c.args.keys.now.signing_key c.args.keys.now.token (ask_values c.args.order) (c.args.self.now.state ≡ None) c.args.stream.now (g.R.Read.remaining c.args.reader.now) (g.W.Write.contents c.args.writer.now) _ (report_of c.args.self.now.said) c.begin.new.self.said c.in_err-asker.ensures.none
+returns-in_err-asker-clause-part g c = λ none limited.
+    let passed : c.from_residual.result ≡ Err c.in_err-asker.field-0.0 = search rules in
+    early_none g.H.NodeHash.digest_of g.V.VufCheck.accepted g.S.Verifier.verified (ExchangesFrames g.T.Write.contents g.T.Read.remaining) c.args.keys.now.signing_key c.args.keys.now.token (ask_values c.args.order) (c.args.self.now.state ≡ None) c.args.stream.now (g.R.Read.remaining c.args.reader.now) (g.W.Write.contents c.args.writer.now) _ (λ after last. c.begin.new.self.limit.last ≡ Some last) (LoadsNone (c.args.self.now.state ≡ None) c.from_residual.result c.args.self.now.limit c.begin.new.self.limit c.begin.new.self.said.status) (report_of c.args.self.now.said) c.begin.new.self.said c.in_err-asker.ensures.none
+    (late_first g.H.NodeHash.digest_of g.V.VufCheck.accepted g.S.Verifier.verified c.args.keys.now.signing_key (ask_values c.args.order) (c.args.self.now.state ≡ None) c.begin.new.self.limit (same_limit (ask_values c.args.order) c.args.self.now.limit c.begin.new.self.limit c.begin.ensures.limit limited) (ExchangesFrames g.T.Write.contents g.T.Read.remaining) (Err c.in_err-asker.field-0.0) c.from_residual.result c.args.self.now.limit c.begin.new.self.said.status
+    (λ fault was. passed ∙ err_again c.in_err-asker.field-0.0 (Program fault) was) (c.in_err-asker.ensures.first none)) none
 
 pub returns-in_err-prepare-clause-part : goal.returns-in_err-prepare-clause-part
-returns-in_err-prepare-clause-part g c =
+returns-in_err-prepare-clause-part g c = λ none limited.
     let passed : c.from_residual-in_err-prepare.result ≡ Err c.in_err-prepare.field-0.0 = search rules in
     let start = scene c.in_ok-asker.asker c.begin.new.self.said c.begin.new.stream in
     early_preparing g.H.NodeHash.digest_of g.V.VufCheck.accepted g.S.Verifier.verified (ExchangesFrames g.T.Write.contents g.T.Read.remaining) c.args.keys.now.signing_key c.args.keys.now.token (ask_values c.args.order) (c.args.self.now.state ≡ None) c.args.stream.now (g.R.Read.remaining c.args.reader.now) (g.W.Write.contents c.args.writer.now) (background_of c.in_ok-asker.asker) start (g.W.Write.contents c.prepare.new.writer) c.prepare.new.self.said
     (report_of c.args.self.now.said) (begins_run g.H.NodeHash.digest_of g.V.VufCheck.accepted g.S.Verifier.verified (ExchangesFrames g.T.Write.contents g.T.Read.remaining) c.args.keys.now.signing_key c.args.keys.now.token (c.args.self.now.state ≡ None) (background_of c.in_ok-asker.asker) c.args.stream.now start (report_of c.args.self.now.said)
-    c.in_ok-asker.ensures.said c.in_ok-asker.ensures.begins c.in_ok-asker.ensures.knows) (c.from_residual-in_err-prepare.result ≡ Err (Program CannotWrite))
+    c.in_ok-asker.ensures.said c.in_ok-asker.ensures.begins c.in_ok-asker.ensures.knows) (c.from_residual-in_err-prepare.result ≡ Err (Program CannotWrite)) (λ after last. c.prepare.new.self.limit.last ≡ Some last) (LoadsNone (c.args.self.now.state ≡ None) c.from_residual-in_err-prepare.result c.args.self.now.limit c.prepare.new.self.limit c.prepare.new.self.said.status)
     (let (reached, some, leaves) = c.in_err-prepare.ensures.part in (
       reached,
       some_prepares_with g.H.NodeHash.digest_of g.V.VufCheck.accepted g.S.Verifier.verified (ExchangesFrames g.T.Write.contents g.T.Read.remaining) c.args.keys.now.signing_key c.args.keys.now.token (ask_values c.args.order)
@@ -110,45 +122,66 @@ returns-in_err-prepare-clause-part g c =
       leaves_with _ (c.from_residual-in_err-prepare.result ≡ Err (Program CannotWrite)) (g.W.Write.contents c.prepare.new.writer) c.prepare.new.self.said reached.told (g.W.Write.contents c.args.writer.now)
           (λ failed. passed ∙ failed) leaves,
     ))
+    (late_preparing g.H.NodeHash.digest_of g.V.VufCheck.accepted g.S.Verifier.verified (ExchangesFrames g.T.Write.contents g.T.Read.remaining) (ask_values c.args.order) (c.args.self.now.state ≡ None) (background_of c.in_ok-asker.asker) start c.prepare.new.self.limit (same_limit (ask_values c.args.order) c.args.self.now.limit c.prepare.new.self.limit (limit_trans c.args.self.now.limit c.begin.new.self.limit c.prepare.new.self.limit c.begin.ensures.limit c.prepare.ensures.limit) limited)
+    (let (seen, at, noted) = c.prepare.ensures.noted c.in_ok-asker.ensures.notes in (
+      seen,
+      elim at [
+        | inl same ↦ inl same
+        | inr some ↦ inr (some_prepares_with g.H.NodeHash.digest_of g.V.VufCheck.accepted g.S.Verifier.verified (ExchangesFrames g.T.Write.contents g.T.Read.remaining) c.args.keys.now.signing_key c.args.keys.now.token (ask_values c.args.order) (c.begin.new.self.state ≡ None) (c.args.self.now.state ≡ None) c.begin.ensures.still.1 c.begin.ensures.still.0 (background_of c.in_ok-asker.asker) start seen some)
+      ],
+      noted,
+    ))) none
 
 pub returns-in_err-line-in-Some-clause-part : goal.returns-in_err-line-in-Some-clause-part
-returns-in_err-line-in-Some-clause-part g c =
+returns-in_err-line-in-Some-clause-part g c = λ none limited.
     let start = scene c.in_ok-asker.asker c.begin.new.self.said c.begin.new.stream in
     let ready = scene c.prepare.new.asker c.prepare.new.self.said c.prepare.new.stream in
     early_asking g.H.NodeHash.digest_of g.V.VufCheck.accepted g.S.Verifier.verified (ExchangesFrames g.T.Write.contents g.T.Read.remaining) c.args.keys.now.signing_key c.args.keys.now.token (ask_values c.args.order) (c.args.self.now.state ≡ None) c.args.stream.now (g.R.Read.remaining c.args.reader.now) (g.W.Write.contents c.args.writer.now) (background_of c.in_ok-asker.asker) start (g.W.Write.contents c.prepare.new.writer) c.prepare.new.self.said
     (report_of c.args.self.now.said) (begins_run g.H.NodeHash.digest_of g.V.VufCheck.accepted g.S.Verifier.verified (ExchangesFrames g.T.Write.contents g.T.Read.remaining) c.args.keys.now.signing_key c.args.keys.now.token (c.args.self.now.state ≡ None) (background_of c.in_ok-asker.asker) c.args.stream.now start (report_of c.args.self.now.said)
-    c.in_ok-asker.ensures.said c.in_ok-asker.ensures.begins c.in_ok-asker.ensures.knows) (c.from_residual-in_err-line-in-Some.result ≡ Err (Program CannotWrite)) (background_of c.prepare.new.asker) ready (g.W.Write.contents c.prepare.new.writer) (writes_with g.H.NodeHash.digest_of g.V.VufCheck.accepted g.S.Verifier.verified (ExchangesFrames g.T.Write.contents g.T.Read.remaining) c.args.keys.now.signing_key c.args.keys.now.token (ask_values c.args.order)
+    c.in_ok-asker.ensures.said c.in_ok-asker.ensures.begins c.in_ok-asker.ensures.knows) (c.from_residual-in_err-line-in-Some.result ≡ Err (Program CannotWrite)) (λ after last. c.prepare.new.self.limit.last ≡ Some last) (LoadsNone (c.args.self.now.state ≡ None) c.from_residual-in_err-line-in-Some.result c.args.self.now.limit c.prepare.new.self.limit c.prepare.new.self.said.status) (background_of c.prepare.new.asker) ready (g.W.Write.contents c.prepare.new.writer) (writes_with g.H.NodeHash.digest_of g.V.VufCheck.accepted g.S.Verifier.verified (ExchangesFrames g.T.Write.contents g.T.Read.remaining) c.args.keys.now.signing_key c.args.keys.now.token (ask_values c.args.order)
     (c.begin.new.self.state ≡ None) (c.args.self.now.state ≡ None) c.begin.ensures.still.1 c.begin.ensures.still.0 (background_of c.in_ok-asker.asker) (scene c.in_ok-asker.asker c.begin.new.self.said c.begin.new.stream)
     (g.W.Write.contents c.args.writer.now) (g.W.Write.contents c.prepare.new.writer) (scene c.prepare.new.asker c.prepare.new.self.said c.prepare.new.stream) c.in_ok-prepare.ensures.prepares) c.in_ok-prepare.ensures.stays
     (asks_words {E = RunFault} (λ lines. (told : Report) × (next : Option (List ℕ)) × AsksPart g.H.NodeHash.digest_of g.V.VufCheck.accepted g.S.Verifier.verified (ExchangesFrames g.T.Write.contents g.T.Read.remaining) (background_of c.prepare.new.asker) lines ready told (g.W.Write.contents c.prepare.new.writer) next
     × HoldsBack (c.from_residual-in_err-line-in-Some.result ≡ Err (Program CannotWrite)) (g.W.Write.contents c.prepare.new.writer) c.prepare.new.self.said told next) (Ok tt) (g.R.Read.remaining c.args.reader.now) c.args.order c.in-Some.field-0 c.in-Some.is
     (part_once g.H.NodeHash.digest_of g.V.VufCheck.accepted g.S.Verifier.verified (ExchangesFrames g.T.Write.contents g.T.Read.remaining) (background_of c.prepare.new.asker) (c.from_residual-in_err-line-in-Some.result ≡ Err (Program CannotWrite)) (words_line (ask_values c.args.order).words) ready (g.W.Write.contents c.prepare.new.writer) (g.W.Write.contents c.prepare.new.writer) c.prepare.new.self.said (line_not g.H.NodeHash.digest_of g.V.VufCheck.accepted g.S.Verifier.verified (ExchangesFrames g.T.Write.contents g.T.Read.remaining) (background_of c.prepare.new.asker) (c.from_residual-in_err-line-in-Some.result ≡ Err (Program CannotWrite)) (words_line (ask_values c.args.order).words) ready (g.W.Write.contents c.prepare.new.writer) c.prepare.new.self.said refl)))
+    (late_asking g.H.NodeHash.digest_of g.V.VufCheck.accepted g.S.Verifier.verified (ExchangesFrames g.T.Write.contents g.T.Read.remaining) (ask_values c.args.order) (c.args.self.now.state ≡ None) (background_of c.in_ok-asker.asker) start c.prepare.new.self.limit (background_of c.prepare.new.asker) ready (g.W.Write.contents c.args.writer.now) (g.W.Write.contents c.prepare.new.writer)
+    (same_limit (ask_values c.args.order) c.args.self.now.limit c.prepare.new.self.limit (limit_trans c.args.self.now.limit c.begin.new.self.limit c.prepare.new.self.limit c.begin.ensures.limit c.prepare.ensures.limit) limited) c.in_ok-prepare.ensures.stays (writes_with g.H.NodeHash.digest_of g.V.VufCheck.accepted g.S.Verifier.verified (ExchangesFrames g.T.Write.contents g.T.Read.remaining) c.args.keys.now.signing_key c.args.keys.now.token (ask_values c.args.order)
+    (c.begin.new.self.state ≡ None) (c.args.self.now.state ≡ None) c.begin.ensures.still.1 c.begin.ensures.still.0 (background_of c.in_ok-asker.asker) (scene c.in_ok-asker.asker c.begin.new.self.said c.begin.new.stream)
+    (g.W.Write.contents c.args.writer.now) (g.W.Write.contents c.prepare.new.writer) (scene c.prepare.new.asker c.prepare.new.self.said c.prepare.new.stream) c.in_ok-prepare.ensures.prepares)
+    (ready, inl refl, c.in_ok-prepare.ensures.notes)) none
 
 pub returns-in-Some-clause-part : goal.returns-in-Some-clause-part
-returns-in-Some-clause-part g c =
+returns-in-Some-clause-part g c = λ none limited.
     let start = scene c.in_ok-asker.asker c.begin.new.self.said c.begin.new.stream in
     let ready = scene c.prepare.new.asker c.prepare.new.self.said c.prepare.new.stream in
     let found = rw (c.deref.ensures.value, c.in_ok-line-in-Some.ensures) at c.ask_line.ensures.part in
+    let noted = rw (c.deref.ensures.value, c.in_ok-line-in-Some.ensures) at c.ask_line.ensures.noted c.in_ok-prepare.ensures.notes in
     early_asking g.H.NodeHash.digest_of g.V.VufCheck.accepted g.S.Verifier.verified (ExchangesFrames g.T.Write.contents g.T.Read.remaining) c.args.keys.now.signing_key c.args.keys.now.token (ask_values c.args.order) (c.args.self.now.state ≡ None) c.args.stream.now (g.R.Read.remaining c.args.reader.now) (g.W.Write.contents c.args.writer.now) (background_of c.in_ok-asker.asker) start (g.W.Write.contents c.ask_line.new.writer) c.ask_line.new.self.said
     (report_of c.args.self.now.said) (begins_run g.H.NodeHash.digest_of g.V.VufCheck.accepted g.S.Verifier.verified (ExchangesFrames g.T.Write.contents g.T.Read.remaining) c.args.keys.now.signing_key c.args.keys.now.token (c.args.self.now.state ≡ None) (background_of c.in_ok-asker.asker) c.args.stream.now start (report_of c.args.self.now.said)
-    c.in_ok-asker.ensures.said c.in_ok-asker.ensures.begins c.in_ok-asker.ensures.knows) (c.ask_line.result ≡ Err (Program CannotWrite)) (background_of c.prepare.new.asker) ready (g.W.Write.contents c.prepare.new.writer) (writes_with g.H.NodeHash.digest_of g.V.VufCheck.accepted g.S.Verifier.verified (ExchangesFrames g.T.Write.contents g.T.Read.remaining) c.args.keys.now.signing_key c.args.keys.now.token (ask_values c.args.order)
+    c.in_ok-asker.ensures.said c.in_ok-asker.ensures.begins c.in_ok-asker.ensures.knows) (c.ask_line.result ≡ Err (Program CannotWrite)) (λ after last. c.ask_line.new.self.limit.last ≡ Some last) (LoadsNone (c.args.self.now.state ≡ None) c.ask_line.result c.args.self.now.limit c.ask_line.new.self.limit c.ask_line.new.self.said.status) (background_of c.prepare.new.asker) ready (g.W.Write.contents c.prepare.new.writer) (writes_with g.H.NodeHash.digest_of g.V.VufCheck.accepted g.S.Verifier.verified (ExchangesFrames g.T.Write.contents g.T.Read.remaining) c.args.keys.now.signing_key c.args.keys.now.token (ask_values c.args.order)
     (c.begin.new.self.state ≡ None) (c.args.self.now.state ≡ None) c.begin.ensures.still.1 c.begin.ensures.still.0 (background_of c.in_ok-asker.asker) (scene c.in_ok-asker.asker c.begin.new.self.said c.begin.new.stream)
     (g.W.Write.contents c.args.writer.now) (g.W.Write.contents c.prepare.new.writer) (scene c.prepare.new.asker c.prepare.new.self.said c.prepare.new.stream) c.in_ok-prepare.ensures.prepares) c.in_ok-prepare.ensures.stays
     (asks_words {E = RunFault} (λ lines. (told : Report) × (next : Option (List ℕ)) × AsksPart g.H.NodeHash.digest_of g.V.VufCheck.accepted g.S.Verifier.verified (ExchangesFrames g.T.Write.contents g.T.Read.remaining) (background_of c.prepare.new.asker) lines ready told (g.W.Write.contents c.prepare.new.writer) next
     × HoldsBack (c.ask_line.result ≡ Err (Program CannotWrite)) (g.W.Write.contents c.ask_line.new.writer) c.ask_line.new.self.said told next) (Ok tt) (g.R.Read.remaining c.args.reader.now) c.args.order c.in-Some.field-0 c.in-Some.is
     (part_once g.H.NodeHash.digest_of g.V.VufCheck.accepted g.S.Verifier.verified (ExchangesFrames g.T.Write.contents g.T.Read.remaining) (background_of c.prepare.new.asker) (c.ask_line.result ≡ Err (Program CannotWrite)) (words_line (ask_values c.args.order).words) ready (g.W.Write.contents c.prepare.new.writer) (g.W.Write.contents c.ask_line.new.writer) c.ask_line.new.self.said found))
+    (late_asking g.H.NodeHash.digest_of g.V.VufCheck.accepted g.S.Verifier.verified (ExchangesFrames g.T.Write.contents g.T.Read.remaining) (ask_values c.args.order) (c.args.self.now.state ≡ None) (background_of c.in_ok-asker.asker) start c.ask_line.new.self.limit (background_of c.prepare.new.asker) ready (g.W.Write.contents c.args.writer.now) (g.W.Write.contents c.prepare.new.writer)
+    (same_limit (ask_values c.args.order) c.args.self.now.limit c.ask_line.new.self.limit (limit_trans c.args.self.now.limit c.prepare.new.self.limit c.ask_line.new.self.limit (limit_trans c.args.self.now.limit c.begin.new.self.limit c.prepare.new.self.limit c.begin.ensures.limit c.prepare.ensures.limit) c.ask_line.ensures.limit) limited) c.in_ok-prepare.ensures.stays (writes_with g.H.NodeHash.digest_of g.V.VufCheck.accepted g.S.Verifier.verified (ExchangesFrames g.T.Write.contents g.T.Read.remaining) c.args.keys.now.signing_key c.args.keys.now.token (ask_values c.args.order)
+    (c.begin.new.self.state ≡ None) (c.args.self.now.state ≡ None) c.begin.ensures.still.1 c.begin.ensures.still.0 (background_of c.in_ok-asker.asker) (scene c.in_ok-asker.asker c.begin.new.self.said c.begin.new.stream)
+    (g.W.Write.contents c.args.writer.now) (g.W.Write.contents c.prepare.new.writer) (scene c.prepare.new.asker c.prepare.new.self.said c.prepare.new.stream) c.in_ok-prepare.ensures.prepares)
+    noted) none
 
 pub returns-clause-part : goal.returns-clause-part
-returns-clause-part g c =
+returns-clause-part g c = λ none limited.
     let start = scene c.in_ok-asker.asker c.begin.new.self.said c.begin.new.stream in
     let ready = scene c.prepare.new.asker c.prepare.new.self.said c.prepare.new.stream in
     early_asking g.H.NodeHash.digest_of g.V.VufCheck.accepted g.S.Verifier.verified (ExchangesFrames g.T.Write.contents g.T.Read.remaining) c.args.keys.now.signing_key c.args.keys.now.token (ask_values c.args.order) (c.args.self.now.state ≡ None) c.args.stream.now (g.R.Read.remaining c.args.reader.now) (g.W.Write.contents c.args.writer.now) (background_of c.in_ok-asker.asker) start (g.W.Write.contents c.ask_lines.new.writer) c.ask_lines.new.self.said
     (report_of c.args.self.now.said) (begins_run g.H.NodeHash.digest_of g.V.VufCheck.accepted g.S.Verifier.verified (ExchangesFrames g.T.Write.contents g.T.Read.remaining) c.args.keys.now.signing_key c.args.keys.now.token (c.args.self.now.state ≡ None) (background_of c.in_ok-asker.asker) c.args.stream.now start (report_of c.args.self.now.said)
-    c.in_ok-asker.ensures.said c.in_ok-asker.ensures.begins c.in_ok-asker.ensures.knows) (c.ask_lines.result ≡ Err (Program CannotWrite)) (background_of c.prepare.new.asker) ready (g.W.Write.contents c.prepare.new.writer) (writes_with g.H.NodeHash.digest_of g.V.VufCheck.accepted g.S.Verifier.verified (ExchangesFrames g.T.Write.contents g.T.Read.remaining) c.args.keys.now.signing_key c.args.keys.now.token (ask_values c.args.order)
+    c.in_ok-asker.ensures.said c.in_ok-asker.ensures.begins c.in_ok-asker.ensures.knows) (c.ask_lines.result ≡ Err (Program CannotWrite)) (λ after last. c.ask_lines.new.self.limit.last ≡ Some last) (LoadsNone (c.args.self.now.state ≡ None) c.ask_lines.result c.args.self.now.limit c.ask_lines.new.self.limit c.ask_lines.new.self.said.status) (background_of c.prepare.new.asker) ready (g.W.Write.contents c.prepare.new.writer) (writes_with g.H.NodeHash.digest_of g.V.VufCheck.accepted g.S.Verifier.verified (ExchangesFrames g.T.Write.contents g.T.Read.remaining) c.args.keys.now.signing_key c.args.keys.now.token (ask_values c.args.order)
     (c.begin.new.self.state ≡ None) (c.args.self.now.state ≡ None) c.begin.ensures.still.1 c.begin.ensures.still.0 (background_of c.in_ok-asker.asker) (scene c.in_ok-asker.asker c.begin.new.self.said c.begin.new.stream)
     (g.W.Write.contents c.args.writer.now) (g.W.Write.contents c.prepare.new.writer) (scene c.prepare.new.asker c.prepare.new.self.said c.prepare.new.stream) c.in_ok-prepare.ensures.prepares) c.in_ok-prepare.ensures.stays
     (asks_input {E = RunFault} (λ lines. (told : Report) × (next : Option (List ℕ)) × AsksPart g.H.NodeHash.digest_of g.V.VufCheck.accepted g.S.Verifier.verified (ExchangesFrames g.T.Write.contents g.T.Read.remaining) (background_of c.prepare.new.asker) lines ready told (g.W.Write.contents c.prepare.new.writer) next
     × HoldsBack (c.ask_lines.result ≡ Err (Program CannotWrite)) (g.W.Write.contents c.ask_lines.new.writer) c.ask_lines.new.self.said told next) (Ok tt) (g.R.Read.remaining c.args.reader.now) c.args.order c.in-None.is c.ask_lines.ensures.part)
+    (late_none g.H.NodeHash.digest_of g.V.VufCheck.accepted g.S.Verifier.verified (ExchangesFrames g.T.Write.contents g.T.Read.remaining) c.args.order (c.args.self.now.state ≡ None) (background_of c.in_ok-asker.asker) start (λ after last. c.ask_lines.new.self.limit.last ≡ Some last) c.in-None.is) none
 
 pub returns-in_err-asker-clause-kept : goal.returns-in_err-asker-clause-kept
 returns-in_err-asker-clause-kept g c = λ fresh old acts is has.
@@ -211,3 +244,73 @@ returns-clause-kept g c = λ fresh old acts is has.
     let back = subst (λ (ls : Option (List (List ℕ))). StateIsKept g.H.NodeHash.digest_of g.V.VufCheck.accepted g.S.Verifier.verified ls c.prepare.new.asker.key start old (λ (done : List Act). g.K.Keeper.has c.ask_lines.new.keeper (done ++ acts)) c.ask_lines.new.self.state (g.W.Write.contents c.ask_lines.new.writer)) (sym same) kept in
     state-left g.H.NodeHash.digest_of g.V.VufCheck.accepted g.S.Verifier.verified lines c.args.keys.now.signing_key start old (λ (done : List Act). g.K.Keeper.has c.ask_lines.new.keeper (done ++ acts)) c.ask_lines.new.self.state (g.W.Write.contents c.ask_lines.new.writer)
     (subst (λ (k : List ℕ). StateIsKept g.H.NodeHash.digest_of g.V.VufCheck.accepted g.S.Verifier.verified lines k start old (λ (done : List Act). g.K.Keeper.has c.ask_lines.new.keeper (done ++ acts)) c.ask_lines.new.self.state (g.W.Write.contents c.ask_lines.new.writer)) (key') (back))
+
+pub returns-in-Some-clause-marks : goal.returns-in-Some-clause-marks
+returns-in-Some-clause-marks g c =
+    let start = scene c.in_ok-asker.asker c.begin.new.self.said c.begin.new.stream in
+    let ready = scene c.prepare.new.asker c.prepare.new.self.said c.prepare.new.stream in
+    let last = scene c.ask_line.new.asker c.ask_line.new.self.said c.ask_line.new.stream in
+    let line = rw (c.deref.ensures.value, c.in_ok-line-in-Some.ensures) at c.ask_line.ensures.asks in
+    let once = leads_once g.H.NodeHash.digest_of g.V.VufCheck.accepted g.S.Verifier.verified (ExchangesFrames g.T.Write.contents g.T.Read.remaining) (background_of c.prepare.new.asker) ready last
+    (g.W.Write.contents c.prepare.new.writer) (g.W.Write.contents c.ask_line.new.writer) (words_line (ask_values c.args.order).words) in
+    let asks = asks_words (λ lines. AsksLines g.H.NodeHash.digest_of g.V.VufCheck.accepted g.S.Verifier.verified (ExchangesFrames g.T.Write.contents g.T.Read.remaining) (background_of c.prepare.new.asker) lines ready
+    (g.W.Write.contents c.prepare.new.writer) (g.W.Write.contents c.ask_line.new.writer) last) c.ask_line.result (g.R.Read.remaining c.args.reader.now) c.args.order c.in-Some.field-0 c.in-Some.is
+    (ok_then {Q = AsksLines g.H.NodeHash.digest_of g.V.VufCheck.accepted g.S.Verifier.verified (ExchangesFrames g.T.Write.contents g.T.Read.remaining) (background_of c.prepare.new.asker) (words_line (ask_values c.args.order).words ∷ []) ready
+    (g.W.Write.contents c.prepare.new.writer) (g.W.Write.contents c.ask_line.new.writer) last} c.ask_line.result line once) in
+    ok_both c.ask_line.result asks c.ask_line.ensures.marks (λ all marks fresh unlooked none old acts is has.
+    let lines = lines_asked (ask_values c.args.order).words (g.R.Read.remaining c.args.reader.now) in
+    let asker = c.in_ok-asker.asker in
+    let (found, begun) = c.in_ok-asker.ensures.stands fresh lines old acts has in
+    let happened : List Act → Type 0 = λ done. g.K.Keeper.has c.begin.new.keeper (done ++ acts) in
+    let happened' : List Act → Type 0 = λ done. g.K.Keeper.has c.ask_line.new.keeper (done ++ acts) in
+    let stands = subst (λ (o : Option (List ℕ)). RunStands g.H.NodeHash.digest_of g.V.VufCheck.accepted g.S.Verifier.verified lines found old happened asker c.begin.new.self.said.text.items c.begin.new.self.state o) (sym is) begun in
+    let prepared = ok_have c.prepare.result c.in_ok-prepare.was (c.prepare.ensures.stands lines found old acts stands).1 in
+    let one = c.in_ok-prepare.ensures.marks lines found old acts stands in
+    let key = ap (λ (b : Background). b.key) c.in_ok-prepare.ensures.stays ∙ c.in_ok-asker.ensures.knows.0 in
+    let among = words_among lines (words_line (ask_values c.args.order).words) c.deref.result.now (words_asked (g.R.Read.remaining c.args.reader.now) c.args.order c.in-Some.field-0 c.in-Some.is) (c.deref.ensures.value ∙ c.in_ok-line-in-Some.ensures) in
+    let (stood, other) = marks lines found old acts among prepared in
+    let saved = run-saved g.H.NodeHash.digest_of g.V.VufCheck.accepted g.S.Verifier.verified lines found old happened' c.ask_line.new.asker c.ask_line.new.self.said.text.items c.ask_line.new.self.state (g.W.Write.contents c.ask_line.new.writer) c.args.keys.now.signing_key
+    (ap (λ (b : Background). b.key) c.ask_line.ensures.stays ∙ key) stood in
+    let both = marks-then c.begin.new.self.state c.prepare.new.self.state c.ask_line.new.self.state asker.monitors.items c.prepare.new.asker.monitors.items c.ask_line.new.asker.monitors.items one other in
+    whole-marked g.H.NodeHash.digest_of g.V.VufCheck.accepted g.S.Verifier.verified (ExchangesFrames g.T.Write.contents g.T.Read.remaining) c.args.keys.now.signing_key c.args.keys.now.token (ask_values c.args.order) (c.args.self.now.state ≡ None)
+    (background_of asker) (background_of c.prepare.new.asker) c.args.stream.now start ready last (g.R.Read.remaining c.args.reader.now) (g.W.Write.contents c.args.writer.now)
+    (g.W.Write.contents c.prepare.new.writer) (g.W.Write.contents c.ask_line.new.writer) old happened' c.ask_line.new.self.state found
+    (begins_run g.H.NodeHash.digest_of g.V.VufCheck.accepted g.S.Verifier.verified (ExchangesFrames g.T.Write.contents g.T.Read.remaining) c.args.keys.now.signing_key c.args.keys.now.token (c.args.self.now.state ≡ None) (background_of asker) c.args.stream.now start (report_of c.args.self.now.said)
+    c.in_ok-asker.ensures.said c.in_ok-asker.ensures.begins c.in_ok-asker.ensures.knows none)
+    (writes_with g.H.NodeHash.digest_of g.V.VufCheck.accepted g.S.Verifier.verified (ExchangesFrames g.T.Write.contents g.T.Read.remaining) c.args.keys.now.signing_key c.args.keys.now.token (ask_values c.args.order)
+    (c.begin.new.self.state ≡ None) (c.args.self.now.state ≡ None) c.begin.ensures.still.1 c.begin.ensures.still.0 (background_of asker) start
+    (g.W.Write.contents c.args.writer.now) (g.W.Write.contents c.prepare.new.writer) ready c.in_ok-prepare.ensures.prepares) c.in_ok-prepare.ensures.stays all
+    (λ no. c.begin.ensures.still.0 (both.0 no)) begun.1 saved (both.1 (marks-first c.begin.new.self.state asker.monitors.items c.in_ok-asker.ensures.knows.2 (c.begin.ensures.looks unlooked))))
+
+pub returns-clause-marks : goal.returns-clause-marks
+returns-clause-marks g c =
+    let start = scene c.in_ok-asker.asker c.begin.new.self.said c.begin.new.stream in
+    let ready = scene c.prepare.new.asker c.prepare.new.self.said c.prepare.new.stream in
+    let last = scene c.ask_lines.new.asker c.ask_lines.new.self.said c.ask_lines.new.stream in
+    let asks = asks_input (λ lines. AsksLines g.H.NodeHash.digest_of g.V.VufCheck.accepted g.S.Verifier.verified (ExchangesFrames g.T.Write.contents g.T.Read.remaining) (background_of c.prepare.new.asker) lines ready
+    (g.W.Write.contents c.prepare.new.writer) (g.W.Write.contents c.ask_lines.new.writer) last) c.ask_lines.result (g.R.Read.remaining c.args.reader.now) c.args.order c.in-None.is c.ask_lines.ensures.asks in
+    ok_both c.ask_lines.result asks c.ask_lines.ensures.marks (λ all marks fresh unlooked none old acts is has.
+    let lines = lines_asked (ask_values c.args.order).words (g.R.Read.remaining c.args.reader.now) in
+    let asker = c.in_ok-asker.asker in
+    let (found, begun) = c.in_ok-asker.ensures.stands fresh lines old acts has in
+    let happened : List Act → Type 0 = λ done. g.K.Keeper.has c.begin.new.keeper (done ++ acts) in
+    let happened' : List Act → Type 0 = λ done. g.K.Keeper.has c.ask_lines.new.keeper (done ++ acts) in
+    let stands = subst (λ (o : Option (List ℕ)). RunStands g.H.NodeHash.digest_of g.V.VufCheck.accepted g.S.Verifier.verified lines found old happened asker c.begin.new.self.said.text.items c.begin.new.self.state o) (sym is) begun in
+    let prepared = ok_have c.prepare.result c.in_ok-prepare.was (c.prepare.ensures.stands lines found old acts stands).1 in
+    let one = c.in_ok-prepare.ensures.marks lines found old acts stands in
+    let key = ap (λ (b : Background). b.key) c.in_ok-prepare.ensures.stays ∙ c.in_ok-asker.ensures.knows.0 in
+    let same = input_asked (g.R.Read.remaining c.args.reader.now) c.args.order c.in-None.is in
+    let here = subst (λ (ls : Option (List (List ℕ))). RunStands g.H.NodeHash.digest_of g.V.VufCheck.accepted g.S.Verifier.verified ls found old (λ (done : List Act). g.K.Keeper.has c.prepare.new.keeper (done ++ acts)) c.prepare.new.asker c.prepare.new.self.said.text.items c.prepare.new.self.state (g.W.Write.contents c.prepare.new.writer)) same prepared in
+    let (stood, kept, other) = marks found old acts here in
+    let back = subst (λ (ls : Option (List (List ℕ))). RunStands g.H.NodeHash.digest_of g.V.VufCheck.accepted g.S.Verifier.verified ls found old happened' c.ask_lines.new.asker c.ask_lines.new.self.said.text.items c.ask_lines.new.self.state (g.W.Write.contents c.ask_lines.new.writer)) (sym same) stood in
+    let saved = run-saved g.H.NodeHash.digest_of g.V.VufCheck.accepted g.S.Verifier.verified lines found old happened' c.ask_lines.new.asker c.ask_lines.new.self.said.text.items c.ask_lines.new.self.state (g.W.Write.contents c.ask_lines.new.writer) c.args.keys.now.signing_key (kept ∙ key) back in
+    let both = marks-then c.begin.new.self.state c.prepare.new.self.state c.ask_lines.new.self.state asker.monitors.items c.prepare.new.asker.monitors.items c.ask_lines.new.asker.monitors.items one other in
+    whole-marked g.H.NodeHash.digest_of g.V.VufCheck.accepted g.S.Verifier.verified (ExchangesFrames g.T.Write.contents g.T.Read.remaining) c.args.keys.now.signing_key c.args.keys.now.token (ask_values c.args.order) (c.args.self.now.state ≡ None)
+    (background_of asker) (background_of c.prepare.new.asker) c.args.stream.now start ready last (g.R.Read.remaining c.args.reader.now) (g.W.Write.contents c.args.writer.now)
+    (g.W.Write.contents c.prepare.new.writer) (g.W.Write.contents c.ask_lines.new.writer) old happened' c.ask_lines.new.self.state found
+    (begins_run g.H.NodeHash.digest_of g.V.VufCheck.accepted g.S.Verifier.verified (ExchangesFrames g.T.Write.contents g.T.Read.remaining) c.args.keys.now.signing_key c.args.keys.now.token (c.args.self.now.state ≡ None) (background_of asker) c.args.stream.now start (report_of c.args.self.now.said)
+    c.in_ok-asker.ensures.said c.in_ok-asker.ensures.begins c.in_ok-asker.ensures.knows none)
+    (writes_with g.H.NodeHash.digest_of g.V.VufCheck.accepted g.S.Verifier.verified (ExchangesFrames g.T.Write.contents g.T.Read.remaining) c.args.keys.now.signing_key c.args.keys.now.token (ask_values c.args.order)
+    (c.begin.new.self.state ≡ None) (c.args.self.now.state ≡ None) c.begin.ensures.still.1 c.begin.ensures.still.0 (background_of asker) start
+    (g.W.Write.contents c.args.writer.now) (g.W.Write.contents c.prepare.new.writer) ready c.in_ok-prepare.ensures.prepares) c.in_ok-prepare.ensures.stays all
+    (λ no. c.begin.ensures.still.0 (both.0 no)) begun.1 saved (both.1 (marks-first c.begin.new.self.state asker.monitors.items c.in_ok-asker.ensures.knows.2 (c.begin.ensures.looks unlooked))))

@@ -12,7 +12,9 @@ use Rattle.std.specs.Prelude.{option_map}
 use Rattle.textio.specs.Lines.{lines_of}
 use Rattle.asking.specs.Saves.{Act}
 use Rattle.asking.specs.Standing.{standing, StateIsKept}
+use Rattle.asking.proofs.Late.{limit_trans}
 use Rattle.asking.proofs.Ran.{leads_among}
+use Rattle.asking.proofs.MarkedRuns.{marks-same, marks-then}
 use Rattle.asking.proofs.RunSteps.{ok_have}
 use Rattle.asking.proofs.Written.{state-kept}
 use Rattle.textio.specs.declared.program_fault.ProgramFault.TheVariants.{CannotWrite}
@@ -46,7 +48,13 @@ loop-number-preserved g c =
           let among = leads_among g.H.NodeHash.digest_of g.V.VufCheck.accepted g.S.Verifier.verified (ExchangesFrames g.T.Write.contents g.T.Read.remaining) (background_of c.args.asker.now) (scene c.args.asker.now c.args.self.now.said c.args.stream.now) here
           (g.R.Read.remaining c.args.reader.now) (g.W.Write.contents c.args.writer.now) (g.R.Read.remaining c.loop-number.reader) (g.R.Read.remaining c.next_line.new.reader) (g.W.Write.contents c.loop-number.writer) c.deref.result.now c.loop-number.invariant.asks takes in
           ok_have c.ask_line.result (c.in_ok-ask_line.was) (c.ask_line.ensures.stands (option_map lines_of (g.R.Read.remaining c.args.reader.now)) start old acts among (c.loop-number.invariant.stands start old acts stands)).1;
+      marks = λ start old acts stands.
+          let among = leads_among g.H.NodeHash.digest_of g.V.VufCheck.accepted g.S.Verifier.verified (ExchangesFrames g.T.Write.contents g.T.Read.remaining) (background_of c.args.asker.now) (scene c.args.asker.now c.args.self.now.said c.args.stream.now) here
+          (g.R.Read.remaining c.args.reader.now) (g.W.Write.contents c.args.writer.now) (g.R.Read.remaining c.loop-number.reader) (g.R.Read.remaining c.next_line.new.reader) (g.W.Write.contents c.loop-number.writer) c.deref.result.now c.loop-number.invariant.asks takes in
+          marks-then c.args.self.now.state c.loop-number.self.state c.ask_line.new.self.state c.args.asker.now.monitors.items c.loop-number.asker.monitors.items c.ask_line.new.asker.monitors.items (c.loop-number.invariant.marks start old acts stands)
+          (c.in_ok-ask_line.ensures.marks (option_map lines_of (g.R.Read.remaining c.args.reader.now)) start old acts among (c.loop-number.invariant.stands start old acts stands)).1;
       rises = rises_on c.args.self.now.said.status c.loop-number.self.said.status c.ask_line.new.self.said.status c.loop-number.invariant.rises c.in_ok-ask_line.ensures.rises;
+      limit = limit_trans c.args.self.now.limit c.loop-number.self.limit c.ask_line.new.self.limit c.loop-number.invariant.limit c.ask_line.ensures.limit;
     }
 
 pub loop-number-init : goal.loop-number-init
@@ -57,7 +65,9 @@ loop-number-init g c = record {
   counts = counts_first (g.R.Read.remaining c.args.reader.now);
   grows = grows_not (g.W.Write.contents c.args.writer.now);
   rises = omega arith;
+  limit = (refl, refl);
   stands = λ start old acts stands. stands;
+  marks = λ start old acts stands. marks-same c.args.self.now.state c.args.asker.now.monitors.items;
 }
 
 pub returns-in_err-ask_line-clause-faults : goal.returns-in_err-ask_line-clause-faults
@@ -101,21 +111,21 @@ returns-in_err-next_line-clause-stands g c = λ start old acts stands.
     let key = ap (λ (b : Background). b.key) c.loop-number.invariant.same in
     let lines = option_map lines_of (g.R.Read.remaining c.args.reader.now) in
     subst (λ (k : List ℕ). StateIsKept g.H.NodeHash.digest_of g.V.VufCheck.accepted g.S.Verifier.verified lines k start old (λ (done : List Act). g.K.Keeper.has c.loop-number.keeper (done ++ acts)) c.loop-number.self.state (g.W.Write.contents c.loop-number.writer)) key (state-kept g.H.NodeHash.digest_of g.V.VufCheck.accepted g.S.Verifier.verified (option_map lines_of (g.R.Read.remaining c.args.reader.now)) c.loop-number.asker.key start old (λ (done : List Act). g.K.Keeper.has c.loop-number.keeper (done ++ acts)) c.loop-number.self.state (g.W.Write.contents c.loop-number.writer)
-    (standing c.loop-number.asker.client c.loop-number.asker.monitors.items c.loop-number.self.said.text.items) (c.loop-number.invariant.stands start old acts stands).0)
+    c.loop-number.asker.changes.items (standing c.loop-number.asker.client c.loop-number.asker.monitors.items c.loop-number.self.said.text.items) (c.loop-number.invariant.stands start old acts stands).0)
 
 pub returns-then-not-branch-clause-stands : goal.returns-then-not-branch-clause-stands
 returns-then-not-branch-clause-stands g c = λ start old acts stands.
     let key = ap (λ (b : Background). b.key) c.loop-number.invariant.same in
     let lines = option_map lines_of (g.R.Read.remaining c.args.reader.now) in
     subst (λ (k : List ℕ). StateIsKept g.H.NodeHash.digest_of g.V.VufCheck.accepted g.S.Verifier.verified lines k start old (λ (done : List Act). g.K.Keeper.has c.loop-number.keeper (done ++ acts)) c.loop-number.self.state (g.W.Write.contents c.loop-number.writer)) key (state-kept g.H.NodeHash.digest_of g.V.VufCheck.accepted g.S.Verifier.verified (option_map lines_of (g.R.Read.remaining c.args.reader.now)) c.loop-number.asker.key start old (λ (done : List Act). g.K.Keeper.has c.loop-number.keeper (done ++ acts)) c.loop-number.self.state (g.W.Write.contents c.loop-number.writer)
-    (standing c.loop-number.asker.client c.loop-number.asker.monitors.items c.loop-number.self.said.text.items) (c.loop-number.invariant.stands start old acts stands).0)
+    c.loop-number.asker.changes.items (standing c.loop-number.asker.client c.loop-number.asker.monitors.items c.loop-number.self.said.text.items) (c.loop-number.invariant.stands start old acts stands).0)
 
 pub returns-clause-stands : goal.returns-clause-stands
 returns-clause-stands g c = λ start old acts stands.
     let key = ap (λ (b : Background). b.key) c.loop-number.invariant.same in
     let lines = option_map lines_of (g.R.Read.remaining c.args.reader.now) in
     subst (λ (k : List ℕ). StateIsKept g.H.NodeHash.digest_of g.V.VufCheck.accepted g.S.Verifier.verified lines k start old (λ (done : List Act). g.K.Keeper.has c.loop-number.keeper (done ++ acts)) c.loop-number.self.state (g.W.Write.contents c.loop-number.writer)) key (state-kept g.H.NodeHash.digest_of g.V.VufCheck.accepted g.S.Verifier.verified (option_map lines_of (g.R.Read.remaining c.args.reader.now)) c.loop-number.asker.key start old (λ (done : List Act). g.K.Keeper.has c.loop-number.keeper (done ++ acts)) c.loop-number.self.state (g.W.Write.contents c.loop-number.writer)
-    (standing c.loop-number.asker.client c.loop-number.asker.monitors.items c.loop-number.self.said.text.items) (c.loop-number.invariant.stands start old acts stands).0)
+    c.loop-number.asker.changes.items (standing c.loop-number.asker.client c.loop-number.asker.monitors.items c.loop-number.self.said.text.items) (c.loop-number.invariant.stands start old acts stands).0)
 
 pub returns-in_err-ask_line-clause-stands : goal.returns-in_err-ask_line-clause-stands
 returns-in_err-ask_line-clause-stands g c = λ start old acts stands.
@@ -126,3 +136,10 @@ returns-in_err-ask_line-clause-stands g c = λ start old acts stands.
     (g.R.Read.remaining c.args.reader.now) (g.W.Write.contents c.args.writer.now) (g.R.Read.remaining c.loop-number.reader) (g.R.Read.remaining c.next_line.new.reader) (g.W.Write.contents c.loop-number.writer) c.deref.result.now c.loop-number.invariant.asks takes in
     subst (λ (k : List ℕ). StateIsKept g.H.NodeHash.digest_of g.V.VufCheck.accepted g.S.Verifier.verified lines k start old (λ (done : List Act). g.K.Keeper.has c.ask_line.new.keeper (done ++ acts)) c.ask_line.new.self.state (g.W.Write.contents c.ask_line.new.writer)) key
     (c.ask_line.ensures.stands lines start old acts among (c.loop-number.invariant.stands start old acts stands)).0
+
+pub returns-then-not-branch-clause-marks : goal.returns-then-not-branch-clause-marks
+returns-then-not-branch-clause-marks g c = λ start old acts stands.
+    (c.loop-number.invariant.stands start old acts stands, ap (λ (b : Background). b.key) c.loop-number.invariant.same, c.loop-number.invariant.marks start old acts stands)
+
+pub returns-in_err-ask_line-clause-limit : goal.returns-in_err-ask_line-clause-limit
+returns-in_err-ask_line-clause-limit g c = limit_trans c.args.self.now.limit c.loop-number.self.limit c.ask_line.new.self.limit c.loop-number.invariant.limit c.ask_line.ensures.limit

@@ -2,6 +2,8 @@ use Rattle.std.proofs.Common.{◌≡◌, ◌≤◌, ◌++◌, ℕ, List}
 use Rattle.std.specs.Prelude.{option_map}
 use Rattle.textio.specs.Lines.{lines_of}
 use Rattle.asking.specs.Exchanges.{ExchangesFrames}
+use Rattle.asking.specs.Marking.{MarksOn}
+use Rattle.asking.specs.Lateness.{IsSameLimit}
 use Rattle.asking.specs.Runs.{Grows, background_of}
 use Rattle.asking.specs.Saves.{Act, Found}
 use Rattle.asking.specs.Scenes.{scene}
@@ -21,5 +23,9 @@ invariant-loop-number g l = record {
   stands : (start : Found) (old : List ℕ) (acts : List Act)
       → RunStands g.H.NodeHash.digest_of g.V.VufCheck.accepted g.S.Verifier.verified (option_map lines_of (g.R.Read.remaining l.fn.reader)) start old (λ done. g.K.Keeper.has l.fn.keeper (done ++ acts)) l.fn.asker l.fn.self.said.text.items l.fn.self.state (g.W.Write.contents l.fn.writer)
       → RunStands g.H.NodeHash.digest_of g.V.VufCheck.accepted g.S.Verifier.verified (option_map lines_of (g.R.Read.remaining l.fn.reader)) start old (λ done. g.K.Keeper.has l.keeper (done ++ acts)) l.asker l.self.said.text.items l.self.state (g.W.Write.contents l.writer);
+  marks : (start : Found) (old : List ℕ) (acts : List Act)
+      → RunStands g.H.NodeHash.digest_of g.V.VufCheck.accepted g.S.Verifier.verified (option_map lines_of (g.R.Read.remaining l.fn.reader)) start old (λ done. g.K.Keeper.has l.fn.keeper (done ++ acts)) l.fn.asker l.fn.self.said.text.items l.fn.self.state (g.W.Write.contents l.fn.writer)
+      → MarksOn l.fn.self.state l.fn.asker.monitors.items l.self.state l.asker.monitors.items;
   rises : l.fn.self.said.status ≤ l.self.said.status;
+  limit : IsSameLimit l.fn.self.limit l.self.limit;
 }

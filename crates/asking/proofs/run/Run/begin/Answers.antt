@@ -1,4 +1,4 @@
-use Rattle.std.proofs.Common.{◌≡◌, ◌⊎◌, None, inl, inr, refl, rules, subst}
+use Rattle.std.proofs.Common.{◌≡◌, ◌⊎◌, [], Err, None, ap, inl, inr, refl, rules, subst}
 use Rattle.textio.specs.declared.program_fault.ProgramFault.TheVariants.{OutOfMemory}
 use Rattle.std.specs.Prelude.{OnErr}
 use Rattle.asking.specs.Ending.{BeginsNone}
@@ -6,7 +6,11 @@ use Rattle.asking.specs.Exchanges.{ExchangesFrames}
 use Rattle.asking.specs.RunFaults.{IsFaultOfState}
 use Rattle.asking.specs.Reports.{report_of, Report}
 use Rattle.asking.proofs.Begun.{begun-left, begun_run, left_so, loaded-kept, loaded-stands}
+use Rattle.asking.specs.Lateness.{IsLast}
+use Rattle.asking.specs.declared.ask_fault.RunFault.TheVariants.{Program}
+use Rattle.asking.specs.declared.lateness.Limit.{Limit}
 use Rattle.asking.proofs.Ended.{err_so}
+use Rattle.asking.proofs.Late.{err_more, first_state, first_unread, noted_same, noted_still}
 use Rattle.asking.proofs.Faulty.{stops_more}
 use Rattle.asking.proofs.Ran.{begins_at_head}
 use Rattle.asking.proofs.run.Run.begin.Goals as goal
@@ -42,7 +46,7 @@ returns-in_ok-tell_evidence-in-Ok-clause-stands g c = λ fresh lines old acts ha
     let loaded = rw c.in-Ok.is at c.in_ok-asker.ensures.loads in
     let knows = rw c.in-Ok.is at c.in_ok-asker.ensures.knows in
     rw c.tell_evidence.ensures.still (loaded-stands g.H.NodeHash.digest_of g.V.VufCheck.accepted g.S.Verifier.verified lines c.args.keys.now.signing_key old c.in-Ok.asker (g.K.Keeper.has c.args.keeper.now) (g.K.Keeper.has c.load.new.keeper) acts has c.load.new.self.state
-    c.tell_evidence.new.self.said.text.items loaded (rw c.in-Ok.is at c.in_ok-asker.ensures.sound) (rw c.in-Ok.is at c.in_ok-asker.ensures.kept) knows.0 knows.2)
+    c.tell_evidence.new.self.said.text.items loaded (c.load.ensures.counts fresh) (rw c.in-Ok.is at c.in_ok-asker.ensures.sound) (rw c.in-Ok.is at c.in_ok-asker.ensures.kept) knows.0 knows.2)
 
 pub returns-in-Err-clause-left : goal.returns-in-Err-clause-left
 returns-in-Err-clause-left g c = left_so g.H.NodeHash.digest_of g.V.VufCheck.accepted g.S.Verifier.verified c.args.keys.now.signing_key (g.K.Keeper.has c.args.keeper.now) (g.K.Keeper.has c.load.new.keeper) c.args.self.now.state c.begin_at_head.new.self.state _ (λ fresh lines old acts has.
@@ -53,4 +57,21 @@ pub returns-in-Err-clause-stands : goal.returns-in-Err-clause-stands
 returns-in-Err-clause-stands g c =
     let begun = rw c.in-Err.is at c.in_ok-asker.ensures.fresh in
     rw c.begin_at_head.ensures.still (begun_run g.H.NodeHash.digest_of g.V.VufCheck.accepted g.S.Verifier.verified c.args.keys.now.signing_key (g.K.Keeper.has c.args.keeper.now) (g.K.Keeper.has c.load.new.keeper) c.args.self.now.state c.load.new.self.state c.begin_at_head.result (ExchangesFrames g.T.Write.contents g.T.Read.remaining) c.args.stream.now c.begin_at_head.new.stream
-    c.begin_at_head.new.self.said.text.items c.args.keys.now.token c.begin_at_head.ensures.begins c.begin_at_head.ensures.knows c.begin_at_head.ensures.changes begun)
+    c.begin_at_head.new.self.said.text.items c.args.keys.now.token c.begin_at_head.ensures.begins c.begin_at_head.ensures.knows c.begin_at_head.ensures.changes c.load.ensures.counts begun)
+
+pub returns-in_err-asker-clause-first : goal.returns-in_err-asker-clause-first
+returns-in_err-asker-clause-first g c =
+    let passed : c.from_residual.result ≡ Err (Program c.in_err-asker.field-0.0) = search rules in
+    first_unread g.H.NodeHash.digest_of g.V.VufCheck.accepted g.S.Verifier.verified c.args.keys.now.signing_key (c.args.self.now.state ≡ None) c.from_residual.result c.args.self.now.limit c.load.new.self.limit c.load.new.self.said (report_of c.args.self.now.said)
+    c.in_err-asker.field-0.0 passed (λ none. search (rules, (c.in_err-asker.ensures.none none))) c.in_err-asker.ensures.err (ap (λ (l : Limit). l.last) c.load.ensures.limit) c.load.ensures.said
+
+pub returns-in_err-tell_evidence-in-Ok-clause-first : goal.returns-in_err-tell_evidence-in-Ok-clause-first
+returns-in_err-tell_evidence-in-Ok-clause-first g c =
+    let knows = rw c.in-Ok.is at c.in_ok-asker.ensures.knows in
+    first_state g.H.NodeHash.digest_of g.V.VufCheck.accepted g.S.Verifier.verified c.args.keys.now.signing_key (c.args.self.now.state ≡ None) _ c.args.self.now.limit c.tell_evidence.new.self.limit c.tell_evidence.new.self.said (report_of c.args.self.now.said)
+    c.in-Ok.asker.marks.items c.in-Ok.asker.client (λ none. search (rules, (rw c.in-Ok.is at (c.in_ok-asker.ensures.none none)))) (rw c.in-Ok.is at c.in_ok-asker.ensures.sound)
+    (noted_still (IsLast c.in-Ok.asker.marks.items c.in-Ok.asker.client []) c.note.new.self c.tell_evidence.new.self.limit c.tell_evidence.ensures.limit
+    (noted_same c.in-Ok.asker.marks.items c.in-Ok.asker.marks.items c.in-Ok.asker.client c.in-Ok.asker.client c.in-Ok.asker.monitors.items [] c.note.new.self refl refl knows.2 c.note.ensures.notes))
+
+pub returns-in-Err-clause-first : goal.returns-in-Err-clause-first
+returns-in-Err-clause-first g c = err_more c.begin_at_head.result (λ noted empty. inl noted) c.begin_at_head.ensures.first

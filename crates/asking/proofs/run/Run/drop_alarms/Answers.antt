@@ -11,7 +11,7 @@ returns-clause-hands g c = λ acts has.
     let was : c.args.self.now.state ≡ Some c.in-Some.state.now = search rules in
     let done : SettlesState c.args.name.now (g.K.Keeper.has c.finish.new.keeper) acts (Some c.in-Some.state.now) (g.W.Write.contents c.args.writer.now) = elim (c.finish.ensures.hands acts has) [
       | inl same ↦ inl same
-      | inr (loaded, leaves, written) ↦ inr (sym c.settle-count.ensures.same.0 ∙ loaded, (c.settle-count.new.self.tested.items, c.settle-count.new.self.memory, c.finish.new.self.memory, c.settle-count.ensures.settles, leaves, written))
+      | inr (loaded, (tested, known, leaves, written)) ↦ inr (sym c.settle-count.ensures.same.0 ∙ loaded, (tested, c.settle-count.new.self.memory, known, c.settle-count.ensures.settles, leaves, written))
     ] in
     rw was done
 
@@ -20,7 +20,7 @@ returns-in_err-finish-clause-hands g c = λ acts has.
     let was : c.args.self.now.state ≡ Some c.in-Some.state.now = search rules in
     let done : SettlesState c.args.name.now (g.K.Keeper.has c.finish.new.keeper) acts (Some c.in-Some.state.now) (g.W.Write.contents c.args.writer.now) = elim (c.finish.ensures.hands acts has) [
       | inl same ↦ inl same
-      | inr (loaded, leaves, written) ↦ inr (sym c.settle-count.ensures.same.0 ∙ loaded, (c.settle-count.new.self.tested.items, c.settle-count.new.self.memory, c.finish.new.self.memory, c.settle-count.ensures.settles, leaves, written))
+      | inr (loaded, (tested, known, leaves, written)) ↦ inr (sym c.settle-count.ensures.same.0 ∙ loaded, (tested, c.settle-count.new.self.memory, known, c.settle-count.ensures.settles, leaves, written))
     ] in
     rw was done
 

@@ -16,4 +16,4 @@ returns-in-Some-clause-kept g c =
     let was : c.args.self.now.state ≡ Some c.in-Some.state.now = search rules in
     rw was (λ lines key start old acts up-to stands.
     some-saved g.H.NodeHash.digest_of g.V.VufCheck.accepted g.S.Verifier.verified lines key start old (λ (done : List Act). g.K.Keeper.has c.save.new.keeper (done ++ acts)) c.save.result c.save.new.self (g.W.Write.contents c.args.writer.now)
-    (standing c.args.asker.now.client c.args.asker.now.monitors.items []) (c.save.ensures.kept lines key start old acts up-to stands))
+    c.args.asker.now.changes.items (standing c.args.asker.now.client c.args.asker.now.monitors.items []) (c.save.ensures.kept lines key start old acts up-to stands))

@@ -3,8 +3,8 @@ use Rattle.asking.specs.Keeping.{SavesTo}
 use Rattle.asking.specs.Reports.{report_of}
 use Rattle.asking.specs.declared.ask_fault.RunFault.TheVariants.{Ask, Program}
 use Rattle.asking.proofs.Ended.{leaves_cut, leaves_same, leaves_written}
-use Rattle.asking.proofs.Keeping.{kept_up, not_settled, was_asked}
-use Rattle.std.proofs.Common.{◌++◌, [], Option, inl, inr}
+use Rattle.asking.proofs.Keeping.{kept_up, not_settled, program_not, was_asked}
+use Rattle.std.proofs.Common.{◌++◌, [], Option, inl, inr, refl}
 use Rattle.std.specs.Prelude.{IfSome}
 use Rattle.std.specs.Io.KnownBytes.{Appends}
 use Rattle.asking.specs.Reports.{Report}
@@ -14,7 +14,7 @@ use Rattle.asking.specs.declared.state.State.{State}
 use Rattle.asking.proofs.RunSteps.{ok_have}
 use Rattle.asking.proofs.Written.{memory-cases, saved-kept, state-stands-written, state-written}
 use Rattle.textio.specs.declared.program_fault.ProgramFault.{ProgramFault}
-use Rattle.textio.specs.declared.program_fault.ProgramFault.TheVariants.{CannotWrite}
+use Rattle.textio.specs.declared.program_fault.ProgramFault.TheVariants.{CannotWrite, OutOfMemory}
 use Rattle.asking.proofs.run.Run.settle.Goals as goal
 
 pub returns-in_err-explain_stop-clause-leaves : goal.returns-in_err-explain_stop-clause-leaves
@@ -91,10 +91,10 @@ returns-in_err-save-clause-kept g c = λ lines key start old acts changes kept e
     let written = subst (λ (state : Option State). StateIsKept g.H.NodeHash.digest_of g.V.VufCheck.accepted g.S.Verifier.verified lines key start old after state out') (sym still)
     (state-written g.H.NodeHash.digest_of g.V.VufCheck.accepted g.S.Verifier.verified lines key start old after c.add.new.self.state out out' c.explain_stop.new.self.said.text.items c.write.ensures.some (c.add.ensures.kept lines key start old acts changes kept)) in
     elim (memory-cases c.args.asked) [
-      | inl none ↦ let (state, keeper) = c.save.ensures.none none in rw (state, keeper) written
+      | inl none ↦ let (state, keeper, same) = c.save.ensures.none none in rw (state, keeper) written
       | inr some ↦
-          let stood = subst (λ (state : Option State). StateStands g.H.NodeHash.digest_of g.V.VufCheck.accepted g.S.Verifier.verified lines key start old after state out' (standing client monitors [])) (sym still)
-          (state-stands-written g.H.NodeHash.digest_of g.V.VufCheck.accepted g.S.Verifier.verified lines key start old after c.add.new.self.state out out' client monitors said (subst (λ (t : List ℕ). Appends out out' t) same (c.in_ok-write.ensures.writes.0)) (c.in_ok-add.ensures.stands lines key start old acts said changes (enough some))) in
+          let stood = subst (λ (state : Option State). StateStands g.H.NodeHash.digest_of g.V.VufCheck.accepted g.S.Verifier.verified lines key start old after state out' c.args.asker.now.changes.items (standing client monitors [])) (sym still)
+          (state-stands-written g.H.NodeHash.digest_of g.V.VufCheck.accepted g.S.Verifier.verified lines key start old after c.add.new.self.state out out' c.args.asker.now.changes.items client monitors said (subst (λ (t : List ℕ). Appends out out' t) same (c.in_ok-write.ensures.writes.0)) (c.in_ok-add.ensures.stands lines key start old acts said changes (enough some))) in
           let up-to = subst (λ (state : Option State). IfSome state (λ s. IsUpTo client s.epoch)) (sym still) c.in_ok-add.ensures.up_to in
           let saved = c.save.ensures.kept lines key start old acts up-to stood in
           saved.0
@@ -113,10 +113,10 @@ returns-in_err-asked-clause-kept g c = λ lines key start old acts changes kept 
     let written = subst (λ (state : Option State). StateIsKept g.H.NodeHash.digest_of g.V.VufCheck.accepted g.S.Verifier.verified lines key start old after state out') (sym still)
     (state-written g.H.NodeHash.digest_of g.V.VufCheck.accepted g.S.Verifier.verified lines key start old after c.add.new.self.state out out' c.explain_stop.new.self.said.text.items c.write.ensures.some (c.add.ensures.kept lines key start old acts changes kept)) in
     elim (memory-cases c.args.asked) [
-      | inl none ↦ let (state, keeper) = c.save.ensures.none none in rw (state, keeper) written
+      | inl none ↦ let (state, keeper, same) = c.save.ensures.none none in rw (state, keeper) written
       | inr some ↦
-          let stood = subst (λ (state : Option State). StateStands g.H.NodeHash.digest_of g.V.VufCheck.accepted g.S.Verifier.verified lines key start old after state out' (standing client monitors [])) (sym still)
-          (state-stands-written g.H.NodeHash.digest_of g.V.VufCheck.accepted g.S.Verifier.verified lines key start old after c.add.new.self.state out out' client monitors said (subst (λ (t : List ℕ). Appends out out' t) same (c.in_ok-write.ensures.writes.0)) (c.in_ok-add.ensures.stands lines key start old acts said changes (enough some))) in
+          let stood = subst (λ (state : Option State). StateStands g.H.NodeHash.digest_of g.V.VufCheck.accepted g.S.Verifier.verified lines key start old after state out' c.args.asker.now.changes.items (standing client monitors [])) (sym still)
+          (state-stands-written g.H.NodeHash.digest_of g.V.VufCheck.accepted g.S.Verifier.verified lines key start old after c.add.new.self.state out out' c.args.asker.now.changes.items client monitors said (subst (λ (t : List ℕ). Appends out out' t) same (c.in_ok-write.ensures.writes.0)) (c.in_ok-add.ensures.stands lines key start old acts said changes (enough some))) in
           let up-to = subst (λ (state : Option State). IfSome state (λ s. IsUpTo client s.epoch)) (sym still) c.in_ok-add.ensures.up_to in
           let saved = c.save.ensures.kept lines key start old acts up-to stood in
           saved.0
@@ -135,10 +135,10 @@ returns-clause-kept g c = λ lines key start old acts changes kept enough.
     let written = subst (λ (state : Option State). StateIsKept g.H.NodeHash.digest_of g.V.VufCheck.accepted g.S.Verifier.verified lines key start old after state out') (sym still)
     (state-written g.H.NodeHash.digest_of g.V.VufCheck.accepted g.S.Verifier.verified lines key start old after c.add.new.self.state out out' c.explain_stop.new.self.said.text.items c.write.ensures.some (c.add.ensures.kept lines key start old acts changes kept)) in
     elim (memory-cases c.args.asked) [
-      | inl none ↦ let (state, keeper) = c.save.ensures.none none in rw (state, keeper) written
+      | inl none ↦ let (state, keeper, same) = c.save.ensures.none none in rw (state, keeper) written
       | inr some ↦
-          let stood = subst (λ (state : Option State). StateStands g.H.NodeHash.digest_of g.V.VufCheck.accepted g.S.Verifier.verified lines key start old after state out' (standing client monitors [])) (sym still)
-          (state-stands-written g.H.NodeHash.digest_of g.V.VufCheck.accepted g.S.Verifier.verified lines key start old after c.add.new.self.state out out' client monitors said (subst (λ (t : List ℕ). Appends out out' t) same (c.in_ok-write.ensures.writes.0)) (c.in_ok-add.ensures.stands lines key start old acts said changes (enough some))) in
+          let stood = subst (λ (state : Option State). StateStands g.H.NodeHash.digest_of g.V.VufCheck.accepted g.S.Verifier.verified lines key start old after state out' c.args.asker.now.changes.items (standing client monitors [])) (sym still)
+          (state-stands-written g.H.NodeHash.digest_of g.V.VufCheck.accepted g.S.Verifier.verified lines key start old after c.add.new.self.state out out' c.args.asker.now.changes.items client monitors said (subst (λ (t : List ℕ). Appends out out' t) same (c.in_ok-write.ensures.writes.0)) (c.in_ok-add.ensures.stands lines key start old acts said changes (enough some))) in
           let up-to = subst (λ (state : Option State). IfSome state (λ s. IsUpTo client s.epoch)) (sym still) c.in_ok-add.ensures.up_to in
           let saved = c.save.ensures.kept lines key start old acts up-to stood in
           saved.0
@@ -154,8 +154,8 @@ returns-clause-stands g c = λ lines key start old acts changes stands.
     let after : List Act → Type 0 = λ done. g.K.Keeper.has c.add.new.keeper (done ++ acts) in
     let still : c.write.new.self.state ≡ c.add.new.self.state = c.write.ensures.still ∙ c.explain_stop.ensures.still in
     let same : c.explain_stop.new.self.said.text.items ≡ said = ap (λ (r : Report). r.lines) (c.explain_stop.ensures.said ∙ ap report_of c.add.ensures.said) in
-    let stood = subst (λ (state : Option State). StateStands g.H.NodeHash.digest_of g.V.VufCheck.accepted g.S.Verifier.verified lines key start old after state out' (standing client monitors [])) (sym still)
-    (state-stands-written g.H.NodeHash.digest_of g.V.VufCheck.accepted g.S.Verifier.verified lines key start old after c.add.new.self.state out out' client monitors said (subst (λ (t : List ℕ). Appends out out' t) same (c.in_ok-write.ensures.writes.0)) (c.in_ok-add.ensures.stands lines key start old acts said changes stands)) in
+    let stood = subst (λ (state : Option State). StateStands g.H.NodeHash.digest_of g.V.VufCheck.accepted g.S.Verifier.verified lines key start old after state out' c.args.asker.now.changes.items (standing client monitors [])) (sym still)
+    (state-stands-written g.H.NodeHash.digest_of g.V.VufCheck.accepted g.S.Verifier.verified lines key start old after c.add.new.self.state out out' c.args.asker.now.changes.items client monitors said (subst (λ (t : List ℕ). Appends out out' t) same (c.in_ok-write.ensures.writes.0)) (c.in_ok-add.ensures.stands lines key start old acts said changes stands)) in
     let up-to = subst (λ (state : Option State). IfSome state (λ s. IsUpTo client s.epoch)) (sym still) c.in_ok-add.ensures.up_to in
     let saved = c.save.ensures.kept lines key start old acts up-to stood in
     ok_have c.save.result c.in_ok-save.was saved.1
@@ -163,3 +163,52 @@ returns-clause-stands g c = λ lines key start old acts changes stands.
 pub returns-in_err-told-clause-kept : goal.returns-in_err-told-clause-kept
 returns-in_err-told-clause-kept g c = λ lines key start old acts changes kept enough.
     saved-kept g.H.NodeHash.digest_of g.V.VufCheck.accepted g.S.Verifier.verified lines key start old (λ (done : List Act). g.K.Keeper.has c.args.keeper.now (done ++ acts)) c.args.self.now.state (g.W.Write.contents c.args.writer.now) kept
+
+pub returns-clause-notes : goal.returns-clause-notes
+returns-clause-notes g c =
+    let is : c.args.asked ≡ Ok tt = search rules in
+    c.save.ensures.notes (was_asked c.args.asked tt is)
+
+pub returns-in_err-told-clause-noted : goal.returns-in_err-told-clause-noted
+returns-in_err-told-clause-noted g c =
+    let passed : c.from_residual.result ≡ Err (Program OutOfMemory) = search rules in
+    inr (program_not c.from_residual.result OutOfMemory passed, refl)
+
+pub returns-in_err-add-clause-noted : goal.returns-in_err-add-clause-noted
+returns-in_err-add-clause-noted g c =
+    let passed : c.from_residual-in_err-add.result ≡ Err (Program c.in_err-add.field-0.0) = search rules in
+    inr (program_not c.from_residual-in_err-add.result c.in_err-add.field-0.0 passed, c.add.ensures.limit)
+
+pub returns-in_err-explain_stop-clause-noted : goal.returns-in_err-explain_stop-clause-noted
+returns-in_err-explain_stop-clause-noted g c =
+    let passed : c.from_residual-in_err-explain_stop.result ≡ Err (Program OutOfMemory) = search rules in
+    inr (program_not c.from_residual-in_err-explain_stop.result OutOfMemory passed, c.explain_stop.ensures.limit ∙ c.add.ensures.limit)
+
+pub returns-in_err-write-clause-noted : goal.returns-in_err-write-clause-noted
+returns-in_err-write-clause-noted g c =
+    let passed : c.from_residual-in_err-write.result ≡ Err (Program c.in_err-write.field-0.0) = search rules in
+    inr (program_not c.from_residual-in_err-write.result c.in_err-write.field-0.0 passed, c.write.ensures.limit ∙ c.explain_stop.ensures.limit ∙ c.add.ensures.limit)
+
+pub returns-in_err-save-clause-noted : goal.returns-in_err-save-clause-noted
+returns-in_err-save-clause-noted g c =
+    let passed : c.from_residual-in_err-save.result ≡ Err (Program c.in_err-save.field-0.0) = search rules in
+    elim (memory-cases c.args.asked) [
+      | inl none ↦ inr (program_not c.from_residual-in_err-save.result c.in_err-save.field-0.0 passed, (c.save.ensures.none none).2 ∙ c.write.ensures.limit ∙ c.explain_stop.ensures.limit ∙ c.add.ensures.limit)
+      | inr some ↦ inl (some, c.save.ensures.notes some)
+    ]
+
+pub returns-in_err-asked-clause-noted : goal.returns-in_err-asked-clause-noted
+returns-in_err-asked-clause-noted g c =
+    let fault = c.in_err-asked.field-0.0 in
+    let is : c.args.asked ≡ Err fault = search rules in
+    let gives : c.from_residual-in_err-asked.result ≡ Err (Ask fault) = search rules in
+    elim (memory-cases c.args.asked) [
+      | inl none ↦ inr ((λ settled. not_settled c.args.asked c.from_residual-in_err-asked.result fault is gives settled none), (c.save.ensures.none none).2 ∙ c.write.ensures.limit ∙ c.explain_stop.ensures.limit ∙ c.add.ensures.limit)
+      | inr some ↦ inl (some, c.save.ensures.notes some)
+    ]
+
+pub returns-clause-noted : goal.returns-clause-noted
+returns-clause-noted g c =
+    let is : c.args.asked ≡ Ok tt = search rules in
+    let some = was_asked c.args.asked tt is in
+    inl (some, c.save.ensures.notes some)

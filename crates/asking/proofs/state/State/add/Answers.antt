@@ -1,5 +1,6 @@
 use Rattle.std.proofs.Common.{◌∙◌, [], ◌++◌, ℕ, List, ap, drop, refl}
 use Rattle.textio.specs.Lines.{lines_of}
+use Rattle.memory.specs.Memories.{Memory}
 use Rattle.memory.specs.Texts.{items_text}
 use Rattle.memory.specs.declared.kind.Kind.TheVariants.{EvidenceLines}
 use Rattle.memory.proofs.Learned.{text_grows}
@@ -7,12 +8,12 @@ use Rattle.monitor.specs.Monitors.{Monitor}
 use Rattle.asking.specs.Saves.{Act}
 use Rattle.asking.specs.Standing.{standing}
 use Rattle.asking.proofs.Adding.{begun-among, learns-stay}
-use Rattle.asking.proofs.AskedOwn.{asked-formed, begun-promises, changes-asked, lines-promises, some-begun-promises, some-lines-promises}
+use Rattle.asking.proofs.AskedOwn.{asked-formed, begun-promises, changes-add, changes-asked, late-stays, lines-promises, some-begun-promises, some-lines-promises}
 use Rattle.asking.proofs.Earlier.{ok_so}
 use Rattle.asking.proofs.Keeping.{learned_before}
 use Rattle.asking.proofs.PutMarks.{begun-marks, lines-marks, lines-stay, monitors-put, same-marks, some-lines-marks, some-monitors-marks}
 use Rattle.asking.proofs.Saving.{kept-on, kept-so, stands-on, stands-so}
-use Rattle.asking.proofs.Stood.{kept-known, kept-roots, stands-begun, stands-roots, stands-same, unchanged-own}
+use Rattle.asking.proofs.Stood.{kept-known, kept-roots, stands-begun, stands-roots, stands-same, unchanged-adds, unchanged-own}
 use Rattle.asking.proofs.state.State.add.Goals as goal
 
 pub returns-clause-learns : goal.returns-clause-learns
@@ -38,7 +39,7 @@ returns-clause-looked g c =
     (head'' ∙ head' ∙ head, known'' ∙ known' ∙ known)
 
 pub returns-in_err-learn_told-clause-kept : goal.returns-in_err-learn_told-clause-kept
-returns-in_err-learn_told-clause-kept g c = λ lines key start old acts asked kept.
+returns-in_err-learn_told-clause-kept g c = λ lines key start old acts (asked, late) kept.
     let known = c.args.self.now.memory in
     let out = g.W.Write.contents c.args.writer.now in
     let before : List Act → Type 0 = λ done. g.K.Keeper.has c.args.keeper.now (done ++ acts) in
@@ -50,7 +51,7 @@ returns-in_err-learn_told-clause-kept g c = λ lines key start old acts asked ke
     )
 
 pub returns-in_err-hand_roots-clause-kept : goal.returns-in_err-hand_roots-clause-kept
-returns-in_err-hand_roots-clause-kept g c = λ lines key start old acts asked kept.
+returns-in_err-hand_roots-clause-kept g c = λ lines key start old acts (asked, late) kept.
     let known = c.args.self.now.memory in
     let out = g.W.Write.contents c.args.writer.now in
     let before : List Act → Type 0 = λ done. g.K.Keeper.has c.args.keeper.now (done ++ acts) in
@@ -64,7 +65,7 @@ returns-in_err-hand_roots-clause-kept g c = λ lines key start old acts asked ke
     (evidence, rooted)
 
 pub returns-in_err-learn_promises-clause-kept : goal.returns-in_err-learn_promises-clause-kept
-returns-in_err-learn_promises-clause-kept g c = λ lines key start old acts asked kept.
+returns-in_err-learn_promises-clause-kept g c = λ lines key start old acts (asked, late) kept.
     let known = c.args.self.now.memory in
     let out = g.W.Write.contents c.args.writer.now in
     let before : List Act → Type 0 = λ done. g.K.Keeper.has c.args.keeper.now (done ++ acts) in
@@ -76,15 +77,17 @@ returns-in_err-learn_promises-clause-kept g c = λ lines key start old acts aske
     let rooted = kept-so g.H.NodeHash.digest_of g.V.VufCheck.accepted g.S.Verifier.verified lines key start old after c.hand_roots.new.self.epoch c.hand_roots.new.self.epoch c.learn_told.new.self c.hand_roots.new.self.memory evidence out refl c.hand_roots.ensures.same.0
     (kept-roots g.H.NodeHash.digest_of g.V.VufCheck.accepted g.S.Verifier.verified lines key start old before c.args.self.now.epoch c.learn_told.new.self evidence out first after c.hand_roots.new.self.epoch c.args.asker.now.client.chain.roots c.hand_roots.ensures.rises (λ done has. c.hand_roots.ensures.hands (done ++ acts) has)) in
     let formed = asked-formed lines start.known c.args.asker.now.changes.items asked in
+    let new = late-stays known c.hand_roots.new.self.memory c.args.asker.now.changes.items c.args.self.now.changes c.hand_roots.new.self.changes
+    (ap (λ (m : Memory). m.marks) c.hand_roots.ensures.same.0 ∙ lines-stay EvidenceLines (lines_of c.args.told.now) known c.learn_told.new.self shown shows) c.hand_roots.ensures.same.1 late in
     let (promises, taken') = c.in_err-learn_promises.ensures.taken formed in (
       evidence ++ promises,
       kept-so g.H.NodeHash.digest_of g.V.VufCheck.accepted g.S.Verifier.verified lines key start old after c.hand_roots.new.self.epoch c.learn_promises.new.self.epoch c.learn_promises.new.self.memory c.learn_promises.new.self.memory (evidence ++ promises) out c.learn_promises.ensures.same.0 refl
           (kept-known g.H.NodeHash.digest_of g.V.VufCheck.accepted g.S.Verifier.verified lines key start old after c.hand_roots.new.self.epoch c.hand_roots.new.self.memory evidence out rooted c.learn_promises.new.self.memory promises taken' c.in_err-learn_promises.ensures.some
-          (changes-asked lines start.known c.args.asker.now.changes.items c.hand_roots.new.self.memory c.learn_promises.new.self.memory asked c.learn_promises.ensures.own)),
+          (changes-asked lines start.known c.args.asker.now.changes.items c.hand_roots.new.self.changes c.hand_roots.new.self.memory c.learn_promises.new.self.memory asked new c.learn_promises.ensures.own)),
     )
 
 pub returns-in_err-mark_begun-clause-kept : goal.returns-in_err-mark_begun-clause-kept
-returns-in_err-mark_begun-clause-kept g c = λ lines key start old acts asked kept.
+returns-in_err-mark_begun-clause-kept g c = λ lines key start old acts (asked, late) kept.
     let known = c.args.self.now.memory in
     let out = g.W.Write.contents c.args.writer.now in
     let before : List Act → Type 0 = λ done. g.K.Keeper.has c.args.keeper.now (done ++ acts) in
@@ -96,12 +99,14 @@ returns-in_err-mark_begun-clause-kept g c = λ lines key start old acts asked ke
     let rooted = kept-so g.H.NodeHash.digest_of g.V.VufCheck.accepted g.S.Verifier.verified lines key start old after c.hand_roots.new.self.epoch c.hand_roots.new.self.epoch c.learn_told.new.self c.hand_roots.new.self.memory evidence out refl c.hand_roots.ensures.same.0
     (kept-roots g.H.NodeHash.digest_of g.V.VufCheck.accepted g.S.Verifier.verified lines key start old before c.args.self.now.epoch c.learn_told.new.self evidence out first after c.hand_roots.new.self.epoch c.args.asker.now.client.chain.roots c.hand_roots.ensures.rises (λ done has. c.hand_roots.ensures.hands (done ++ acts) has)) in
     let formed = asked-formed lines start.known c.args.asker.now.changes.items asked in
+    let new = late-stays known c.hand_roots.new.self.memory c.args.asker.now.changes.items c.args.self.now.changes c.hand_roots.new.self.changes
+    (ap (λ (m : Memory). m.marks) c.hand_roots.ensures.same.0 ∙ lines-stay EvidenceLines (lines_of c.args.told.now) known c.learn_told.new.self shown shows) c.hand_roots.ensures.same.1 late in
     let (promised, learns, longer) = c.in_ok-learn_promises.ensures.learns in
     let (promises, taken', more-lines) = c.in_ok-learn_promises.ensures.takes formed in
     let stays = learns-stay (drop c.hand_roots.new.self.changes c.args.asker.now.changes.items) c.args.asker.now.client.promises c.hand_roots.new.self.memory c.learn_promises.new.self.memory promised learns in
     let told = kept-so g.H.NodeHash.digest_of g.V.VufCheck.accepted g.S.Verifier.verified lines key start old after c.hand_roots.new.self.epoch c.learn_promises.new.self.epoch c.learn_promises.new.self.memory c.learn_promises.new.self.memory (evidence ++ promises) out c.learn_promises.ensures.same.0 refl
     (kept-known g.H.NodeHash.digest_of g.V.VufCheck.accepted g.S.Verifier.verified lines key start old after c.hand_roots.new.self.epoch c.hand_roots.new.self.memory evidence out rooted c.learn_promises.new.self.memory promises taken' (same-marks c.hand_roots.new.self.memory c.learn_promises.new.self.memory stays)
-    (changes-asked lines start.known c.args.asker.now.changes.items c.hand_roots.new.self.memory c.learn_promises.new.self.memory asked c.learn_promises.ensures.own)) in
+    (changes-asked lines start.known c.args.asker.now.changes.items c.hand_roots.new.self.changes c.hand_roots.new.self.memory c.learn_promises.new.self.memory asked new c.learn_promises.ensures.own)) in
     let (begins, begun') = c.in_err-mark_begun.ensures.some in (
       evidence ++ promises ++ begins,
       kept-known g.H.NodeHash.digest_of g.V.VufCheck.accepted g.S.Verifier.verified lines key start old after c.learn_promises.new.self.epoch c.learn_promises.new.self.memory (evidence ++ promises) out told c.mark_begun.new.self begins begun' (some-monitors-marks c.behind-begun.result.now c.learn_promises.new.self.memory c.mark_begun.new.self c.in_err-mark_begun.ensures.err)
@@ -109,7 +114,7 @@ returns-in_err-mark_begun-clause-kept g c = λ lines key start old acts asked ke
     )
 
 pub returns-clause-kept : goal.returns-clause-kept
-returns-clause-kept g c = λ lines key start old acts asked kept.
+returns-clause-kept g c = λ lines key start old acts (asked, late) kept.
     let known = c.args.self.now.memory in
     let out = g.W.Write.contents c.args.writer.now in
     let before : List Act → Type 0 = λ done. g.K.Keeper.has c.args.keeper.now (done ++ acts) in
@@ -121,12 +126,14 @@ returns-clause-kept g c = λ lines key start old acts asked kept.
     let rooted = kept-so g.H.NodeHash.digest_of g.V.VufCheck.accepted g.S.Verifier.verified lines key start old after c.hand_roots.new.self.epoch c.hand_roots.new.self.epoch c.learn_told.new.self c.hand_roots.new.self.memory evidence out refl c.hand_roots.ensures.same.0
     (kept-roots g.H.NodeHash.digest_of g.V.VufCheck.accepted g.S.Verifier.verified lines key start old before c.args.self.now.epoch c.learn_told.new.self evidence out first after c.hand_roots.new.self.epoch c.args.asker.now.client.chain.roots c.hand_roots.ensures.rises (λ done has. c.hand_roots.ensures.hands (done ++ acts) has)) in
     let formed = asked-formed lines start.known c.args.asker.now.changes.items asked in
+    let new = late-stays known c.hand_roots.new.self.memory c.args.asker.now.changes.items c.args.self.now.changes c.hand_roots.new.self.changes
+    (ap (λ (m : Memory). m.marks) c.hand_roots.ensures.same.0 ∙ lines-stay EvidenceLines (lines_of c.args.told.now) known c.learn_told.new.self shown shows) c.hand_roots.ensures.same.1 late in
     let (promised, learns, longer) = c.in_ok-learn_promises.ensures.learns in
     let (promises, taken', more-lines) = c.in_ok-learn_promises.ensures.takes formed in
     let stays = learns-stay (drop c.hand_roots.new.self.changes c.args.asker.now.changes.items) c.args.asker.now.client.promises c.hand_roots.new.self.memory c.learn_promises.new.self.memory promised learns in
     let told = kept-so g.H.NodeHash.digest_of g.V.VufCheck.accepted g.S.Verifier.verified lines key start old after c.hand_roots.new.self.epoch c.learn_promises.new.self.epoch c.learn_promises.new.self.memory c.learn_promises.new.self.memory (evidence ++ promises) out c.learn_promises.ensures.same.0 refl
     (kept-known g.H.NodeHash.digest_of g.V.VufCheck.accepted g.S.Verifier.verified lines key start old after c.hand_roots.new.self.epoch c.hand_roots.new.self.memory evidence out rooted c.learn_promises.new.self.memory promises taken' (same-marks c.hand_roots.new.self.memory c.learn_promises.new.self.memory stays)
-    (changes-asked lines start.known c.args.asker.now.changes.items c.hand_roots.new.self.memory c.learn_promises.new.self.memory asked c.learn_promises.ensures.own)) in
+    (changes-asked lines start.known c.args.asker.now.changes.items c.hand_roots.new.self.changes c.hand_roots.new.self.memory c.learn_promises.new.self.memory asked new c.learn_promises.ensures.own)) in
     let (marked, marks, longest) = c.in_ok-mark_begun.ensures.ok in
     let (begins, begun', last-lines) = c.in_ok-mark_begun.ensures.takes in
     let begun = kept-known g.H.NodeHash.digest_of g.V.VufCheck.accepted g.S.Verifier.verified lines key start old after c.learn_promises.new.self.epoch c.learn_promises.new.self.memory (evidence ++ promises) out told c.mark_begun.new.self begins begun'
@@ -140,7 +147,7 @@ returns-clause-kept g c = λ lines key start old acts asked kept.
     )
 
 pub returns-clause-stands : goal.returns-clause-stands
-returns-clause-stands g c = ok_so c.hand_on.result (λ lines key start old acts said asked stands.
+returns-clause-stands g c = ok_so c.hand_on.result (λ lines key start old acts said (asked, late) stands.
     let known = c.args.self.now.memory in
     let out = g.W.Write.contents c.args.writer.now in
     let before : List Act → Type 0 = λ done. g.K.Keeper.has c.args.keeper.now (done ++ acts) in
@@ -148,24 +155,28 @@ returns-clause-stands g c = ok_so c.hand_on.result (λ lines key start old acts 
     let (shown, shows, grown) = c.in_ok-learn_told.ensures.ok in
     let (evidence, taken, first-lines) = c.in_ok-learn_told.ensures.takes in
     let evident = lines-stay EvidenceLines (lines_of c.args.told.now) known c.learn_told.new.self shown shows in
-    let first = stands-same g.H.NodeHash.digest_of g.V.VufCheck.accepted g.S.Verifier.verified lines key start old before c.args.self.now.epoch known [] out now stands c.learn_told.new.self evidence taken evident (same-marks known c.learn_told.new.self evident)
-    (unchanged-own lines start.known known c.learn_told.new.self (lines-promises EvidenceLines (lines_of c.args.told.now) known c.learn_told.new.self shown shows)) in
+    let first = stands-same g.H.NodeHash.digest_of g.V.VufCheck.accepted g.S.Verifier.verified lines key start old before c.args.self.now.epoch known [] out c.args.asker.now.changes.items now stands c.learn_told.new.self evidence taken evident (same-marks known c.learn_told.new.self evident)
+    (unchanged-own lines start.known known c.learn_told.new.self (lines-promises EvidenceLines (lines_of c.args.told.now) known c.learn_told.new.self shown shows))
+    (unchanged-adds c.args.asker.now.changes.items known c.learn_told.new.self (lines-promises EvidenceLines (lines_of c.args.told.now) known c.learn_told.new.self shown shows)) in
     let after : List Act → Type 0 = λ done. g.K.Keeper.has c.hand_roots.new.keeper (done ++ acts) in
-    let rooted = stands-so g.H.NodeHash.digest_of g.V.VufCheck.accepted g.S.Verifier.verified lines key start old after c.hand_roots.new.self.epoch c.hand_roots.new.self.epoch c.learn_told.new.self c.hand_roots.new.self.memory evidence out now refl c.hand_roots.ensures.same.0
-    (stands-roots g.H.NodeHash.digest_of g.V.VufCheck.accepted g.S.Verifier.verified lines key start old before c.args.self.now.epoch c.learn_told.new.self evidence out now first after c.hand_roots.new.self.epoch c.hand_roots.ensures.rises (λ done has. c.hand_roots.ensures.hands (done ++ acts) has)) in
+    let rooted = stands-so g.H.NodeHash.digest_of g.V.VufCheck.accepted g.S.Verifier.verified lines key start old after c.hand_roots.new.self.epoch c.hand_roots.new.self.epoch c.learn_told.new.self c.hand_roots.new.self.memory evidence out c.args.asker.now.changes.items now refl c.hand_roots.ensures.same.0
+    (stands-roots g.H.NodeHash.digest_of g.V.VufCheck.accepted g.S.Verifier.verified lines key start old before c.args.self.now.epoch c.learn_told.new.self evidence out c.args.asker.now.changes.items now first after c.hand_roots.new.self.epoch c.hand_roots.ensures.rises (λ done has. c.hand_roots.ensures.hands (done ++ acts) has)) in
     let formed = asked-formed lines start.known c.args.asker.now.changes.items asked in
+    let new = late-stays known c.hand_roots.new.self.memory c.args.asker.now.changes.items c.args.self.now.changes c.hand_roots.new.self.changes
+    (ap (λ (m : Memory). m.marks) c.hand_roots.ensures.same.0 ∙ lines-stay EvidenceLines (lines_of c.args.told.now) known c.learn_told.new.self shown shows) c.hand_roots.ensures.same.1 late in
     let (promised, learns, longer) = c.in_ok-learn_promises.ensures.learns in
     let (promises, taken', more-lines) = c.in_ok-learn_promises.ensures.takes formed in
     let stays = learns-stay (drop c.hand_roots.new.self.changes c.args.asker.now.changes.items) c.args.asker.now.client.promises c.hand_roots.new.self.memory c.learn_promises.new.self.memory promised learns in
-    let told = stands-so g.H.NodeHash.digest_of g.V.VufCheck.accepted g.S.Verifier.verified lines key start old after c.hand_roots.new.self.epoch c.learn_promises.new.self.epoch c.learn_promises.new.self.memory c.learn_promises.new.self.memory (evidence ++ promises) out now c.learn_promises.ensures.same.0 refl
-    (stands-same g.H.NodeHash.digest_of g.V.VufCheck.accepted g.S.Verifier.verified lines key start old after c.hand_roots.new.self.epoch c.hand_roots.new.self.memory evidence out now rooted c.learn_promises.new.self.memory promises taken' stays (same-marks c.hand_roots.new.self.memory c.learn_promises.new.self.memory stays)
-    (changes-asked lines start.known c.args.asker.now.changes.items c.hand_roots.new.self.memory c.learn_promises.new.self.memory asked c.learn_promises.ensures.own)) in
+    let told = stands-so g.H.NodeHash.digest_of g.V.VufCheck.accepted g.S.Verifier.verified lines key start old after c.hand_roots.new.self.epoch c.learn_promises.new.self.epoch c.learn_promises.new.self.memory c.learn_promises.new.self.memory (evidence ++ promises) out c.args.asker.now.changes.items now c.learn_promises.ensures.same.0 refl
+    (stands-same g.H.NodeHash.digest_of g.V.VufCheck.accepted g.S.Verifier.verified lines key start old after c.hand_roots.new.self.epoch c.hand_roots.new.self.memory evidence out c.args.asker.now.changes.items now rooted c.learn_promises.new.self.memory promises taken' stays (same-marks c.hand_roots.new.self.memory c.learn_promises.new.self.memory stays)
+    (changes-asked lines start.known c.args.asker.now.changes.items c.hand_roots.new.self.changes c.hand_roots.new.self.memory c.learn_promises.new.self.memory asked new c.learn_promises.ensures.own)
+    (changes-add c.args.asker.now.changes.items c.hand_roots.new.self.changes c.hand_roots.new.self.memory c.learn_promises.new.self.memory c.learn_promises.ensures.own)) in
     let (marked, marks, longest) = c.in_ok-mark_begun.ensures.ok in
     let (begins, begun', last-lines) = c.in_ok-mark_begun.ensures.takes in
     let among = begun-among c.args.asker.now.monitors.items c.behind-begun.result.now c.learn_promises.new.self.monitors (c.behind-begun.ensures ∙ ap (drop c.learn_promises.new.self.monitors) c.deref.ensures.value) in
-    let begun = stands-begun g.H.NodeHash.digest_of g.V.VufCheck.accepted g.S.Verifier.verified lines key start old after c.learn_promises.new.self.epoch c.learn_promises.new.self.memory (evidence ++ promises) out now told c.behind-begun.result.now c.mark_begun.new.self begins begun' among
+    let begun = stands-begun g.H.NodeHash.digest_of g.V.VufCheck.accepted g.S.Verifier.verified lines key start old after c.learn_promises.new.self.epoch c.learn_promises.new.self.memory (evidence ++ promises) out c.args.asker.now.changes.items now told c.behind-begun.result.now c.mark_begun.new.self begins begun' among
     (monitors-put c.behind-begun.result.now c.learn_promises.new.self.memory c.mark_begun.new.self marked marks) (begun-promises c.behind-begun.result.now c.learn_promises.new.self.memory c.mark_begun.new.self marked marks) in
     let whole = c.deref-2.ensures.value ∙ text_grows [] c.learn_promises.new.lines.items c.mark_begun.new.lines.items (evidence ++ promises) begins
     (text_grows [] c.learn_told.new.lines.items c.learn_promises.new.lines.items evidence promises (first-lines ∙ ap (λ (t : List ℕ). t ++ items_text evidence) c.new-lines.ensures.items) more-lines) last-lines in
-    stands-on g.H.NodeHash.digest_of g.V.VufCheck.accepted g.S.Verifier.verified lines key start old after (λ (done : List Act). g.K.Keeper.has c.hand_on.new.keeper (done ++ acts)) c.learn_promises.new.self.epoch c.hand_on.new.self.epoch c.mark_begun.new.self c.hand_on.new.self.memory (evidence ++ promises ++ begins) c.deref-2.result.now out now
+    stands-on g.H.NodeHash.digest_of g.V.VufCheck.accepted g.S.Verifier.verified lines key start old after (λ (done : List Act). g.K.Keeper.has c.hand_on.new.keeper (done ++ acts)) c.learn_promises.new.self.epoch c.hand_on.new.self.epoch c.mark_begun.new.self c.hand_on.new.self.memory (evidence ++ promises ++ begins) c.deref-2.result.now out c.args.asker.now.changes.items now
     c.hand_on.ensures.same.1 c.hand_on.ensures.same.0 whole (λ done has. c.hand_on.ensures.hands (done ++ acts) has) begun)

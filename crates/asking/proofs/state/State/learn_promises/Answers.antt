@@ -51,7 +51,7 @@ returns-in_err-learn_promises-2-clause-own g c =
     let own : c.behind-own.result.now ≡ drop c.args.self.now.changes c.args.asker.now.changes.items = c.behind-own.ensures ∙ ap (drop c.args.self.now.changes) c.deref.ensures.value in
     let (first, one, grown) = c.in_ok-learn_promises.ensures.ok in
     let adds = learns-changes c.args.asker.now.changes.items c.behind-own.result.now c.args.self.now.changes memory c.learn_promises.new.self own (whole-of LearnsOne (map (promised_item true) c.behind-own.result.now) memory c.learn_promises.new.self first one) in
-    learns-others c.args.asker.now.changes.items c.fresh-fresh.result.now memory c.learn_promises.new.self c.learn_promises-2.new.self adds c.in_err-learn_promises-2.ensures.err
+    learns-others (drop c.args.self.now.changes c.args.asker.now.changes.items) c.fresh-fresh.result.now memory c.learn_promises.new.self c.learn_promises-2.new.self adds c.in_err-learn_promises-2.ensures.err
 
 pub returns-clause-own : goal.returns-clause-own
 returns-clause-own g c =
@@ -60,7 +60,7 @@ returns-clause-own g c =
     let (first, one, grown) = c.in_ok-learn_promises.ensures.ok in
     let (rest, two, more) = c.in_ok-learn_promises-2.ensures.ok in
     let adds = learns-changes c.args.asker.now.changes.items c.behind-own.result.now c.args.self.now.changes memory c.learn_promises.new.self own (whole-of LearnsOne (map (promised_item true) c.behind-own.result.now) memory c.learn_promises.new.self first one) in
-    learns-others c.args.asker.now.changes.items c.fresh-fresh.result.now memory c.learn_promises.new.self c.learn_promises-2.new.self adds
+    learns-others (drop c.args.self.now.changes c.args.asker.now.changes.items) c.fresh-fresh.result.now memory c.learn_promises.new.self c.learn_promises-2.new.self adds
     (whole-of LearnsOne (map (promised_item false) c.fresh-fresh.result.now) c.learn_promises.new.self c.learn_promises-2.new.self rest two)
 
 pub returns-clause-takes : goal.returns-clause-takes

@@ -9,7 +9,7 @@ use Rattle.asking.proofs.AskedOwn.{lines-promises, some-lines-promises}
 use Rattle.asking.proofs.Keeping.{learned_after}
 use Rattle.asking.proofs.PutMarks.{lines-stay, same-marks, some-lines-marks}
 use Rattle.asking.proofs.Saving.{may-among, stands-on, stands-saved, stands-so}
-use Rattle.asking.proofs.Stood.{stands-same, unchanged-own}
+use Rattle.asking.proofs.Stood.{stands-same, unchanged-adds, unchanged-own}
 use Rattle.asking.proofs.state.State.save.Goals as goal
 
 pub returns-clause-learns : goal.returns-clause-learns
@@ -34,8 +34,9 @@ returns-in_err-learn_told-clause-kept g c = λ lines key start old acts up-to st
     let (alarms, taken) = c.in_err-learn_told.ensures.some in
     let same = some-lines-marks Alarms (lines_of c.args.told.now) known middle c.in_err-learn_told.ensures.err in (
       alarms,
-      stands-same g.H.NodeHash.digest_of g.V.VufCheck.accepted g.S.Verifier.verified lines key start old before c.args.self.now.epoch known [] out now stands middle alarms taken same (same-marks known middle same)
-          (unchanged-own lines start.known known middle (some-lines-promises Alarms (lines_of c.args.told.now) known middle c.in_err-learn_told.ensures.err)),
+      stands-same g.H.NodeHash.digest_of g.V.VufCheck.accepted g.S.Verifier.verified lines key start old before c.args.self.now.epoch known [] out c.args.asker.now.changes.items now stands middle alarms taken same (same-marks known middle same)
+          (unchanged-own lines start.known known middle (some-lines-promises Alarms (lines_of c.args.told.now) known middle c.in_err-learn_told.ensures.err))
+          (unchanged-adds c.args.asker.now.changes.items known middle (some-lines-promises Alarms (lines_of c.args.told.now) known middle c.in_err-learn_told.ensures.err)),
       search rules,
     )
 
@@ -54,8 +55,8 @@ returns-in_err-learn_marks-clause-kept g c = λ lines key start old acts up-to s
     let (done, news, among, each) = c.in_err-learn_marks.ensures.some in
     let (marks, moved) = c.in_err-learn_marks.ensures.taken in (
       alarms ++ marks,
-      stands-so g.H.NodeHash.digest_of g.V.VufCheck.accepted g.S.Verifier.verified lines key start old before c.args.self.now.epoch c.learn_marks.new.self.epoch c.learn_marks.new.self.memory c.learn_marks.new.self.memory (alarms ++ marks) out now c.learn_marks.ensures.same.0 refl
-          (stands-saved g.H.NodeHash.digest_of g.V.VufCheck.accepted g.S.Verifier.verified lines key start old before c.args.self.now.epoch known middle c.learn_marks.new.self.memory out c.args.asker.now.client monitors done news alarms marks stands up-to same promises among each taken moved),
+      stands-so g.H.NodeHash.digest_of g.V.VufCheck.accepted g.S.Verifier.verified lines key start old before c.args.self.now.epoch c.learn_marks.new.self.epoch c.learn_marks.new.self.memory c.learn_marks.new.self.memory (alarms ++ marks) out c.args.asker.now.changes.items now c.learn_marks.ensures.same.0 refl
+          (stands-saved g.H.NodeHash.digest_of g.V.VufCheck.accepted g.S.Verifier.verified lines key start old before c.args.self.now.epoch known middle c.learn_marks.new.self.memory out c.args.asker.now.changes.items c.args.asker.now.client monitors done news alarms marks stands up-to same promises among each taken moved),
       search rules,
     )
 
@@ -74,9 +75,9 @@ returns-in_err-hand_on-clause-kept g c = λ lines key start old acts up-to stand
     let (some, news, may, each, longer) = c.in_ok-learn_marks.ensures.learns in
     let (marks, moved, last-lines) = c.in_ok-learn_marks.ensures.takes in
     let among = may-among c.args.asker.now.client.chain c.args.self.now.head c.args.self.now.monitors monitors some may in
-    let stood = stands-saved g.H.NodeHash.digest_of g.V.VufCheck.accepted g.S.Verifier.verified lines key start old before c.args.self.now.epoch known middle c.learn_marks.new.self.memory out c.args.asker.now.client monitors some news alarms marks stands up-to same promises among each taken moved in
+    let stood = stands-saved g.H.NodeHash.digest_of g.V.VufCheck.accepted g.S.Verifier.verified lines key start old before c.args.self.now.epoch known middle c.learn_marks.new.self.memory out c.args.asker.now.changes.items c.args.asker.now.client monitors some news alarms marks stands up-to same promises among each taken moved in
     let whole = c.deref.ensures.value ∙ text_grows [] c.learn_told.new.lines.items c.learn_marks.new.lines.items alarms marks (first-lines ∙ ap (λ (t : List ℕ). t ++ items_text alarms) c.new-lines.ensures.items) last-lines in
-    let handed = stands-on g.H.NodeHash.digest_of g.V.VufCheck.accepted g.S.Verifier.verified lines key start old before (λ (done : List Act). g.K.Keeper.has c.hand_on.new.keeper (done ++ acts)) c.args.self.now.epoch c.hand_on.new.self.epoch c.learn_marks.new.self.memory c.hand_on.new.self.memory (alarms ++ marks) c.deref.result.now out now
+    let handed = stands-on g.H.NodeHash.digest_of g.V.VufCheck.accepted g.S.Verifier.verified lines key start old before (λ (done : List Act). g.K.Keeper.has c.hand_on.new.keeper (done ++ acts)) c.args.self.now.epoch c.hand_on.new.self.epoch c.learn_marks.new.self.memory c.hand_on.new.self.memory (alarms ++ marks) c.deref.result.now out c.args.asker.now.changes.items now
     (c.hand_on.ensures.same.1 ∙ c.learn_marks.ensures.same.0) c.hand_on.ensures.same.0 whole (λ done has. c.hand_on.ensures.hands (done ++ acts) has) stood in
     ([], handed, search rules)
 
@@ -95,11 +96,11 @@ returns-in_err-note_tested-clause-kept g c = λ lines key start old acts up-to s
     let (some, news, may, each, longer) = c.in_ok-learn_marks.ensures.learns in
     let (marks, moved, last-lines) = c.in_ok-learn_marks.ensures.takes in
     let among = may-among c.args.asker.now.client.chain c.args.self.now.head c.args.self.now.monitors monitors some may in
-    let stood = stands-saved g.H.NodeHash.digest_of g.V.VufCheck.accepted g.S.Verifier.verified lines key start old before c.args.self.now.epoch known middle c.learn_marks.new.self.memory out c.args.asker.now.client monitors some news alarms marks stands up-to same promises among each taken moved in
+    let stood = stands-saved g.H.NodeHash.digest_of g.V.VufCheck.accepted g.S.Verifier.verified lines key start old before c.args.self.now.epoch known middle c.learn_marks.new.self.memory out c.args.asker.now.changes.items c.args.asker.now.client monitors some news alarms marks stands up-to same promises among each taken moved in
     let whole = c.deref.ensures.value ∙ text_grows [] c.learn_told.new.lines.items c.learn_marks.new.lines.items alarms marks (first-lines ∙ ap (λ (t : List ℕ). t ++ items_text alarms) c.new-lines.ensures.items) last-lines in
-    let handed = stands-on g.H.NodeHash.digest_of g.V.VufCheck.accepted g.S.Verifier.verified lines key start old before (λ (done : List Act). g.K.Keeper.has c.hand_on.new.keeper (done ++ acts)) c.args.self.now.epoch c.hand_on.new.self.epoch c.learn_marks.new.self.memory c.hand_on.new.self.memory (alarms ++ marks) c.deref.result.now out now
+    let handed = stands-on g.H.NodeHash.digest_of g.V.VufCheck.accepted g.S.Verifier.verified lines key start old before (λ (done : List Act). g.K.Keeper.has c.hand_on.new.keeper (done ++ acts)) c.args.self.now.epoch c.hand_on.new.self.epoch c.learn_marks.new.self.memory c.hand_on.new.self.memory (alarms ++ marks) c.deref.result.now out c.args.asker.now.changes.items now
     (c.hand_on.ensures.same.1 ∙ c.learn_marks.ensures.same.0) c.hand_on.ensures.same.0 whole (λ done has. c.hand_on.ensures.hands (done ++ acts) has) stood in
-    let noted = stands-so g.H.NodeHash.digest_of g.V.VufCheck.accepted g.S.Verifier.verified lines key start old (λ (done : List Act). g.K.Keeper.has c.hand_on.new.keeper (done ++ acts)) c.hand_on.new.self.epoch c.note_tested.new.self.epoch c.hand_on.new.self.memory c.note_tested.new.self.memory [] out now
+    let noted = stands-so g.H.NodeHash.digest_of g.V.VufCheck.accepted g.S.Verifier.verified lines key start old (λ (done : List Act). g.K.Keeper.has c.hand_on.new.keeper (done ++ acts)) c.hand_on.new.self.epoch c.note_tested.new.self.epoch c.hand_on.new.self.memory c.note_tested.new.self.memory [] out c.args.asker.now.changes.items now
     c.note_tested.ensures.same.1 c.note_tested.ensures.same.0 handed in
     ([], noted, search rules)
 
@@ -118,10 +119,10 @@ returns-clause-kept g c = λ lines key start old acts up-to stands.
     let (some, news, may, each, longer) = c.in_ok-learn_marks.ensures.learns in
     let (marks, moved, last-lines) = c.in_ok-learn_marks.ensures.takes in
     let among = may-among c.args.asker.now.client.chain c.args.self.now.head c.args.self.now.monitors monitors some may in
-    let stood = stands-saved g.H.NodeHash.digest_of g.V.VufCheck.accepted g.S.Verifier.verified lines key start old before c.args.self.now.epoch known middle c.learn_marks.new.self.memory out c.args.asker.now.client monitors some news alarms marks stands up-to same promises among each taken moved in
+    let stood = stands-saved g.H.NodeHash.digest_of g.V.VufCheck.accepted g.S.Verifier.verified lines key start old before c.args.self.now.epoch known middle c.learn_marks.new.self.memory out c.args.asker.now.changes.items c.args.asker.now.client monitors some news alarms marks stands up-to same promises among each taken moved in
     let whole = c.deref.ensures.value ∙ text_grows [] c.learn_told.new.lines.items c.learn_marks.new.lines.items alarms marks (first-lines ∙ ap (λ (t : List ℕ). t ++ items_text alarms) c.new-lines.ensures.items) last-lines in
-    let handed = stands-on g.H.NodeHash.digest_of g.V.VufCheck.accepted g.S.Verifier.verified lines key start old before (λ (done : List Act). g.K.Keeper.has c.hand_on.new.keeper (done ++ acts)) c.args.self.now.epoch c.hand_on.new.self.epoch c.learn_marks.new.self.memory c.hand_on.new.self.memory (alarms ++ marks) c.deref.result.now out now
+    let handed = stands-on g.H.NodeHash.digest_of g.V.VufCheck.accepted g.S.Verifier.verified lines key start old before (λ (done : List Act). g.K.Keeper.has c.hand_on.new.keeper (done ++ acts)) c.args.self.now.epoch c.hand_on.new.self.epoch c.learn_marks.new.self.memory c.hand_on.new.self.memory (alarms ++ marks) c.deref.result.now out c.args.asker.now.changes.items now
     (c.hand_on.ensures.same.1 ∙ c.learn_marks.ensures.same.0) c.hand_on.ensures.same.0 whole (λ done has. c.hand_on.ensures.hands (done ++ acts) has) stood in
-    let noted = stands-so g.H.NodeHash.digest_of g.V.VufCheck.accepted g.S.Verifier.verified lines key start old (λ (done : List Act). g.K.Keeper.has c.hand_on.new.keeper (done ++ acts)) c.hand_on.new.self.epoch c.note_tested.new.self.epoch c.hand_on.new.self.memory c.note_tested.new.self.memory [] out now
+    let noted = stands-so g.H.NodeHash.digest_of g.V.VufCheck.accepted g.S.Verifier.verified lines key start old (λ (done : List Act). g.K.Keeper.has c.hand_on.new.keeper (done ++ acts)) c.hand_on.new.self.epoch c.note_tested.new.self.epoch c.hand_on.new.self.memory c.note_tested.new.self.memory [] out c.args.asker.now.changes.items now
     c.note_tested.ensures.same.1 c.note_tested.ensures.same.0 handed in
     ([], noted, refl)
