@@ -17,6 +17,7 @@ from formats import (
     BAD_LINK,
     BEFORE_START,
     KNOWN,
+    MAX_EPOCH,
     MAX_KEY,
     MAX_NAME,
     MAX_ROOTS,
@@ -61,9 +62,6 @@ from sessions import (
 
 PROVIDER = SIGNING_KEY
 
-# How many lists of roots are taken for one reply.
-MAX_LISTS = 1024
-
 
 class NoReply(Exception):
     """No whole frame comes."""
@@ -74,7 +72,7 @@ class NoConnection(NoReply):
 
 
 class Stopped(Exception):
-    """A root that has to be taken is refused, or comes in too many lists."""
+    """A root that has to be taken is refused."""
 
 
 class ReplyRefused(Refusal):
@@ -298,37 +296,26 @@ class Followed(Told):
             raise Stopped from None
         self.words.append(f"state: begins at epoch {self.head_epoch()}")
 
-    def follow(self, epoch):
-        """Takes the roots up to an epoch, and goes on after each list that does not get there."""
+    def follow(self):
         try:
-            for _ in range(MAX_LISTS):
-                if not self.take_list():
-                    return
-                if self.head_epoch() >= epoch:
-                    return
-                self.go_on()
-            raise Stopped
+            self.take_new()
         except Stopped:
             self.words.append(f"no root is taken after epoch {self.head_epoch()}")
             raise
 
-    def go_on(self):
-        """What is done of new epochs. A client alone has nothing to do."""
-
-    def take_list(self):
-        """Takes the next roots. Returns whether there are any."""
-        got = self.ask("history", self.head_epoch() + 1, MAX_ROOTS)
-        if got is None:
-            raise Stopped
-        if not got[1]:
-            return False
-        for taker in [self.client, *self.monitors]:
-            try:
-                taker.update(got[2])
-            except Refusal as refusal:
-                self.refuse("root", refusal)
-                raise Stopped from None
-        return True
+    def take_new(self):
+        while (start := self.head_epoch() + 1) <= MAX_EPOCH:
+            got = self.ask("history", start, MAX_ROOTS)
+            if got is None:
+                raise Stopped
+            if not got[1]:
+                return
+            for taker in [self.client, *self.monitors]:
+                try:
+                    taker.update(got[2])
+                except Refusal as refusal:
+                    self.refuse("root", refusal)
+                    raise Stopped from None
 
     def check(self, request, before, kind, value, body):
         """The line for a response, to a request that was asked at a head of the epoch `before`."""
@@ -483,13 +470,9 @@ class Asked(Followed):
         before = self.head_epoch()
         self.answer(request_of(command, words))
         if self.head_epoch() != before:
-            self.go_on()
-
-    def go_on(self):
-        """Watches the epochs that are new, and tests the promises that are due."""
-        for monitor in self.monitors:
-            self.steps(monitor)
-        self.test_promises()
+            for monitor in self.monitors:
+                self.steps(monitor)
+            self.test_promises()
 
     def answer(self, request, is_told=True):
         """Asks a request, and tells what comes back: at the beginning only where it is refused."""
@@ -498,7 +481,7 @@ class Asked(Followed):
             return
         kind, value, body = got
         if epoch_of(value) > before:
-            self.follow(epoch_of(value))
+            self.follow()
         try:
             line = self.check(request, before, kind, value, body)
         except ReplyRefused as refusal:

@@ -411,27 +411,6 @@ def nothing_comes(provider, _request, _reply):
     return b""
 
 
-def many_epochs_end(epochs):
-    """So many epochs end before the reply."""
-
-    def act(provider, request, _reply):
-        close(provider, epochs)
-        return provider.hub.bytes(0, request)
-
-    return act
-
-
-def roots_without_end(provider, request, reply):
-    """An epoch ends before each list of roots. Who takes 2,000 of them gets no more."""
-    provider.noted.add(provider.count)
-    return nothing_comes(provider, request, reply) if len(provider.noted) > 2000 else many_epochs_end(1)(provider, request, reply)
-
-
-def behind_first(act):
-    """This is done behind the first reply."""
-    return lambda provider, request, reply: act(provider, request, reply) if provider.count > 1 else reply
-
-
 def roots_are(change):
     """A list of roots, changed so."""
     return lambda _provider, _request, reply: with_roots(reply, change)
@@ -473,11 +452,6 @@ def promise_and_root():
     return evidence_json(BrokenPromise(promise, directory.close(2), directory.lookup(b"a", 2).write()))
 
 
-def kept_epochs(first, last):
-    """What is told of a name that is watched in these epochs."""
-    return [f"kept 61 {epoch}" for epoch in range(first, last + 1)]
-
-
 BEGUN_LINES = "register 61 6b31", "close 2", "watch 61 6b31"
 BEGUN = run_of_lines(*BEGUN_LINES)
 BEGUN_LATER = run_of_lines("close 5", "close 6")
@@ -494,7 +468,6 @@ BEGINS = "state: begins at epoch 1"
 ALARM, EARLIER_ALARM = "alarm 61 3 6576", "watching 61 at epoch 3: alarm of an earlier run"
 FORKED = evidence_json(RootEvidence(FORK, root_2(b"k1"), root_2(EVIL)))
 LINKED = evidence_json(RootEvidence(LINK, root_2(b"k1"), roots_of(EVIL)[1]))
-AFTER_1027 = "no root is taken after epoch 1027"
 EARLIER_EVIDENCE = "state: FILE.kept: evidence of an earlier run"
 
 # Of a name: what the directory does, the runs over one state, and how the last of them ends.
@@ -746,51 +719,6 @@ STORED_LIES = {
         lies((2, "lookup", proof_is_altered_at(3)), (3, "lookup", memory_runs_out)),
         [BEGUN, run_of_lines("close 3", "watch 61 6b31"), WATCH],
         Ending(["refused 14"], 1, [NO_MEMORY]),
-    ),
-    # 9. Roots are taken up to the reply that they are for, in at most 1,024 lists. Before a further one all that is new is
-    # watched, written and saved, and the next run goes on from there.
-    "roots without end": (
-        lies((2, "head", many_epochs_end(1)), (2, "history", roots_without_end)),
-        [BEGUN, WATCH],
-        Ending(["kept 61 3", "kept 61 4"], 0, []),
-    ),
-    "roots without end behind a reply": (
-        lies((2, "lookup", epochs_end), (2, "history", roots_without_end)),
-        [BEGUN, run_of_words("lookup 61 0")],
-        Ending(["present 3 6b31"], 0, []),
-    ),
-    "more than one list of roots": (
-        lies((2, "head", behind_first(many_epochs_end(150)))),
-        [BEGUN, run_of_lines("close 3", "watch 61 6b31", "head")],
-        Ending(
-            ["root 3 after 2", "kept 61 3", *kept_epochs(4, 131), "root 153 after 152", *kept_epochs(132, 153)], 0, []),
-    ),
-    "1,024 lists of roots": (
-        lies((2, "head", many_epochs_end(1024)), (2, "history", roots_are(lambda roots: roots[:1]))),
-        [BEGUN, WATCH],
-        Ending(kept_epochs(3, 1026), 0, []),
-    ),
-    "more than 1,024 lists of roots": (
-        lies((2, "head", many_epochs_end(1025)), (2, "history", roots_are(lambda roots: roots[:1]))),
-        [BEGUN, WATCH],
-        Ending([], 1, ["no root is taken after epoch 1026"]),
-    ),
-    "more than 1,024 lists of roots, and a run later": (
-        lies((2, "head", many_epochs_end(1025)), (2, "history", roots_are(lambda roots: roots[:1]))),
-        [BEGUN, WATCH, WATCH],
-        Ending(kept_epochs(3, 1027), 0, []),
-    ),
-    "a monitor, and more than 1,024 lists of roots": (
-        lies((2, "head", behind_first(many_epochs_end(1025))), (2, "history", roots_are(lambda roots: roots[:1]))),
-        [BEGUN, run_of_lines("close 3", "watch 61 6b31", "head", "head"), WATCH],
-        Ending(["kept 61 1028"], 0, []),
-    ),
-    "an alarm among more than 1,024 lists of roots": (
-        lies(
-            (2, "head", behind_first(key_is_robbed)), (2, "head", behind_first(many_epochs_end(1025))),
-            (2, "history", roots_are(lambda roots: roots[:1]))),
-        [BEGUN, run_of_lines("close 3", "watch 61 6b31", "head")],
-        Ending(["root 3 after 2", "kept 61 3", *[f"alarm 61 {epoch} 6576" for epoch in range(4, 1028)]], 3, [AFTER_1027]),
     ),
     "a root that is refused": (
         lies((2, "history", list_is_altered)),
@@ -1079,38 +1007,6 @@ def input_of_others(program):
     return None if got == [(b"root 1 after 0\n", b"", 0), (b"", b"bad hex\n", 1)] else f"an input without end: {got}"
 
 
-def list_by_list(program):
-    """What is told of a list is written, and its roots are saved, before the next one is asked for."""
-    found = []
-
-    def lie(provider, request, reply):
-        if is_of(request, "history"):
-            found.append((len(files_of(state)[0]), len(output.read_text().splitlines())))
-        return many_epochs_end(200)(provider, request, reply) if is_of(request, "head") and provider.count > 1 else reply
-
-    provider = Provider(begun(0, from_run(2, lie)))
-    with tempfile.TemporaryDirectory() as folder:
-        state, output = f"{folder}/state", pathlib.Path(f"{folder}/output")
-        for script, _ in (BEGUN, run_of_lines("close 3", "watch 61 6b31", "head")):
-            provider.begin()
-            with output.open("wb") as file:
-                ran(program, provider, script, state, stdout=file)
-    # Of each list that is asked for: how many roots are saved by then, and how many lines are written.
-    wanted = [(2, 0), *[(3 + 64 * lists, 2 + 64 * lists) for lists in range(4)]]
-    return None if found == wanted else f"list by list: wanted {wanted}, got {found}"
-
-
-def many_honest_epochs(program):
-    """The epochs of two weeks of minutes are taken in one run, in two parts."""
-    provider = Provider(lies((2, "head", many_epochs_end(10080)))())
-    with tempfile.TemporaryDirectory() as folder:
-        for script, words in (BEGUN, run_of_words("head")):
-            provider.begin()
-            got = ran(program, provider, b"" if words else script, f"{folder}/state", words)
-    wanted = ["root 20162 after 20161"], [], 0
-    return None if got == wanted else f"many epochs: {got}"
-
-
 def evidence_unwritten(program):
     """Evidence that could not be written is kept."""
     provider = Provider(lies((2, None, directory_goes_back(1)))())
@@ -1273,7 +1169,7 @@ def settled_badly(program):
 
 OTHERS = (
     changed_by_another, alarm_unwritten, change_unwritten, alarm_and_fault, line_by_line, input_of_others,
-    list_by_list, many_honest_epochs, evidence_unwritten, evidence_and_fault, older_form, changes_turned_round, settled_alone, settled_badly, names_as_text, unconnected, without_state,
+    evidence_unwritten, evidence_and_fault, older_form, changes_turned_round, settled_alone, settled_badly, names_as_text, unconnected, without_state,
     stale_unwritten,
 )
 

@@ -1,5 +1,5 @@
 -- Whether the last epoch of a run is as late as it is wanted.
-use Rattle.std.proofs.Common.{◌≡◌, ◌≢◌, ◌⊎◌, ◌∙◌, ◌<◌, ◌≤◌, ℕ, List, [], ◌∷◌, ◌++◌, Bor, Option, None, Some, Result, Ok, Err, ap, append-nil, append_assoc, arith, inl, inr, option_map, refl, subst, sym}
+use Rattle.std.proofs.Common.{◌≡◌, ◌⊎◌, ◌∙◌, ◌<◌, ◌≤◌, ℕ, List, [], ◌∷◌, ◌++◌, Bor, Option, None, Some, Result, Ok, Err, ap, append-nil, append_assoc, arith, inl, inr, option_map, refl, subst, sym}
 use Rattle.std.specs.Prelude.{IfErr, IfOk, IfSome, OnErr, OnOk, ⊤}
 use Rattle.std.specs.Io.KnownBytes.{Appends}
 use Rattle.std.proofs.KnownBytes.{Appends-nil, Appends-trans}
@@ -22,7 +22,6 @@ use Rattle.asking.specs.Ending.{AsksAs, AsksSomeLine, DoesSome, DoesSomeNoting, 
 use Rattle.asking.specs.Lateness.{stale_line, subject_in, subject_of, wanted_of, Finds, HasEpoch, HasNoted, HasNotedAs, IsLast, IsLimitOf, IsSameLimit, IsStale}
 use Rattle.asking.specs.Scenes.{Scene, scene}
 use Rattle.asking.specs.declared.ask_fault.AskFault.{AskFault}
-use Rattle.asking.specs.declared.ask_fault.AskFault.TheVariants.{OutOfMemory as NoMemory}
 use Rattle.asking.specs.declared.ask_fault.RunFault.{RunFault}
 use Rattle.asking.specs.declared.ask_fault.RunFault.TheVariants.{Program}
 use Rattle.asking.specs.declared.asker.Asker.{Asker}
@@ -80,17 +79,6 @@ noted_same marks marks' client client' monitors monitors' limit same one other n
 -- in the same limit it was noted
 pub noted_still : (Is : Subject → ℕ → Type 0) (before after : Limit) → after ≡ before → HasNotedAs Is before → HasNotedAs Is after
 noted_still Is before after same noted = subst (λ (l : Limit). HasNotedAs Is l) (sym same) noted
-
--- It was noted where a question settled, or is as it was: so in a scene to which some step leads.
-pub settled_noted : {H V S T A : Type 0} (Leads : Scene T → Type 0) (marks : List Mark) (asker : Asker H V S) (asked : Result A AskFault) (Settled : Type 0) (before after : Limit) → asker.marks.items ≡ marks
-    → (asked ≢ Err NoMemory → (reached : Scene T) × Leads reached × (asker.client ≡ reached.client) × (asker.monitors.items ≡ reached.monitors))
-    → (seen : Scene T) × Leads seen × HasNotedAs (IsLast marks seen.client seen.monitors) before
-    → ((asked ≢ Err NoMemory) × HasNoted asker after) ⊎ ((¬ Settled) × (after ≡ before))
-    → (seen : Scene T) × Leads seen × HasNotedAs (IsLast marks seen.client seen.monitors) after
-settled_noted Leads marks asker asked Settled before after same stands had (inl (some, noted)) =
-    let (reached, leads, client, monitors) = stands some in
-    (reached, leads, noted_same asker.marks.items marks asker.client reached.client asker.monitors.items reached.monitors after same client monitors noted)
-settled_noted Leads marks asker asked Settled before after same stands (seen, leads, noted) (inr (not, still)) = (seen, leads, noted_still (IsLast marks seen.client seen.monitors) before after still noted)
 
 -- without words nothing has a last epoch
 pub no_subject : (order : AskOrder) (about : Subject) → order.command ≡ None → subject_in (ask_values order).words ≡ Some about → ⊥

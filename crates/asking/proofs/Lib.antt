@@ -3,10 +3,7 @@ pub mod Asked
 pub mod AskedNames
 pub mod AskedOwn
 pub mod Begun
-pub mod Between
-pub mod Catching
 pub mod Caught
-pub mod CaughtUp
 pub mod ChainRoots
 pub mod Current
 pub mod Earlier
@@ -19,11 +16,11 @@ pub mod GoneOn
 pub mod Halted
 pub mod Handed
 pub mod Heard
-pub mod HeardNoted
 pub mod HonestRoots
 pub mod Joined
 pub mod Late
 pub mod Left
+pub mod LineNoted
 pub mod Listed
 pub mod MarkedRuns
 pub mod Marks
@@ -44,7 +41,6 @@ pub mod KeptTold
 pub mod HeldMarks
 pub mod StateRuns
 pub mod RunSteps
-pub mod RunParts
 pub mod Saving
 pub mod OwnedRoots
 pub mod JoinedChanges
@@ -54,7 +50,6 @@ pub mod OwnedScenes
 pub mod SameChain
 pub mod EveryStep
 pub mod Settled
-pub mod Shifted
 pub mod Standing
 pub mod Stepped
 pub mod Stood

@@ -1,6 +1,6 @@
 -- Each monitor has a mark, once a state learned what is new.
-use Rattle.std.proofs.Common.{◌≡◌, ◌∙◌, ℕ, zero, suc, ◌<◌, ◌≤◌, false, List, [], ◌∷◌, ◌++◌, drop, length, map, Contains, Option, Some, None, Ok, ap, arith, inl, inr, refl, subst, sym}
-use Rattle.std.specs.List.{AllByRecursion, AllZip}
+use Rattle.std.proofs.Common.{◌≡◌, ◌∙◌, ℕ, zero, suc, ◌<◌, ◌≤◌, List, [], ◌∷◌, ◌++◌, drop, length, map, Contains, Option, Some, None, Ok, ap, arith, inl, inr, refl, subst, sym}
+use Rattle.std.specs.List.{AllByRecursion}
 use Rattle.std.proofs.lemmas.List.Elements.{Contains-append_right, Contains-push}
 use Rattle.textio.specs.Lines.{lines_of}
 use Rattle.memory.specs.Learning.{BeginsOne, Each}
@@ -15,13 +15,8 @@ use Rattle.memory.specs.declared.kind.Kind.TheVariants.{Alarms, EvidenceLines}
 use Rattle.memory.specs.declared.mark.Mark.{Mark}
 use Rattle.memory.proofs.Sound.{spelled-sound, taken-sound}
 use Rattle.monitor.specs.Monitors.{Monitor}
-use Rattle.wire.specs.Frames.{Frame}
-use Rattle.wire.specs.Requests.{RequestContent}
-use Rattle.asking.specs.Catching.{Advances}
-use Rattle.asking.specs.Following.{MonitorUpdates}
 use Rattle.asking.specs.Keeping.{KeepsUp, SavesTo}
 use Rattle.asking.specs.Marking.{AreOrdered, BeginsNoLater, HasMarkOf, StateMarks}
-use Rattle.asking.specs.Scenes.{Scene}
 use Rattle.asking.specs.declared.asker.Asker.{Asker}
 use Rattle.asking.specs.declared.state.State.{State}
 use Rattle.asking.proofs.Adding.{drop-all, learns-stay}
@@ -121,27 +116,6 @@ both-marked marks [] [] go have more = tt
 both-marked marks [] (monitor ∷ after) go have more = more
 both-marked marks (monitor ∷ before) [] go have more = absurd go
 both-marked marks (monitor ∷ before) (monitor' ∷ after) go have more = (gone-marked marks monitor monitor' go.0 have.0, both-marked marks before after go.1 have.1 more)
-
--- where none is new
-pub same-marked : (marks : List Mark) (before after : List Monitor) → length after ≡ length before → AllGo before after → AllByRecursion (HasMarkOf marks) before → AllByRecursion (HasMarkOf marks) after
-same-marked marks [] [] many go have = tt
-same-marked marks [] (monitor ∷ after) many go have = absurd (omega (arith, many))
-same-marked marks (monitor ∷ before) [] many go have = absurd go
-same-marked marks (monitor ∷ before) (monitor' ∷ after) many go have = (gone-marked marks monitor monitor' go.0 have.0, same-marked marks before after (omega (arith, many)) go.1 have.1)
-
-zip-many : (hash : List ℕ → List ℕ) (verified : List ℕ → List ℕ → List ℕ → Type 0) (list : List ℕ) (before after : List Monitor) → AllZip (MonitorUpdates hash verified list) before after → length after ≡ length before
-zip-many hash verified list [] [] zip = refl
-zip-many hash verified list [] (monitor ∷ after) zip = absurd zip
-zip-many hash verified list (monitor ∷ before) [] zip = absurd zip
-zip-many hash verified list (monitor ∷ before) (monitor' ∷ after) zip = ap suc (zip-many hash verified list before after zip.1)
-
--- and none is new where no more lists are needed
-pub advances-many : {T : Type 0} (hash : List ℕ → List ℕ) (accepted verified : List ℕ → List ℕ → List ℕ → Type 0) (exchanged : T → RequestContent → Frame → T → Type 0) (marks : List Mark) (epoch : ℕ) (before after : Scene T)
-    → Advances hash accepted verified exchanged marks epoch before false after → length after.monitors ≡ length before.monitors
-advances-many {T} hash accepted verified exchanged marks epoch before after (inl (there, same)) = ap (λ (s : Scene T). length s.monitors) same
-advances-many {T} hash accepted verified exchanged marks epoch before after (inr (low, inl (inl (head, is, last, same)))) = ap (λ (s : Scene T). length s.monitors) same
-advances-many {T} hash accepted verified exchanged marks epoch before after (inr (low, inl (inr (frame, stream, asks, none, same)))) = ap (λ (s : Scene T). length s.monitors) same
-advances-many {T} hash accepted verified exchanged marks epoch before after (inr (low, inr ((frame, asks, (client, monitors), same, above), there))) = zip-many hash verified frame.body before.monitors after.monitors monitors
 
 drop-ordered : (count : ℕ) (monitors : List Monitor) → AreOrdered monitors → AreOrdered (drop count monitors)
 drop-ordered zero [] ordered = tt

@@ -9,9 +9,7 @@
 //!
 //! ```text
 //! let mut asker = Asker::start_at_head(alloc, &mut stream, checks, key, token, &mut said)?;
-//! let reply = asker.send(&mut stream, &Ask::Head)?;
-//! while asker.advance(&mut stream, reply.epoch(), &mut said)? {}
-//! asker.hear(&mut stream, &Ask::Head, &reply, &mut said)?;
+//! asker.ask(&mut stream, &Ask::Head, &mut said)?;
 //! write_text(&mut writer, &said.text)?;
 //! ```
 #![tactic(auto)]
@@ -32,7 +30,6 @@ mod lines;
 mod order;
 mod placing;
 mod promises;
-mod reply;
 mod run;
 mod running;
 mod said;
@@ -53,7 +50,6 @@ pub use laws::{
 };
 pub use order::{AskKeys, AskOrder};
 pub use play::Checks;
-pub use reply::Reply;
 pub use run::RunEnd;
 pub use running::{ask, ask_over};
 pub use said::Said;
