@@ -17,7 +17,6 @@ from formats import (
     BAD_LINK,
     BEFORE_START,
     KNOWN,
-    MAX_EPOCH,
     MAX_KEY,
     MAX_NAME,
     MAX_ROOTS,
@@ -62,6 +61,9 @@ from sessions import (
 
 PROVIDER = SIGNING_KEY
 
+# How many lists of roots are taken for one reply.
+MAX_LISTS = 1024
+
 
 class NoReply(Exception):
     """No whole frame comes."""
@@ -72,7 +74,7 @@ class NoConnection(NoReply):
 
 
 class Stopped(Exception):
-    """A root that has to be taken is refused."""
+    """A root that has to be taken is refused, or comes in too many lists."""
 
 
 class ReplyRefused(Refusal):
@@ -154,7 +156,8 @@ class Memory:
 def mark_of(monitors, earlier):
     """The mark of a name after these monitors of it, which had this one or None."""
     since = monitors[0].client.chain.first().body.previous_epoch if earlier is None else earlier.since
-    return Mark(since, min(map(watched_to, monitors)))
+    epoch = min(map(watched_to, monitors))
+    return Mark(min(since, epoch), epoch)
 
 
 def watched_to(monitor):
@@ -296,26 +299,37 @@ class Followed(Told):
             raise Stopped from None
         self.words.append(f"state: begins at epoch {self.head_epoch()}")
 
-    def follow(self):
+    def follow(self, epoch):
+        """Takes the roots up to an epoch. The monitors watch what is new after each list that does not get there."""
         try:
-            self.take_new()
+            for _ in range(MAX_LISTS):
+                if not self.take_list():
+                    return
+                if self.head_epoch() >= epoch:
+                    return
+                self.step_all()
+            raise Stopped
         except Stopped:
             self.words.append(f"no root is taken after epoch {self.head_epoch()}")
             raise
 
-    def take_new(self):
-        while (start := self.head_epoch() + 1) <= MAX_EPOCH:
-            got = self.ask("history", start, MAX_ROOTS)
-            if got is None:
-                raise Stopped
-            if not got[1]:
-                return
-            for taker in [self.client, *self.monitors]:
-                try:
-                    taker.update(got[2])
-                except Refusal as refusal:
-                    self.refuse("root", refusal)
-                    raise Stopped from None
+    def step_all(self):
+        """What monitors do of new epochs. A client alone has none."""
+
+    def take_list(self):
+        """Takes the next roots. Returns whether there are any."""
+        got = self.ask("history", self.head_epoch() + 1, MAX_ROOTS)
+        if got is None:
+            raise Stopped
+        if not got[1]:
+            return False
+        for taker in [self.client, *self.monitors]:
+            try:
+                taker.update(got[2])
+            except Refusal as refusal:
+                self.refuse("root", refusal)
+                raise Stopped from None
+        return True
 
     def check(self, request, before, kind, value, body):
         """The line for a response, to a request that was asked at a head of the epoch `before`."""
@@ -425,13 +439,15 @@ class Asked(Followed):
             self.status = 3
 
     def last_of(self, line):
-        """The last epoch of what a line is about, 0 if there is none yet. Of a name it is the one of its mark."""
+        """The last epoch of what a line is about, 0 if there is none yet. Of a name it is the one of its mark, which counts
+        above the one behind which the watching of the name began."""
         with contextlib.suppress(NotACommand):
             match command_of(line):
                 case "head", []:
                     return self.head_epoch()
                 case "watch", [name, key] if 1 <= len(name) <= MAX_NAME and len(key) <= MAX_KEY:
-                    return self.memory().marks.get(name, Mark(0, 0)).epoch
+                    since, epoch = self.memory().marks.get(name, Mark(0, 0))
+                    return epoch if epoch > since else 0
         return None
 
     def settle(self, name):
@@ -470,9 +486,16 @@ class Asked(Followed):
         before = self.head_epoch()
         self.answer(request_of(command, words))
         if self.head_epoch() != before:
-            for monitor in self.monitors:
-                self.steps(monitor)
-            self.test_promises()
+            self.go_on()
+
+    def go_on(self):
+        """Watches the epochs that are new, and tests the promises that are due."""
+        self.step_all()
+        self.test_promises()
+
+    def step_all(self):
+        for monitor in self.monitors:
+            self.steps(monitor)
 
     def answer(self, request, is_told=True):
         """Asks a request, and tells what comes back: at the beginning only where it is refused."""
@@ -481,7 +504,7 @@ class Asked(Followed):
             return
         kind, value, body = got
         if epoch_of(value) > before:
-            self.follow()
+            self.follow(epoch_of(value))
         try:
             line = self.check(request, before, kind, value, body)
         except ReplyRefused as refusal:
@@ -505,23 +528,36 @@ class Asked(Followed):
     def test_promises(self):
         """Tests the promises that are due. One of a name that was watched waits for its monitor."""
         for signed in list(self.client.promises):
-            name = signed.promise.name
-            if name in self.found.marks and not self.monitors_of(name):
-                continue
-            if (epoch := self.client.due_epoch(name)) is None:
-                continue
-            if (got := self.ask("lookup", epoch, name)) is None:
-                continue
-            try:
-                due = self.client.due(name, got[2])
-            except Refusal as refusal:
-                self.refuse("proof", refusal, f"promise for {name.hex()}: ")
-                continue
-            if due == OTHER_INDEX:
-                self.refuse("promise", ReplyRefused(26))
-            elif due != KEPT:
-                self.tell_evidence(due)
-                self.explain(f"promise for {name.hex()}", "it was not kept")
+            if not self.waits(signed.promise.name):
+                self.test(signed.promise.name)
+
+    def test_promises_of(self, name):
+        """Tests those of a name, up to one that is not found kept."""
+        if not self.waits(name):
+            while self.test(name):
+                pass
+
+    def waits(self, name):
+        """Whether the promises of a name wait for its monitor."""
+        return name in self.found.marks and not self.monitors_of(name)
+
+    def test(self, name):
+        """Tests the promise of a name that is due, if there is one. Returns whether it is found kept."""
+        if (epoch := self.client.due_epoch(name)) is None:
+            return False
+        if (got := self.ask("lookup", epoch, name)) is None:
+            return False
+        try:
+            due = self.client.due(name, got[2])
+        except Refusal as refusal:
+            self.refuse("proof", refusal, f"promise for {name.hex()}: ")
+            return False
+        if due == OTHER_INDEX:
+            self.refuse("promise", ReplyRefused(26))
+        elif due != KEPT:
+            self.tell_evidence(due)
+            self.explain(f"promise for {name.hex()}", "it was not kept")
+        return due == KEPT
 
     # The monitors
 
@@ -539,7 +575,7 @@ class Asked(Followed):
             return
         self.monitors.append(self.monitor(first, name, key or None))
         self.steps(self.monitors[-1])
-        self.test_promises()
+        self.test_promises_of(name)
 
     def monitor(self, first, name, key):
         """A monitor from this root of the chain on. It expects the own changes that count for it, and before them this key.

@@ -411,6 +411,27 @@ def nothing_comes(provider, _request, _reply):
     return b""
 
 
+def many_epochs_end(epochs):
+    """So many epochs end before the reply."""
+
+    def act(provider, request, _reply):
+        close(provider, epochs)
+        return provider.hub.bytes(0, request)
+
+    return act
+
+
+def roots_without_end(provider, request, reply):
+    """An epoch ends before each list of roots. Who takes 2,000 of them gets no more."""
+    provider.noted.add(provider.count)
+    return nothing_comes(provider, request, reply) if len(provider.noted) > 2000 else many_epochs_end(1)(provider, request, reply)
+
+
+def behind_first(act):
+    """This is done behind the first reply."""
+    return lambda provider, request, reply: act(provider, request, reply) if provider.count > 1 else reply
+
+
 def roots_are(change):
     """A list of roots, changed so."""
     return lambda _provider, _request, reply: with_roots(reply, change)
@@ -444,12 +465,18 @@ def epochs_ended(epochs, *cases):
     return lambda: begun(epochs, lies(*cases)())
 
 
-def promise_and_root():
-    """The evidence of a promise that was not kept."""
+def promise_and_root(epochs=1):
+    """The evidence of a promise that was not kept, once so many epochs ended."""
     directory = keyed_directory(1, ZERO32, SIGNING_KEY, VUF_KEY, SALT_KEY)
     promise = directory.register(b"a", b"k1")
     directory.waiting.clear()
-    return evidence_json(BrokenPromise(promise, directory.close(2), directory.lookup(b"a", 2).write()))
+    roots = [directory.close(epoch) for epoch in range(2, 2 + epochs)]
+    return evidence_json(BrokenPromise(promise, roots[0], directory.lookup(b"a", 2).write()))
+
+
+def kept_epochs(first, last):
+    """What is told of a name that is watched in these epochs."""
+    return [f"kept 61 {epoch}" for epoch in range(first, last + 1)]
 
 
 BEGUN_LINES = "register 61 6b31", "close 2", "watch 61 6b31"
@@ -468,6 +495,7 @@ BEGINS = "state: begins at epoch 1"
 ALARM, EARLIER_ALARM = "alarm 61 3 6576", "watching 61 at epoch 3: alarm of an earlier run"
 FORKED = evidence_json(RootEvidence(FORK, root_2(b"k1"), root_2(EVIL)))
 LINKED = evidence_json(RootEvidence(LINK, root_2(b"k1"), roots_of(EVIL)[1]))
+AFTER_1027 = "no root is taken after epoch 1027"
 EARLIER_EVIDENCE = "state: FILE.kept: evidence of an earlier run"
 
 # Of a name: what the directory does, the runs over one state, and how the last of them ends.
@@ -663,7 +691,7 @@ STORED_LIES = {
         [run_of_lines("register 61 6b31", "close 2"), SETTLE],
         Ending([promise_and_root(), "settled 61 0"], 3, [EARLIER_EVIDENCE]),
     ),
-    # 7. A provider that is caught has status 3, whatever comes behind it, and nothing to say has status 1.
+    # 8. A provider that is caught has status 3, whatever comes behind it, and nothing to say has status 1.
     "a promise that was not kept": (
         lies((1, "register", nothing_is_kept)),
         [run_of_lines("register 61 6b31", "close 2")],
@@ -704,7 +732,7 @@ STORED_LIES = {
         [BEGUN, WATCH],
         Ending([], 1, ["no reply"]),
     ),
-    # 8. Each `watch` prints a line: where no epoch is new, up to which one was watched.
+    # 9. Each `watch` prints a line: where no epoch is new, up to which one was watched.
     "no epoch that is new": (
         lies(),
         [BEGUN, WATCH, WATCH],
@@ -720,12 +748,70 @@ STORED_LIES = {
         [BEGUN, run_of_lines("close 3", "watch 61 6b31"), WATCH],
         Ending(["refused 14"], 1, [NO_MEMORY]),
     ),
+    # 10. Roots are taken up to the reply that they are for, in at most 1,024 lists. Before a further one all that is new is
+    # watched, written and saved, and the next run goes on from there.
+    "roots without end": (
+        lies((2, "head", many_epochs_end(1)), (2, "history", roots_without_end)),
+        [BEGUN, WATCH],
+        Ending(["kept 61 3", "kept 61 4"], 0, []),
+    ),
+    "roots without end behind a reply": (
+        lies((2, "lookup", epochs_end), (2, "history", roots_without_end)),
+        [BEGUN, run_of_words("lookup 61 0")],
+        Ending(["present 3 6b31"], 0, []),
+    ),
+    "more than one list of roots": (
+        lies((2, "head", behind_first(many_epochs_end(150)))),
+        [BEGUN, run_of_lines("close 3", "watch 61 6b31", "head")],
+        Ending(
+            ["root 3 after 2", "kept 61 3", *kept_epochs(4, 131), "root 153 after 152", *kept_epochs(132, 153)], 0, []),
+    ),
+    "1,024 lists of roots": (
+        lies((2, "head", many_epochs_end(1024)), (2, "history", roots_are(lambda roots: roots[:1]))),
+        [BEGUN, WATCH],
+        Ending(kept_epochs(3, 1026), 0, []),
+    ),
+    "more than 1,024 lists of roots": (
+        lies((2, "head", many_epochs_end(1025)), (2, "history", roots_are(lambda roots: roots[:1]))),
+        [BEGUN, WATCH],
+        Ending([], 1, ["no root is taken after epoch 1026"]),
+    ),
+    "more than 1,024 lists of roots, and a run later": (
+        lies((2, "head", many_epochs_end(1025)), (2, "history", roots_are(lambda roots: roots[:1]))),
+        [BEGUN, WATCH, WATCH],
+        Ending(kept_epochs(3, 1027), 0, []),
+    ),
+    "a monitor, and more than 1,024 lists of roots": (
+        lies((2, "head", behind_first(many_epochs_end(1025))), (2, "history", roots_are(lambda roots: roots[:1]))),
+        [BEGUN, run_of_lines("close 3", "watch 61 6b31", "head", "head"), WATCH],
+        Ending(["kept 61 1028"], 0, []),
+    ),
+    "an alarm among more than 1,024 lists of roots": (
+        lies(
+            (2, "head", behind_first(key_is_robbed)), (2, "head", behind_first(many_epochs_end(1025))),
+            (2, "history", roots_are(lambda roots: roots[:1]))),
+        [BEGUN, run_of_lines("close 3", "watch 61 6b31", "head")],
+        Ending(["root 3 after 2", "kept 61 3", *[f"alarm 61 {epoch} 6576" for epoch in range(4, 1028)]], 3, [AFTER_1027]),
+    ),
+    "a look-up that fails once between lists of roots": (
+        lies(
+            (2, "head", behind_first(many_epochs_end(100))), (2, "lookup", memory_runs_out_at(4)),
+            (2, "history", from_epoch(68, roots_are(lambda _: [])))),
+        [BEGUN, run_of_lines("close 3", "watch 61 6b31", "head"), WATCH],
+        Ending(kept_epochs(68, 103), 0, []),
+    ),
+    "a broken promise, and more than one list of roots": (
+        lies((2, "register", nothing_is_kept), (2, "head", behind_first(many_epochs_end(150)))),
+        [run_of_lines("head"), run_of_lines("register 61 6b31", "head")],
+        Ending(
+            ["promise 1", "root 151 after 150", promise_and_root(150)], 3, ["promise for 61: it was not kept"]),
+    ),
     "a root that is refused": (
         lies((2, "history", list_is_altered)),
         [BEGUN, run_of_lines("close 3")],
         Ending(["client refuses root 2"], 1, [ROOT_2, "no root is taken after epoch 2"]),
     ),
-    # 9. With `--after` a run tells that the last epoch that was watched, or the head's, is not above one, whatever the
+    # 11. With `--after` a run tells that the last epoch that was watched, or the head's, is not above one, whatever the
     # cause.
     "a quiet directory": (
         lies(),
@@ -811,6 +897,32 @@ STORED_LIES = {
         lies((1, "lookup", look_up_is_refused_at(1))),
         [run_of_words("watch 61 -", 7)],
         Ending(["refused 10", "stale 0"], 3, [BEGINS, NO_EPOCH]),
+    ),
+    # An epoch that the directory chose counts only once the name was looked up in it.
+    "a first look-up that is refused at a late epoch": (
+        lies((2, "lookup", look_up_is_refused_at(6))),
+        [BEGUN_LATER, run_of_words("watch 61 -", 3)],
+        Ending(["refused 10", "stale 0"], 3, [NO_EPOCH]),
+    ),
+    "a first look-up that is refused at a late epoch for ever": (
+        lies(*[(run, "lookup", look_up_is_refused_at(6)) for run in (2, 3)]),
+        [BEGUN_LATER, run_of_words("watch 61 -", 3), run_of_words("watch 61 -", 3)],
+        Ending(["refused 10", "stale 0"], 3, [NO_EPOCH]),
+    ),
+    "a first look-up that is refused at a late epoch, and then no reply": (
+        lies((2, "lookup", look_up_is_refused_at(6)), (3, None, nothing_comes)),
+        [BEGUN_LATER, run_of_words("watch 61 -"), run_of_words("watch 61 -", 3)],
+        Ending(["stale 0"], 3, ["no reply"]),
+    ),
+    "a late epoch that is watched first": (
+        lies(),
+        [BEGUN_LATER, run_of_words("watch 61 -", 5)],
+        Ending(["kept 61 6"], 0, []),
+    ),
+    "a late epoch that was watched first": (
+        lies(),
+        [BEGUN_LATER, run_of_words("watch 61 -"), run_of_words("watch 61 -", 5)],
+        Ending(["watched 61 6"], 0, []),
     ),
     "a name that was not watched before": (
         lies(),
@@ -1007,6 +1119,41 @@ def input_of_others(program):
     return None if got == [(b"root 1 after 0\n", b"", 0), (b"", b"bad hex\n", 1)] else f"an input without end: {got}"
 
 
+def list_by_list(program):
+    """What is told of a list is written, and its roots and how far names were watched are saved, before the next one is
+    asked for."""
+    found = []
+
+    def lie(provider, request, reply):
+        if is_of(request, "history"):
+            roots, kept = files_of(state)
+            marks = [line.split(" ")[-1] for line in kept if line.startswith("watched ")]
+            found.append((len(roots), len(output.read_text().splitlines()), marks[-1:]))
+        return many_epochs_end(200)(provider, request, reply) if is_of(request, "head") and provider.count > 1 else reply
+
+    provider = Provider(begun(0, from_run(2, lie)))
+    with tempfile.TemporaryDirectory() as folder:
+        state, output = f"{folder}/state", pathlib.Path(f"{folder}/output")
+        for script, _ in (BEGUN, run_of_lines("close 3", "watch 61 6b31", "head")):
+            provider.begin()
+            with output.open("wb") as file:
+                ran(program, provider, script, state, stdout=file)
+    # Of each list that is asked for: how many roots are saved by then, how many lines are written, and the last mark.
+    wanted = [(2, 0, ["2"]), *[(3 + 64 * lists, 2 + 64 * lists, [f"{3 + 64 * lists}"]) for lists in range(4)]]
+    return None if found == wanted else f"list by list: wanted {wanted}, got {found}"
+
+
+def many_honest_epochs(program):
+    """The epochs of two weeks of minutes are taken in one run, in two parts."""
+    provider = Provider(lies((2, "head", many_epochs_end(10080)))())
+    with tempfile.TemporaryDirectory() as folder:
+        for script, words in (BEGUN, run_of_words("head")):
+            provider.begin()
+            got = ran(program, provider, b"" if words else script, f"{folder}/state", words)
+    wanted = ["root 20162 after 20161"], [], 0
+    return None if got == wanted else f"many epochs: {got}"
+
+
 def evidence_unwritten(program):
     """Evidence that could not be written is kept."""
     provider = Provider(lies((2, None, directory_goes_back(1)))())
@@ -1169,7 +1316,7 @@ def settled_badly(program):
 
 OTHERS = (
     changed_by_another, alarm_unwritten, change_unwritten, alarm_and_fault, line_by_line, input_of_others,
-    evidence_unwritten, evidence_and_fault, older_form, changes_turned_round, settled_alone, settled_badly, names_as_text, unconnected, without_state,
+    list_by_list, many_honest_epochs, evidence_unwritten, evidence_and_fault, older_form, changes_turned_round, settled_alone, settled_badly, names_as_text, unconnected, without_state,
     stale_unwritten,
 )
 

@@ -11,6 +11,7 @@ failed`, and the status is 0 where none failed.
 
 import argparse
 import contextlib
+import functools
 import itertools
 import os
 import pathlib
@@ -218,10 +219,11 @@ class Life:
 
 
 def begun(program, folder):
-    """Two states with a script whose run is to be stopped: a new one; and one with roots, marks and promises, and last
-    lines that were cut short."""
+    """States with a script whose run is to be stopped, how many calls of that change a file at least, and the statuses that
+    it may have if it cannot write (3 behind evidence): a new one; one with roots, marks and promises, and last lines that
+    were cut short; and one that tells evidence."""
     script = b"watch 61 -\nregister 61 6b31\nclose 2\nlookup 61 0\nregister 62 6b31\nwatch 62 -\n"
-    yield "a new state", Life(folder, random.Random(1)), script
+    yield "a new state", Life(folder, random.Random(1)), script, 16, {1}
     life = Life(folder, random.Random(1))
     life.epoch, life.names = 3, ["61", "62", "63"]
     runs = b"register 61 6b31\nregister 62 6b31\nclose 2\nwatch 61 6b31\n", b"change 61 6b32\nregister 63 6b31\nclose 3\n"
@@ -231,7 +233,16 @@ def begun(program, folder):
             file.write(rest)
     assert wrong == [None, None], wrong
     script = b"watch 64 -\nregister 64 6b31\nwatch 61 6b32\nclose 9\nregister 65 6b31\nwatch 62 6b31\n"
-    yield "a state", life, script
+    yield "a state", life, script, 16, {1}
+    os.mkdir(f"{folder}/forked")
+    life = Life(f"{folder}/forked", random.Random(1))
+    life.epoch, life.names = 3, ["61", "62"]
+    wrong = life.run(program, b"register 61 6b31\nregister 62 6b31\nclose 2\nwatch 61 6b31\n")
+    fork = life.provider.copied()
+    assert [wrong, life.run(program, b"close 3\nhead\n")] == [None, None], wrong
+    fork.hub.directory.rotate(3, bytes([5]) * 32)
+    life.provider = fork
+    yield "a state of a fork", life, b"watch 61 6b32\nregister 63 6b31\nwatch 62 -\n", 6, {1, 3}
 
 
 def calls(program, library, life, script):
@@ -247,9 +258,9 @@ def calls(program, library, life, script):
 def at_each_call(program, library, ways, is_end):
     """Runs that are stopped at each of their calls in turn, in each of these ways."""
     with tempfile.TemporaryDirectory() as folder, ThreadPoolExecutor(BESIDE) as pool:
-        for name, life, script in begun(program, folder):
+        for name, life, script, least, statuses in begun(program, folder):
             count = calls(program, library, life, script)
-            yield None if count > 15 else f"{name}: only {count} calls change a file"
+            yield None if least <= count else f"{name}: only {count} calls change a file"
             cases = []
             for way in ways:
                 for number in range(1, count + 1):
@@ -258,7 +269,7 @@ def at_each_call(program, library, ways, is_end):
 
             def stop(case):
                 own, life, how = case
-                wrong = life.stop(program, script, is_end, **how)[1]
+                wrong = life.stop(program, script, functools.partial(is_end, statuses), **how)[1]
                 return wrong and f"{os.path.basename(own)}: {wrong}"
 
             yield from pool.map(stop, cases)
@@ -270,7 +281,7 @@ def is_killed(_errors, status):
 
 def kills(program, library, seed, count):
     """Kills at each call, and at other moments."""
-    found = list(at_each_call(program, library, ("kill", "torn"), is_killed))
+    found = list(at_each_call(program, library, ("kill", "torn"), lambda _, *end: is_killed(*end)))
     yield from found
     lives = range(seed, seed + max(count - len(found), 0) // KILLS_OF_A_STATE + 1)
     with ThreadPoolExecutor(BESIDE) as pool:
@@ -296,8 +307,8 @@ def killed_at_times(program, seed):
 def full_disk(program, library):
     """Calls that fail: one alone, or it and all after it, or so that half of a write is written."""
 
-    def is_end(errors, status):
-        return status == 1 and errors[-1:] == ["cannot write"]
+    def is_end(wanted, errors, status):
+        return status in wanted and errors[-1:] == ["cannot write"]
 
     return at_each_call(program, library, ("once", "full", "short"), is_end)
 

@@ -1,5 +1,6 @@
 -- What a state learns and hands on, step by step.
-use Rattle.std.proofs.Common.{◌≡◌, ◌∙◌, ℕ, zero, suc, true, false, List, [], ◌∷◌, ◌++◌, drop, Contains, arith, inl, inr, refl, subst, sym}
+use Rattle.std.proofs.Common.{◌≡◌, ◌∙◌, ◌+◌, ◌<◌, ℕ, zero, suc, true, false, List, [], ◌∷◌, ◌++◌, drop, length, length-append, append-nil, Contains, ap, arith, inl, inr, refl, subst, sym}
+use Rattle.std.specs.Prelude.{slice_index_or}
 use Rattle.std.specs.List.{AllByRecursion}
 use Rattle.rootchain.specs.Chains.{KeyedRoots}
 use Rattle.rootchain.specs.Promises.{IsSignedPromise}
@@ -63,3 +64,16 @@ promised-formed hash verified chain (signed ∷ promises) all = (all.0.form, pro
 pub fresh-formed : (memory : Memory) (kept fresh : List SignedPromise) → IsFresh memory kept fresh → AllByRecursion IsSignedPromise kept → AllByRecursion IsSignedPromise fresh
 fresh-formed memory kept fresh (none, inl same) all = subst (AllByRecursion IsSignedPromise) same all
 fresh-formed memory kept fresh (none, inr (front, last, parts, has)) all = (back-all IsSignedPromise front (last ∷ fresh) (subst (AllByRecursion IsSignedPromise) parts all)).1
+
+-- the element of a list behind the first ones
+pub next-of : {A : Type 0} (xs rest : List A) (x : A) → length xs < length (xs ++ rest) → ((d : A) → slice_index_or (xs ++ rest) (length xs) d ≡ x) → (behind : List A) × (rest ≡ x ∷ behind)
+next-of [] [] x there at = absurd (omega (arith, there))
+next-of [] (y ∷ rest) x there at = (rest, ap (λ z. z ∷ rest) (at y))
+next-of (y ∷ xs) rest x there at = next-of xs rest x (omega (arith, there)) at
+
+-- the first elements of a list are all of it if they are as many
+pub all-there : {A : Type 0} (xs all rest : List A) → all ≡ xs ++ rest → length xs ≡ length all → xs ≡ all
+all-there xs all [] is same = sym (is ∙ append-nil xs)
+all-there xs all (x ∷ rest) is same =
+    let longer : length all ≡ length xs + suc (length rest) = ap length is ∙ length-append xs (x ∷ rest) in
+    absurd (omega (arith, same, longer))

@@ -16,8 +16,9 @@ use Rattle.play.specs.Scripts.{with_token}
 use Rattle.asking.specs.declared.asker.Asker.{Asker}
 use Rattle.memory.specs.declared.mark.Mark.{Mark}
 use Rattle.asking.specs.declared.said.Said.{Said}
-use Rattle.asking.specs.Asking.{AsksDirectory, CatchesUp, FindsHead, GetsReply, GoesOnAbove, Hands, HandsAll, IsChange, Notes, SpeaksOf}
+use Rattle.asking.specs.Asking.{GetsReply, GoesOnAbove, Hands, HandsAll, HearsReply, IsChange, Notes, SpeaksOf}
 use Rattle.asking.specs.Checking.{HearsFrame}
+use Rattle.asking.specs.Exchanges.{HoldsFrame}
 use Rattle.asking.specs.Scenes.{scene, Scene}
 use Rattle.asking.specs.Reports.{Report, Tells, report_of, silent, told_after, unless_fine}
 use Rattle.asking.proofs.Going.{told_onto}
@@ -60,6 +61,14 @@ pub notes_as : (asked : RequestContent) (before after : List SignedPromise) (fir
 notes_as asked before after first noted noted' last old new notes =
     let from = subst (λ (all : Vec SignedPromise Global). Notes asked before after all.items noted'.items) old notes in
     subst (λ (all : Vec SignedPromise Global). Notes asked before after first.items all.items) (sym new) from
+
+-- bytes hold one frame
+abbrev first-of : {A B E : Type 0} → A → Result (A × B) E → A
+first-of other (Ok (one, rest)) = one
+first-of other (Err why) = other
+
+pub same_frame : (bytes : List ℕ) (one other : Frame) → HoldsFrame bytes one → HoldsFrame bytes other → one ≡ other
+same_frame bytes one other (left, is) (left', is') = ap (λ r. first-of one r) (sym is ∙ is')
 
 -- it is told behind nothing
 told_alone : (told : Report) → told_after silent told ≡ told
@@ -127,53 +136,21 @@ module _ (hash : List ℕ → List ℕ) (accepted verified : List ℕ → List �
     speaks = subst (λ (n : ℕ). SpeaksOf n asked frame epoch) at speaks;
   }
 
-  -- the steps of a question, in their order
-  pub asks_all : {A E H V S T : Type 0} (exchanged : T → RequestContent → Frame → T → Type 0) (result : Result A E) (first ready heard last : Asker H V S) (said caught told_to said' : Said)
-      (stream sent later end : T) (asked : RequestContent) (frame : Frame) (head : SignedRoot) (low epoch : ℕ) (told handed : Report)
-      → IsHead first.client.chain head → low ≡ head.body.epoch → exchanged stream (with_token first.token asked) frame sent → SpeaksOf low asked frame epoch
-      → CatchesUp hash accepted verified exchanged epoch (scene first said sent) (scene ready caught later)
-      → HearsFrame hash accepted verified low ready.client asked frame told heard.client
-      → Hands hash accepted verified asked frame.body ready.client.promises heard.client.promises ready.monitors.items handed heard.monitors.items
-      → report_of told_to ≡ told_after (told_after (report_of caught) told) handed
-      → Notes asked ready.client.promises heard.client.promises first.changes.items last.changes.items → heard.marks ≡ first.marks
-      → OnOk result (GoesOnAbove hash accepted verified exchanged heard.marks.items low (scene heard told_to later) (scene last said' end))
-      → OnOk result (AsksDirectory hash accepted verified exchanged first.marks.items first.token asked first.changes.items last.changes.items (scene first said stream) (scene last said' end))
-  asks_all exchanged (Ok done) first ready heard last said caught told_to said' stream sent later end asked frame head low epoch told handed is at exchange speaks catches hears hands tells notes marks goes =
-      let above = subst (λ (m : Vec Mark Global). GoesOnAbove hash accepted verified exchanged m.items low (scene heard told_to later) (scene last said' end)) marks goes in
-      record {
-        reply = reply_to exchanged first.token asked (scene first said stream) sent frame head low epoch is at exchange speaks;
-        ready = scene ready caught later;
-        catches = catches;
-        heard = scene heard told_to later;
-        hears = record {
-          told = told;
-          hears = subst (λ (n : ℕ). HearsFrame hash accepted verified n ready.client asked frame told heard.client) at hears;
-          handed = handed;
-          hands = hands;
-          tells = tells;
-          stream = refl;
-        };
-        notes = notes;
-        goes = subst (λ (n : ℕ). GoesOnAbove hash accepted verified exchanged first.marks.items n (scene heard told_to later) (scene last said' end)) at above;
-      }
-  asks_all exchanged (Err fault) first ready heard last said caught told_to said' stream sent later end asked frame head low epoch told handed is at exchange speaks catches hears hands tells notes marks goes = tt
-
-  -- the latest root was asked for, and it is in the chain or refused
-  pub finds_all : {A E H V S T : Type 0} (exchanged : T → RequestContent → Frame → T → Type 0) (result : Result A E) (first ready last : Asker H V S) (said caught said' : Said) (stream sent later : T) (frame : Frame)
-      (head : SignedRoot) (low epoch : ℕ) → IsHead first.client.chain head → low ≡ head.body.epoch → exchanged stream (with_token first.token (Query Head)) frame sent → SpeaksOf low (Query Head) frame epoch
-      → CatchesUp hash accepted verified exchanged epoch (scene first said sent) (scene ready caught later) → last.monitors ≡ ready.monitors
-      → OnOk result ((told : Report) × HearsFrame hash accepted verified low ready.client (Query Head) frame told last.client × (report_of said' ≡ told_after (report_of caught) (unless_fine told)))
-      → OnOk result (FindsHead hash accepted verified exchanged first.token (scene first said stream) (scene last said' later))
-  finds_all exchanged (Ok done) first ready last said caught said' stream sent later frame head low epoch is at exchange speaks catches same (told, hears, tells) = record {
-    reply = reply_to exchanged first.token (Query Head) (scene first said stream) sent frame head low epoch is at exchange speaks;
-    ready = scene ready caught later;
-    catches = catches;
-    told = told;
-    hears = subst (λ (n : ℕ). HearsFrame hash accepted verified n ready.client (Query Head) frame told last.client) at hears;
-    tells = tells;
-    same = (ap (λ (ms : Vec Monitor Global). ms.items) same, refl);
+  -- a reply was heard, step by step
+  pub hears_all : {A E H V S T : Type 0} (exchanged : T → RequestContent → Frame → T → Type 0) (result : Result A E) (first heard last : Asker H V S) (said told_to said' : Said) (stream end : T) (asked : RequestContent) (frame : Frame) (held : ℕ) (told handed : Report)
+      → HearsFrame hash accepted verified held first.client asked frame told heard.client
+      → Hands hash accepted verified asked frame.body first.client.promises heard.client.promises first.monitors.items handed heard.monitors.items
+      → report_of told_to ≡ told_after (told_after (report_of said) told) handed
+      → Notes asked first.client.promises heard.client.promises first.changes.items last.changes.items → heard.marks ≡ first.marks
+      → OnOk result (GoesOnAbove hash accepted verified exchanged heard.marks.items held (scene heard told_to stream) (scene last said' end))
+      → OnOk result (HearsReply hash accepted verified exchanged first.marks.items held asked frame first.changes.items last.changes.items (scene first said stream) (scene last said' end))
+  hears_all exchanged (Ok done) first heard last said told_to said' stream end asked frame held told handed hears hands tells notes marks goes = record {
+    heard = scene heard told_to stream;
+    hears = record { told = told; hears = hears; handed = handed; hands = hands; tells = tells; stream = refl };
+    notes = notes;
+    goes = subst (λ (m : Vec Mark Global). GoesOnAbove hash accepted verified exchanged m.items held (scene heard told_to stream) (scene last said' end)) marks goes;
   }
-  finds_all exchanged (Err why) first ready last said caught said' stream sent later frame head low epoch is at exchange speaks catches same finds = tt
+  hears_all exchanged (Err fault) first heard last said told_to said' stream end asked frame held told handed hears hands tells notes marks goes = tt
 
   -- the latest root was refused, which is told
   pub finds_refused : {A E : Type 0} (result : Result A E) (held : ℕ) (client after : Client) (frame : Frame) (told : Report) (empty now said said' : Said) → report_of empty ≡ silent → now.status ≢ 0

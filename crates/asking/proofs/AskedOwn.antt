@@ -1,15 +1,16 @@
 -- Which promises a memory has as the owner's own once it learned more.
-use Rattle.std.proofs.Common.{◌≡◌, ◌∙◌, ◌⊎◌, ℕ, ◌||◌, Bool, true, false, List, [], ◌∷◌, ◌++◌, drop, map, Contains, Option, ap, append-nil, arith, inl, inr, refl, subst, sym}
+use Rattle.std.proofs.Common.{◌≡◌, ◌∙◌, ◌⊎◌, ℕ, ◌||◌, Bool, true, false, List, [], ◌∷◌, ◌++◌, drop, map, Any, Contains, Option, ap, append-nil, arith, inl, inr, refl, subst, sym}
 use Rattle.std.specs.List.{AllByRecursion}
 use Rattle.std.proofs.lemmas.List.Elements.{Contains-append_cases, Contains-append_left, Contains-append_right}
 use Rattle.rootchain.specs.Promises.{IsSignedPromise}
 use Rattle.rootchain.specs.declared.signed_promise.SignedPromise.{SignedPromise}
 use Rattle.monitor.specs.Monitors.{Monitor}
 use Rattle.memory.specs.Learning.{promised_item, BeginsOne, Each, EachOfSome, IsOfKind, LearnsLine, LearnsOne, MarksOne}
-use Rattle.memory.specs.Leaving.{Leaves}
+use Rattle.memory.specs.Leaving.{IsNeeded, Leaves}
 use Rattle.memory.specs.Lists.{IsLeft}
 use Rattle.memory.specs.Memories.{Memory}
 use Rattle.memory.specs.Taking.{either, Takes}
+use Rattle.memory.specs.Watching.{IsAwaited}
 use Rattle.memory.specs.declared.item.Item.{Item}
 use Rattle.memory.specs.declared.item.Item.TheVariants.{Promised, Watched, Alarm, Evidence}
 use Rattle.memory.specs.declared.kind.Kind.{Kind}
@@ -202,6 +203,28 @@ left-among Stays (x ∷ xs) ys y (inl (stays, (rest, is, left))) has = elim (con
   | inr more ↦ cons-front x y xs (left-among Stays xs rest y left more)
 ]
 left-among Stays (x ∷ xs) ys y (inr (goes, left)) has = cons-front x y xs (left-among Stays xs ys y left has)
+
+left-there : {A : Type 0} (Stays : A → Type 0) (xs ys : List A) (x : A) → IsLeft Stays xs ys → Contains xs x → Stays x → Contains ys x
+left-there Stays [] ys x none has stays = absurd (omega (arith, has.1))
+left-there Stays (first ∷ xs) ys x (inl (here, (rest, is, left))) has stays =
+    let there : Contains (first ∷ rest) x = elim (cons-cases first x xs has) [
+      | inl same ↦ (0, omega arith, same)
+      | inr more ↦ cons-front first x rest (left-there Stays xs rest x left more stays)
+    ] in
+    subst (λ all. Contains all x) (sym is) there
+left-there Stays (first ∷ xs) ys x (inr (goes, left)) has stays = elim (cons-cases first x xs has) [
+  | inl same ↦ absurd (goes (subst Stays (sym same) stays))
+  | inr more ↦ left-there Stays xs ys x left more stays
+]
+
+-- one that a mark awaits is
+pub leaves-awaited : (tested : List SignedPromise) (before after : Memory) → Leaves tested before after → (signed : SignedPromise) → WasOwn before signed → Any (IsAwaited signed) before.marks → WasOwn after signed
+leaves-awaited tested before after (left, is) signed (promised, has, this, own) awaits = (
+  promised,
+  left-there (IsNeeded tested before.marks) before.promises after.promises promised left has (inr (own, subst (λ (s : SignedPromise). Any (IsAwaited s) before.marks) (sym this) awaits)),
+  this,
+  own,
+)
 
 pub leaves-own : (tested : List SignedPromise) (before after : Memory) → Leaves tested before after → AddsNoOwn before after
 leaves-own tested before after (left, is) signed (promised, has, this, own) = (promised, left-among _ before.promises after.promises promised left has, this, own)

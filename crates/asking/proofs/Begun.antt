@@ -84,6 +84,7 @@ module _ (hash : List ℕ → List ℕ) (accepted verified : List ℕ → List �
     is-out = ap Some (sym (append-nil old));
     all = ((refl, spells), refl);
     saved = start.known;
+    had = λ signed was. was;
     whole = whole;
     spells = spells;
     ahead = refl;

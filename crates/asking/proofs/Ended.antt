@@ -1,5 +1,5 @@
 -- How a run ends before all is asked.
-use Rattle.std.proofs.Common.{◌≡◌, ◌≢◌, ◌⊎◌, ◌∙◌, ◌<◌, ◌≤◌, ℕ, true, List, [], ◌∷◌, ◌++◌, Bor, Option, None, Some, Result, Ok, Err, ap, option_map, append-nil, append_assoc, inl, inr, refl, rules, subst, sym}
+use Rattle.std.proofs.Common.{◌≡◌, ◌≢◌, ◌⊎◌, ◌∙◌, ◌<◌, ◌≤◌, ℕ, Bool, true, false, List, [], ◌∷◌, ◌++◌, Bor, Option, None, Some, Result, Ok, Err, ap, option_map, append-nil, append_assoc, inl, inr, refl, rules, subst, sym}
 use Rattle.std.specs.Prelude.{IfErr, IfOk, IfSome, OnErr, OnOk}
 use Rattle.std.proofs.KnownBytes.{Appends-nil, Appends-trans, Keeps-refl}
 use Rattle.nodehash.specs.Sha256.{sha256}
@@ -14,10 +14,9 @@ use Rattle.std.specs.Io.KnownBytes.{Appends}
 use Rattle.asking.specs.declared.ask_fault.RunFault.{RunFault}
 use Rattle.asking.specs.declared.ask_fault.RunFault.TheVariants.{Program}
 use Rattle.wire.specs.Frames.{Frame}
-use Rattle.commands.specs.Operations.{Head}
-use Rattle.wire.specs.Requests.{RequestContent, Query}
+use Rattle.wire.specs.Requests.{RequestContent}
 use Rattle.play.specs.Reading.{TakesWholeLine}
-use Rattle.play.specs.Scripts.{ScriptLine, Ask, Watch, line_of}
+use Rattle.play.specs.Scripts.{ScriptLine, Watch, line_of}
 use Rattle.asking.specs.declared.ask_fault.AskFault.{AskFault}
 use Rattle.asking.specs.declared.ask_fault.AskFault.TheVariants as fault
 use Rattle.asking.specs.declared.asker.Asker.{Asker}
@@ -27,21 +26,23 @@ use Rattle.asking.specs.declared.run.RunEnd.{RunEnd}
 use Rattle.asking.specs.declared.run.RunEnd.TheVariants.{Whole, Stopped, Unwritten, Stale}
 use Rattle.asking.specs.declared.said.Said.{Said}
 use Rattle.asking.specs.AskOptions.{AskOptions, ask_keys_of, ask_values}
-use Rattle.asking.specs.Asking.{AsksDirectory, AsksSome, FindsSome, StopsAsking}
+use Rattle.asking.specs.Asking.{HearsHead, HearsReply, HearsSome}
 use Rattle.asking.specs.Lateness.{stale_line, subject_in, HasEpoch, IsLast}
 use Rattle.asking.specs.RunFaults.{IsFaultOfSaving, IsFaultOfState}
 use Rattle.asking.specs.declared.lateness.Limit.{Limit}
 use Rattle.asking.specs.declared.lateness.Subject.{Subject}
 use Rattle.asking.specs.declared.connecting.Connection.{Connection}
-use Rattle.asking.specs.Ending.{AsksAs, AsksNext, AsksOverSocket, AsksPart, AsksSomeLine, BeginsNone, DoesSome, end_status, EndsEarly, EndsStale, EndsWith, FailsAs, FailsLate, FailsOverSocket, FailsWith, HasFirst, HasLast, HoldsBack, IsUnknown, LoadsNone, PreparesSome, RunEndsAt, RunsAs, RunsLate, Sees, stopped_status, TakesSomeNew, WritesUnless}
+use Rattle.asking.specs.Ending.{AdvancesPart, AsksAs, AsksNext, AsksOverSocket, AsksPart, AsksSomeLine, BeginsNone, DoesSome, end_status, EndsEarly, EndsStale, EndsWith, FailsAs, FailsLate, FailsOverSocket, FailsWith, HasFirst, HasLast, HoldsBack, IsUnknown, LoadsNone, LooksSome, PreparesSome, RunEndsAt, RunsAs, RunsLate, Sees, stopped_status, WritesUnless}
+use Rattle.asking.specs.Catching.{Advances, AdvancesSome}
 use Rattle.asking.specs.Exchanges.{ExchangesFrames}
-use Rattle.asking.specs.Following.{StopsAfter, TakesSome}
+use Rattle.asking.specs.Following.{IsBelow, StopsList}
 use Rattle.asking.specs.Joining.{own_for, BeginsSome, BeginsWatch}
 use Rattle.asking.specs.Reports.{Report, report_of}
-use Rattle.asking.specs.Runs.{AsksLines, BeginsAsking, StartsRun, emptied, Background, lines_asked, Prepares, RunsWhole, TakesNew, Writes}
+use Rattle.asking.specs.Runs.{AsksLines, BeginsAsking, StartsRun, emptied, Background, lines_asked, Prepares, RunsWhole, Writes}
 use Rattle.asking.specs.Scenes.{HaltsAfter, Scene, StopsAtHead}
 use Rattle.asking.specs.Visiting.{TestsAll, TestsSome}
 use Rattle.asking.proofs.Ran.{LeadsOn, none_before}
+use Rattle.asking.proofs.Standing.{HearsAny}
 
 same-fault : (one other : ProgramFault) → ◌≡◌ {A = Result (Unit {0}) RunFault} (Err (Program one)) (Err (Program other)) → one ≡ other
 same-fault one other e = cc
@@ -60,6 +61,15 @@ no-memory same = search (rules, same)
 pub err_so : {A E P : Type 0} (result : Result A E) → P → OnErr result P
 err_so (Ok done) holds = tt
 err_so (Err why) holds = holds
+
+err_of : {A E : Type 0} → E → Result A E → E
+err_of none (Ok done) = none
+err_of none (Err why) = why
+
+-- an error that is passed on is the same one
+pub err_passed : {A B E : Type 0} (first : Result A E) (result : Result B E) (why why' : E) → first ≡ Err why → result ≡ Err why → first ≡ Err why' → result ≡ Err why'
+unfolding err_of
+err_passed {A} {B} {E} first result why why' at passed failed = passed ∙ ap (λ (e : E). let r : Result B E = Err e in r) (ap (λ (r : Result A E). err_of why r) (sym at ∙ failed))
 
 abbrev WriteFailed : Result (Unit {0}) RunFault → Type 0
 WriteFailed outcome = outcome ≡ Err (Program CannotWrite)
@@ -144,47 +154,35 @@ module _ (hash : List ℕ → List ℕ) (accepted verified : List ℕ → List �
   module _ (background : Background) where
     -- ---- which scene is reached
 
-    module _ (HasNoState : Type 0) where
-      -- some roots are taken, where there is no state
-      pub some_followed : {H V S A : Type 0} (result : Result A AskFault) (before after : Scene T) (asker : Asker H V S) (said : Said) → HasNoState → report_of said ≡ after.told
-          → (result ≡ Err fault.Stopped → (count : ℕ) × StopsAfter hash verified exchanged count before after)
-          → IfErr result (λ why. why ≢ fault.Stopped → HaltsAfter (TakesSome hash verified exchanged before) why asker said)
-          → OnErr result ((reached : Scene T) × TakesSomeNew hash accepted verified exchanged background HasNoState before reached × (report_of said ≡ reached.told))
-      some_followed (Ok done) before after asker said none same stops halts = tt
-      some_followed (Err fault.NoReply) before after asker said none same stops halts = let (reached, takes, halted) = halts no-reply in (reached, inl (none, inl takes), halted.0)
-      some_followed (Err fault.Stopped) before after asker said none same stops halts = (after, inl (none, inr (stops refl)), same)
-      some_followed (Err fault.OutOfMemory) before after asker said none same stops halts = let (reached, takes, halted) = halts no-memory in (reached, inl (none, inl takes), halted.0)
+    -- the latest root is heard, and the promises are tested, or some
+    pub looked_reaches : {H V S A : Type 0} (held : ℕ) (frame : Frame) (marks : List Mark) (result : Result A AskFault) (before middle after : Scene T) (asker : Asker H V S) (said : Said) → report_of said ≡ after.told → marks ≡ background.marks
+        → HearsHead hash accepted verified exchanged held frame before middle
+        → OnOk result (TestsAll hash accepted exchanged marks middle after) → IfErr result (λ why. HaltsAfter (TestsSome hash accepted exchanged marks middle) why asker said)
+        → (reached : Scene T) × LooksSome hash accepted verified exchanged background held frame before reached × (report_of said ≡ reached.told)
+    looked_reaches held frame marks (Ok done) before middle after asker said same is hears tests halts =
+        (after, inr (middle, hears, inl (subst (λ (m : List Mark). TestsAll hash accepted exchanged m middle after) is tests)), same)
+    looked_reaches held frame marks (Err why) before middle after asker said same is hears tests (reached, some, halted) =
+        (reached, inr (middle, hears, inr (subst (λ (m : List Mark). TestsSome hash accepted exchanged m middle reached) is some)), halted.0)
 
-      -- or some up to the latest one, where there is one
-      pub some_found : {H V S A : Type 0} (result : Result A AskFault) (before after : Scene T) (asker : Asker H V S) (said : Said) → ¬ HasNoState → report_of said ≡ after.told
-          → (result ≡ Err fault.Stopped → StopsAsking hash accepted verified exchanged background.token (Query Head) before after)
-          → IfErr result (λ why. why ≢ fault.Stopped → HaltsAfter (FindsSome hash accepted verified exchanged background.token before) why asker said)
-          → OnErr result ((reached : Scene T) × TakesSomeNew hash accepted verified exchanged background HasNoState before reached × (report_of said ≡ reached.told))
-      some_found (Ok done) before after asker said some same stops halts = tt
-      some_found (Err fault.NoReply) before after asker said some same stops halts = let (reached, finds, halted) = halts no-reply in (reached, inr (some, inl finds), halted.0)
-      some_found (Err fault.Stopped) before after asker said some same stops halts = (after, inr (some, inr (stops refl)), same)
-      some_found (Err fault.OutOfMemory) before after asker said some same stops halts = let (reached, finds, halted) = halts no-memory in (reached, inr (some, inl finds), halted.0)
+    -- a list is taken on the way to an epoch, or some of what comes with it is done, or it stops
+    pub advanced_reaches : {H V S : Type 0} (epoch : ℕ) (result : Result Bool AskFault) (before after : Scene T) (asker : Asker H V S) (said : Said) → report_of said ≡ after.told → result ≢ Ok false
+        → IfOk result (λ goes. Advances hash accepted verified exchanged epoch before goes after)
+        → (result ≡ Err fault.Stopped → IsBelow epoch before.client × StopsList hash verified exchanged before after)
+        → IfErr result (λ why. why ≢ fault.Stopped → IsBelow epoch before.client × HaltsAfter (AdvancesSome hash accepted verified exchanged epoch before) why asker said)
+        → (reached : Scene T) × AdvancesPart hash accepted verified exchanged background epoch before reached × (report_of said ≡ reached.told)
+    advanced_reaches epoch (Ok true) before after asker said same goes advances stops halts = (after, (advances.0, inl advances), same)
+    advanced_reaches epoch (Ok false) before after asker said same goes advances stops halts = absurd (goes refl)
+    advanced_reaches epoch (Err fault.NoReply) before after asker said same goes advances stops halts = let (low, (reached, some, halted)) = halts no-reply in (reached, (low, inr (inr some)), halted.0)
+    advanced_reaches epoch (Err fault.Stopped) before after asker said same goes advances stops halts = let (low, list) = stops refl in (after, (low, inr (inl list)), same)
+    advanced_reaches epoch (Err fault.OutOfMemory) before after asker said same goes advances stops halts = let (low, (reached, some, halted)) = halts no-memory in (reached, (low, inr (inr some)), halted.0)
 
-      -- and the promises tested, or some
-      pub tested_reaches : {H V S A : Type 0} (marks : List Mark) (result : Result A AskFault) (before middle after : Scene T) (asker : Asker H V S) (said : Said) → report_of said ≡ after.told → marks ≡ background.marks
-          → TakesNew hash accepted verified exchanged background HasNoState before middle
-          → OnOk result (TestsAll hash accepted exchanged marks middle after) → IfErr result (λ why. HaltsAfter (TestsSome hash accepted exchanged marks middle) why asker said)
-          → (reached : Scene T) × PreparesSome hash accepted verified exchanged background HasNoState before reached × (report_of said ≡ reached.told)
-      tested_reaches marks (Ok done) before middle after asker said same is takes tests halts =
-          (after, inl (middle, takes, subst (λ (m : List Mark). TestsAll hash accepted exchanged m middle after) is tests), same)
-      tested_reaches marks (Err why) before middle after asker said same is takes tests (reached, some, halted) =
-          (reached, inr (inr (middle, takes, subst (λ (m : List Mark). TestsSome hash accepted exchanged m middle reached) is some)), halted.0)
-
-    -- a line is asked, or some of it
-    pub asked_reaches : {H V S A : Type 0} (asked : RequestContent) (noted noted' : List SignedPromise) (result : Result A AskFault) (before after : Scene T) (asker : Asker H V S) (said : Said) → report_of said ≡ after.told
-        → OnOk result (AsksDirectory hash accepted verified exchanged background.marks background.token asked noted noted' before after)
-        → (result ≡ Err fault.Stopped → StopsAsking hash accepted verified exchanged background.token asked before after)
-        → IfErr result (λ why. why ≢ fault.Stopped → HaltsAfter (AsksSome hash accepted verified exchanged why background.marks background.token asked noted noted' before) why asker said)
-        → (reached : Scene T) × DoesSome hash accepted verified exchanged background (Ask asked) before reached × (report_of said ≡ reached.told)
-    asked_reaches asked noted noted' (Ok done) before after asker said same asks stops halts = (after, inr (inl (noted, noted', asks)), same)
-    asked_reaches asked noted noted' (Err fault.NoReply) before after asker said same asks stops halts = let (reached, some, halted) = halts no-reply in (reached, inr (inr (inr (fault.NoReply, noted, noted', some))), halted.0)
-    asked_reaches asked noted noted' (Err fault.Stopped) before after asker said same asks stops halts = (after, inr (inr (inl (stops refl))), same)
-    asked_reaches asked noted noted' (Err fault.OutOfMemory) before after asker said same asks stops halts = let (reached, some, halted) = halts no-memory in (reached, inr (inr (inr (fault.OutOfMemory, noted, noted', some))), halted.0)
+    -- a reply is heard, or some of it
+    pub heard_reaches : {H V S A : Type 0} (held : ℕ) (asked : RequestContent) (frame : Frame) (noted noted' : List SignedPromise) (result : Result A AskFault) (before after : Scene T) (asker : Asker H V S) (said : Said) → report_of said ≡ after.told
+        → OnOk result (HearsReply hash accepted verified exchanged background.marks held asked frame noted noted' before after)
+        → IfErr result (λ why. HaltsAfter (HearsSome hash accepted verified exchanged why background.marks held asked frame noted noted' before) why asker said)
+        → (why : AskFault) × (reached : Scene T) × HearsAny hash accepted verified exchanged background why held asked frame noted noted' before reached × (report_of said ≡ reached.told)
+    heard_reaches held asked frame noted noted' (Ok done) before after asker said same hears halts = (fault.NoReply, after, inl hears, same)
+    heard_reaches held asked frame noted noted' (Err why) before after asker said same hears (reached, some, halted) = (why, reached, inr some, halted.0)
 
     -- a name is watched, or some of its epochs
     pub watched_reaches : {H V S A : Type 0} (name : List ℕ) (given given' : Option (List ℕ)) (noted : List SignedPromise) (result : Result A AskFault) (before after : Scene T) (asker : Asker H V S) (said : Said) → given ≡ given' → report_of said ≡ after.told
@@ -334,21 +332,13 @@ module _ (hash : List ℕ → List ℕ) (accepted verified : List ℕ → List �
         by (inl head) = inl head
         by (inr (state, same, sound, kept)) = inr ((λ none. state (without none)), same, sound, kept)
 
-    new-with : (background : Background) (before after : Scene T) → TakesNew hash accepted verified exchanged background NoState before after → TakesNew hash accepted verified exchanged background None' before after
-    new-with background before after (inl (none, count, follows)) = inl (within none, count, follows)
-    new-with background before after (inr (some, finds)) = inr ((λ none. some (without none)), finds)
-
-    some-new-with : (background : Background) (before after : Scene T) → TakesSomeNew hash accepted verified exchanged background NoState before after → TakesSomeNew hash accepted verified exchanged background None' before after
-    some-new-with background before after (inl (none, takes)) = inl (within none, takes)
-    some-new-with background before after (inr (some, finds)) = inr ((λ none. some (without none)), finds)
-
     prepares-with : (background : Background) (before after : Scene T) → Prepares hash accepted verified exchanged background NoState before after → Prepares hash accepted verified exchanged background None' before after
-    prepares-with background before after (middle, takes, tests) = (middle, new-with background before middle takes, tests)
+    prepares-with background before after (inl (none, same)) = inl (within none, same)
+    prepares-with background before after (inr (some, finds)) = inr ((λ none. some (without none)), finds)
 
     pub some_prepares_with : (background : Background) (before after : Scene T) → PreparesSome hash accepted verified exchanged background NoState before after → PreparesSome hash accepted verified exchanged background None' before after
     some_prepares_with background before after (inl prepares) = inl (prepares-with background before after prepares)
-    some_prepares_with background before after (inr (inl takes)) = inr (inl (some-new-with background before after takes))
-    some_prepares_with background before after (inr (inr (middle, takes, tests))) = inr (inr (middle, new-with background before middle takes, tests))
+    some_prepares_with background before after (inr (some, finds)) = inr ((λ none. some (without none)), finds)
 
     pub writes_with : (background : Background) (before : Scene T) (old now : Option (List ℕ)) (after : Scene T) → Writes (Prepares hash accepted verified exchanged background NoState) before old now after
         → Writes (Prepares hash accepted verified exchanged background None') before old now after

@@ -10,15 +10,16 @@ use Rattle.memory.specs.Memories.{Memory}
 use Rattle.memory.specs.declared.mark.Mark.{Mark}
 use Rattle.monitor.specs.Monitors.{Monitor}
 use Rattle.asking.specs.declared.ask_fault.AskFault.{AskFault}
-use Rattle.asking.specs.Asking.{replied, AsksDirectory, AsksOn, AsksSome, CatchesSome, CatchesUp, FindsHead, FindsSome, GoesOnAbove, HearsOne, HearsOnly, HearsSome, Notes, StopsAsking}
+use Rattle.asking.specs.Asking.{replied, AsksDirectory, AsksOn, AsksSome, FindsHead, FindsSome, GoesOnAbove, HearsHead, HearsOne, HearsOnly, HearsReply, HearsSome, Notes, StopsAsking}
+use Rattle.asking.specs.Catching.{Advances, AdvancesBy, AdvancesSome, CatchesSome, CatchesUp, StopsBelow}
 use Rattle.asking.specs.Checking.{HearsFrame}
-use Rattle.asking.specs.Following.{Follows, StopsAfter, StopsList, TakesList, TakesLists, TakesSome}
+use Rattle.asking.specs.Following.{StopsList, TakesList}
 use Rattle.asking.specs.Joining.{own_for, BeginsAt, BeginsSome, BeginsSomeAt, BeginsWatch, IsJoined, IsUnwatched, WatchesNew, WatchesSome, watched_told}
 use Rattle.asking.specs.Reports.{Report, told_after, unless_fine}
-use Rattle.asking.specs.Ending.{DoesSomeNoting, PreparesSome, TakesSomeNew}
-use Rattle.asking.specs.Runs.{Background, Prepares, TakesNew}
+use Rattle.asking.specs.Ending.{DoesSomeNoting, LooksSome, PreparesSome}
+use Rattle.asking.specs.Runs.{Background, Prepares}
 use Rattle.asking.specs.Scenes.{Scene}
-use Rattle.asking.specs.Visiting.{AsksDue, TestsAll, TestsFrom, TestsSome, Visits, VisitsOn}
+use Rattle.asking.specs.Visiting.{AsksDue, FindsKept, KeptOn, TestsAll, TestsFrom, TestsName, TestsNamed, TestsSome, TestsSomeNamed, Visits, VisitsOn}
 use Rattle.asking.specs.Watching.{AllStep, AsksEpoch, GoesOn, GoesSome, SomeStep, StepsOn, StepsOnce, StepsSome, StepsThrough}
 
 module _ {T : Type 0} (hash : List ℕ → List ℕ) (accepted verified : List ℕ → List ℕ → List ℕ → Type 0) (exchanged : T → RequestContent → Frame → T → Type 0) (marks : List Mark) where
@@ -51,28 +52,16 @@ module _ {T : Type 0} (hash : List ℕ → List ℕ) (accepted verified : List �
     none-keeps before after (inl (head, is, last, same)) = same-keeps before after same
     none-keeps before after (inr (frame, stream, asks, none, same)) = subst (Keeps before) (sym same) (each.sends before stream)
 
-    pub follows-keeps : (count : ℕ) (before after : Scene T) → Follows hash verified exchanged count before after → Keeps before after
-    follows-keeps zero before after takes = none-keeps before after takes
-    follows-keeps (suc count) before after (middle, takes, more) = each.both before middle after (each.takes before middle takes) (follows-keeps count middle after more)
-
-    pub lists-keep : (count : ℕ) (before after : Scene T) → TakesLists hash verified exchanged count before after → Keeps before after
-    lists-keep zero before after same = same-keeps before after same
-    lists-keep (suc count) before after (middle, takes, more) = each.both before middle after (each.takes before middle takes) (lists-keep count middle after more)
-
-    pub takes_some-keeps : (before after : Scene T) → TakesSome hash verified exchanged before after → Keeps before after
-    takes_some-keeps before after (count, takes) = lists-keep count before after takes
-
-    pub stops-keep : (may : MayStop) (count : ℕ) (before after : Scene T) → StopsAfter hash verified exchanged count before after → Keeps before after
-    stops-keep may zero before after stops = each.stops before after may stops
-    stops-keep may (suc count) before after (middle, takes, more) = each.both before middle after (each.takes before middle takes) (stops-keep may count middle after more)
-
     -- ---- promises
+
+    name-keeps : (before : Scene T) (name : List ℕ) (kept : Bool) (after : Scene T) → TestsName hash accepted exchanged before name kept after → Keeps before after
+    name-keeps before name kept after (inl (none, is, same)) = same-keeps before after same
+    name-keeps before name kept after (inr asks) = each.tests before name kept after asks
 
     visits-keep : (place : ℕ) (next : Option ℕ) (before after : Scene T) → Visits hash accepted exchanged marks before place next after → Keeps before after
     visits-keep place None before after (gone, same) = same-keeps before after same
     visits-keep place (Some next) before after (signed, at, inl (awaits, is, same)) = same-keeps before after same
-    visits-keep place (Some next) before after (signed, at, inr (free, (kept, inl (none, is, same), to))) = same-keeps before after same
-    visits-keep place (Some next) before after (signed, at, inr (free, (kept, inr asks, to))) = each.tests before signed.promise.name kept after asks
+    visits-keep place (Some next) before after (signed, at, inr (free, (kept, tests, to))) = name-keeps before signed.promise.name kept after tests
 
     tests_from-keeps : (count : ℕ) (before : Scene T) (place : ℕ) (after : Scene T) → TestsFrom hash accepted exchanged marks count before place after → Keeps before after
     tests_from-keeps zero before place after visits = visits-keep place None before after visits
@@ -87,6 +76,21 @@ module _ {T : Type 0} (hash : List ℕ → List ℕ) (accepted verified : List �
 
     pub tests_some-keeps : (before after : Scene T) → TestsSome hash accepted exchanged marks before after → Keeps before after
     tests_some-keeps before after (count, visits) = visits_on-keeps count before 0 after visits
+
+    finds-keep : (count : ℕ) (before : Scene T) (name : List ℕ) (after : Scene T) → FindsKept hash accepted exchanged count before name after → Keeps before after
+    finds-keep zero before name after tests = name-keeps before name false after tests
+    finds-keep (suc count) before name after (middle, tests, more) = each.both before middle after (name-keeps before name true middle tests) (finds-keep count middle name after more)
+
+    pub tests_named-keeps : (name : List ℕ) (before after : Scene T) → TestsNamed hash accepted exchanged marks name before after → Keeps before after
+    tests_named-keeps name before after (inl (awaits, same)) = same-keeps before after same
+    tests_named-keeps name before after (inr (free, (count, finds))) = finds-keep count before name after finds
+
+    kept_on-keeps : (count : ℕ) (before : Scene T) (name : List ℕ) (after : Scene T) → KeptOn hash accepted exchanged count before name after → Keeps before after
+    kept_on-keeps zero before name after same = same-keeps before after same
+    kept_on-keeps (suc count) before name after (middle, tests, more) = each.both before middle after (name-keeps before name true middle tests) (kept_on-keeps count middle name after more)
+
+    pub tests_some_named-keeps : (name : List ℕ) (before after : Scene T) → TestsSomeNamed hash accepted exchanged name before after → Keeps before after
+    tests_some_named-keeps name before after (count, kept) = kept_on-keeps count before name after kept
 
     -- ---- monitors
 
@@ -139,12 +143,12 @@ module _ {T : Type 0} (hash : List ℕ → List ℕ) (accepted verified : List �
 
       pub watches_new-keeps : (before after : Scene T) → WatchesNew hash accepted verified exchanged marks key promised name given before after → Keeps before after
       watches_new-keeps before after (inl (none, (epoch, marked, same))) = subst (Keeps before) (sym same) (each.tells before (watched_told name epoch))
-      watches_new-keeps before after (inr (first, is, (middle, begins, tests))) = each.both before middle after (begins_at-keeps first before middle is begins) (tests_all-keeps middle after tests)
+      watches_new-keeps before after (inr (first, is, (middle, begins, tests))) = each.both before middle after (begins_at-keeps first before middle is begins) (tests_named-keeps name middle after tests)
 
       pub watches_some-keeps : (before after : Scene T) → WatchesSome hash accepted verified exchanged marks key promised name given before after → Keeps before after
       watches_some-keeps before after (inl same) = same-keeps before after same
       watches_some-keeps before after (inr (first, is, inl begins)) = begins_some_at-keeps first before after is begins
-      watches_some-keeps before after (inr (first, is, inr (middle, begins, tests))) = each.both before middle after (begins_at-keeps first before middle is begins) (tests_some-keeps middle after tests)
+      watches_some-keeps before after (inr (first, is, inr (middle, begins, tests))) = each.both before middle after (begins_at-keeps first before middle is begins) (tests_some_named-keeps name middle after tests)
 
       module _ (known : Memory) where
         pub begins_watch-keeps : (before after : Scene T) → BeginsWatch hash accepted verified exchanged known marks key promised name given before after → Keeps before after
@@ -160,9 +164,31 @@ module _ {T : Type 0} (hash : List ℕ → List ℕ) (accepted verified : List �
 
     -- ---- a line
 
-    pub catches_up-keeps : (epoch : ℕ) (before after : Scene T) → CatchesUp hash accepted verified exchanged epoch before after → Keeps before after
-    catches_up-keeps epoch before after (head, is, inl (low, same)) = same-keeps before after same
-    catches_up-keeps epoch before after (head, is, inr (high, (count, follows))) = follows-keeps count before after follows
+    module _ (epoch : ℕ) where
+      pub advances-keep : (before : Scene T) (goes : Bool) (after : Scene T) → Advances hash accepted verified exchanged epoch before goes after → Keeps before after
+      advances-keep before true after (low, (taken, takes, still, steps)) = each.both before taken after (each.takes before taken takes) (all_step-keeps (length taken.monitors) taken 0 after steps)
+      advances-keep before false after (inl (there, same)) = same-keeps before after same
+      advances-keep before false after (inr (low, inl none)) = none-keeps before after none
+      advances-keep before false after (inr (low, inr (takes, there))) = each.takes before after takes
+
+      pub advances_by-keep : (count : ℕ) (before after : Scene T) → AdvancesBy hash accepted verified exchanged epoch count before after → Keeps before after
+      advances_by-keep zero before after same = same-keeps before after same
+      advances_by-keep (suc count) before after (middle, advances, more) = each.both before middle after (advances-keep before true middle advances) (advances_by-keep count middle after more)
+
+      pub catches_up-keeps : (before after : Scene T) → CatchesUp hash accepted verified exchanged epoch before after → Keeps before after
+      catches_up-keeps before after (count, few, (middle, advances, last)) = each.both before middle after (advances_by-keep count before middle advances) (advances-keep middle false after last)
+
+      pub stops_below-keeps : (may : MayStop) (before after : Scene T) → StopsBelow hash accepted verified exchanged epoch before after → Keeps before after
+      stops_below-keeps may before after (count, (middle, advances, inl (few, low, stops))) = each.both before middle after (advances_by-keep count before middle advances) (each.stops middle after may stops)
+      stops_below-keeps may before after (count, (middle, advances, inr (all, same))) = each.both before middle after (advances_by-keep count before middle advances) (same-keeps middle after same)
+
+      pub advances_some-keeps : (before after : Scene T) → AdvancesSome hash accepted verified exchanged epoch before after → Keeps before after
+      advances_some-keeps before after (inl same) = same-keeps before after same
+      advances_some-keeps before after (inr (taken, takes, still, steps)) = each.both before taken after (each.takes before taken takes) (some_step-keeps (length taken.monitors) taken 0 after steps)
+
+      pub catches_some-keeps : (before after : Scene T) → CatchesSome hash accepted verified exchanged epoch before after → Keeps before after
+      catches_some-keeps before after (low, (count, middle, advances, inl (few, same))) = each.both before middle after (advances_by-keep count before middle advances) (same-keeps middle after same)
+      catches_some-keeps before after (low, (count, middle, advances, inr (few, some))) = each.both before middle after (advances_by-keep count before middle advances) (advances_some-keeps middle after some)
 
     pub above-keeps : (epoch : ℕ) (before after : Scene T) → GoesOnAbove hash accepted verified exchanged marks epoch before after → Keeps before after
     above-keeps epoch before after (head, is, inl (low, same)) = same-keeps before after same
@@ -182,24 +208,28 @@ module _ {T : Type 0} (hash : List ℕ → List ℕ) (accepted verified : List �
     behind : (before after : Scene T) (stream : T) → Keeps (record before { stream = stream }) after → Keeps before after
     behind before after stream keeps = each.both before (record before { stream = stream }) after (each.sends before stream) keeps
 
+    pub reply-keeps : (held : ℕ) (asked : RequestContent) (frame : Frame) (noted noted' : List SignedPromise) (before after : Scene T) → MayNote noted' → HearsReply hash accepted verified exchanged marks held asked frame noted noted' before after → Keeps before after
+    reply-keeps held asked frame noted noted' before after may hears =
+        each.both before hears.heard after (each.hands before hears.heard held asked frame noted noted' hears.hears hears.notes may) (above-keeps held hears.heard after hears.goes)
+
     pub asks_directory-keeps : (token : List ℕ) (asked : RequestContent) (noted noted' : List SignedPromise) (before after : Scene T) → MayNote noted' → AsksDirectory hash accepted verified exchanged marks token asked noted noted' before after
         → Keeps before after
     asks_directory-keeps token asked noted noted' before after may asks =
         behind before after asks.reply.stream
         (each.both (replied asks.reply) asks.ready after (catches_up-keeps asks.reply.epoch (replied asks.reply) asks.ready asks.catches)
-        (each.both asks.ready asks.heard after (each.hands asks.ready asks.heard asks.reply.head.body.epoch asked asks.reply.frame noted noted' asks.hears asks.notes may)
-        (above-keeps asks.reply.head.body.epoch asks.heard after asks.goes)))
+        (reply-keeps asks.reply.head.body.epoch asked asks.reply.frame noted noted' asks.ready after may asks.hears))
+
+    pub hears_head-keeps : (held : ℕ) (frame : Frame) (before after : Scene T) → HearsHead hash accepted verified exchanged held frame before after → Keeps before after
+    hears_head-keeps held frame before after head = each.hears before after held (Query Head) frame head.told (unless_fine head.told) head.hears head.tells head.same.0
 
     pub finds_head-keeps : (token : List ℕ) (before after : Scene T) → FindsHead hash accepted verified exchanged token before after → Keeps before after
     finds_head-keeps token before after finds =
         behind before after finds.reply.stream
         (each.both (replied finds.reply) finds.ready after (catches_up-keeps finds.reply.epoch (replied finds.reply) finds.ready finds.catches)
-        (each.hears finds.ready after finds.reply.head.body.epoch (Query Head) finds.reply.frame finds.told (unless_fine finds.told) finds.hears finds.tells finds.same.0))
+        (hears_head-keeps finds.reply.head.body.epoch finds.reply.frame finds.ready after finds.hears))
 
     pub stops_asking-keeps : (may : MayStop) (token : List ℕ) (asked : RequestContent) (before after : Scene T) → StopsAsking hash accepted verified exchanged token asked before after → Keeps before after
-    stops_asking-keeps may token asked before after asks =
-        let (head, is, high, (count, stops)) = asks.stops in
-        behind before after asks.reply.stream (stops-keep may count (replied asks.reply) after stops)
+    stops_asking-keeps may token asked before after asks = behind before after asks.reply.stream (stops_below-keeps asks.reply.epoch may (replied asks.reply) after asks.stops)
 
     pub asks_on-keeps : {fault : AskFault} (token : List ℕ) (asked : RequestContent) (noted noted' : List SignedPromise) (before after : Scene T) → MayNote noted' → AsksOn hash accepted verified exchanged fault marks token asked noted noted' before after → Keeps before after
     asks_on-keeps {fault} token asked noted noted' before after may asks = behind before after asks.reply.stream (by asks.steps)
@@ -207,7 +237,7 @@ module _ {T : Type 0} (hash : List ℕ → List ℕ) (accepted verified : List �
         by : ((noted' ≡ noted) × CatchesSome hash accepted verified exchanged asks.reply.epoch (replied asks.reply) after)
             ⊎ ((ready : Scene T) × CatchesUp hash accepted verified exchanged asks.reply.epoch (replied asks.reply) ready × HearsSome hash accepted verified exchanged fault marks asks.reply.head.body.epoch asked asks.reply.frame noted noted' ready after)
             → Keeps (replied asks.reply) after
-        by (inl (none, (head, is, high, some))) = takes_some-keeps (replied asks.reply) after some
+        by (inl (none, some)) = catches_some-keeps asks.reply.epoch (replied asks.reply) after some
         by (inr (ready, catches, hears)) = each.both (replied asks.reply) ready after (catches_up-keeps asks.reply.epoch (replied asks.reply) ready catches)
             (hears_some-keeps asks.reply.head.body.epoch asked asks.reply.frame noted noted' ready after may hears)
 
@@ -217,7 +247,7 @@ module _ {T : Type 0} (hash : List ℕ → List ℕ) (accepted verified : List �
 
     pub finds_some-keeps : (token : List ℕ) (before after : Scene T) → FindsSome hash accepted verified exchanged token before after → Keeps before after
     finds_some-keeps token before after (inl same) = same-keeps before after same
-    finds_some-keeps token before after (inr (reply, inl (head, is, high, some))) = behind before after reply.stream (takes_some-keeps (replied reply) after some)
+    finds_some-keeps token before after (inr (reply, inl some)) = behind before after reply.stream (catches_some-keeps reply.epoch (replied reply) after some)
     finds_some-keeps token before after (inr (reply, inr catches)) = behind before after reply.stream (catches_up-keeps reply.epoch (replied reply) after catches)
 
 -- ---- before the lines, and a line
@@ -226,23 +256,23 @@ module _ {T : Type 0} (hash : List ℕ → List ℕ) (accepted verified : List �
     {MayNote : List SignedPromise → Type 0} {MayJoin : List ℕ → List SignedPromise → List ℕ → Option (List ℕ) → Type 0} {MayStop : Type 0} {Keeps : Scene T → Scene T → Type 0}
     (each : EachKeeps hash accepted verified exchanged background.marks MayNote MayJoin MayStop Keeps) where
   module _ (HasNoState : Type 0) where
-    takes_new-keeps : (before after : Scene T) → TakesNew hash accepted verified exchanged background HasNoState before after → Keeps before after
-    takes_new-keeps before after (inl (none, count, follows)) = follows-keeps hash accepted verified exchanged background.marks each count before after follows
-    takes_new-keeps before after (inr (some, finds)) = finds_head-keeps hash accepted verified exchanged background.marks each background.token before after finds
-
     pub prepares-keeps : (before after : Scene T) → Prepares hash accepted verified exchanged background HasNoState before after → Keeps before after
-    prepares-keeps before after (middle, takes, tests) = each.both before middle after (takes_new-keeps before middle takes) (tests_all-keeps hash accepted verified exchanged background.marks each middle after tests)
-
-    takes_some_new-keeps : (may : MayStop) (before after : Scene T) → TakesSomeNew hash accepted verified exchanged background HasNoState before after → Keeps before after
-    takes_some_new-keeps may before after (inl (none, inl some)) = takes_some-keeps hash accepted verified exchanged background.marks each before after some
-    takes_some_new-keeps may before after (inl (none, inr (count, stops))) = stops-keep hash accepted verified exchanged background.marks each may count before after stops
-    takes_some_new-keeps may before after (inr (there, inl some)) = finds_some-keeps hash accepted verified exchanged background.marks each background.token before after some
-    takes_some_new-keeps may before after (inr (there, inr stops)) = stops_asking-keeps hash accepted verified exchanged background.marks each may background.token (Query Head) before after stops
+    prepares-keeps before after (inl (none, same)) = same-keeps hash accepted verified exchanged background.marks each before after same
+    prepares-keeps before after (inr (there, (middle, finds, tests))) = each.both before middle after (finds_head-keeps hash accepted verified exchanged background.marks each background.token before middle finds) (tests_all-keeps hash accepted verified exchanged background.marks each middle after tests)
 
     pub prepares_some-keeps : (may : MayStop) (before after : Scene T) → PreparesSome hash accepted verified exchanged background HasNoState before after → Keeps before after
     prepares_some-keeps may before after (inl prepares) = prepares-keeps before after prepares
-    prepares_some-keeps may before after (inr (inl some)) = takes_some_new-keeps may before after some
-    prepares_some-keeps may before after (inr (inr (middle, takes, tests))) = each.both before middle after (takes_new-keeps before middle takes) (tests_some-keeps hash accepted verified exchanged background.marks each middle after tests)
+    prepares_some-keeps may before after (inr (there, inl some)) = finds_some-keeps hash accepted verified exchanged background.marks each background.token before after some
+    prepares_some-keeps may before after (inr (there, inr (inl stops))) = stops_asking-keeps hash accepted verified exchanged background.marks each may background.token (Query Head) before after stops
+    prepares_some-keeps may before after (inr (there, inr (inr (middle, finds, tests)))) =
+        each.both before middle after (finds_head-keeps hash accepted verified exchanged background.marks each background.token before middle finds) (tests_some-keeps hash accepted verified exchanged background.marks each middle after tests)
+
+  pub looks_some-keeps : (held : ℕ) (frame : Frame) (before after : Scene T) → LooksSome hash accepted verified exchanged background held frame before after → Keeps before after
+  looks_some-keeps held frame before after (inl same) = same-keeps hash accepted verified exchanged background.marks each before after same
+  looks_some-keeps held frame before after (inr (middle, hears, inl tests)) =
+      each.both before middle after (hears_head-keeps hash accepted verified exchanged background.marks each held frame before middle hears) (tests_all-keeps hash accepted verified exchanged background.marks each middle after tests)
+  looks_some-keeps held frame before after (inr (middle, hears, inr tests)) =
+      each.both before middle after (hears_head-keeps hash accepted verified exchanged background.marks each held frame before middle hears) (tests_some-keeps hash accepted verified exchanged background.marks each middle after tests)
 
   -- ---- and what a line says
 

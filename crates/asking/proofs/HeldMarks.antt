@@ -26,7 +26,7 @@ use Rattle.memory.specs.Taking.{PutsMark}
 use Rattle.memory.specs.Watching.{IsWatchedUpTo}
 use Rattle.memory.specs.declared.mark.Mark.{Mark}
 use Rattle.asking.specs.Owning.{HasJoined, IsHeld, IsLeastAbove, IsOwn, IsOwnChange, IsOwners, WasWatched}
-use Rattle.asking.specs.Saves.{Counts, IsOwnAhead}
+use Rattle.asking.specs.Saves.{Counts, IsAsFar, IsOwnAhead}
 use Rattle.asking.specs.Told.{ExpectsAt, HasBody, HasLines, IsToldAt, TellsEpoch}
 use Rattle.asking.specs.Watching.{step_told}
 use Rattle.asking.proofs.OwnRoots.{covers-chain, not-between}
@@ -175,6 +175,21 @@ module _ (hash : List ℕ → List ℕ) (accepted verified : List ℕ → List �
           let low = first-least monitor.client.chain.roots first head own-up at (is-among monitor.client.chain.roots (length monitor.client.chain.roots - 1) head last) in
           omega (arith, low, same, above)
 
+      -- it watched as far as the roots go that are below its first
+      watched-far : (below epoch : ℕ) → IsWatchedUpTo monitor epoch → ((first : SignedRoot) → IsFirst monitor.client.chain first → below < first.body.epoch)
+          → (c : SignedRoot) → Contains chain.roots c → c.body.epoch ≤ below → c.body.epoch ≤ epoch
+      watched-far below epoch (inl (root, next, before)) begins c has low = elim (cases_lt epoch c.body.epoch) [
+        | inr up-to ↦ up-to
+        | inl late ↦
+            let both = ends monitor.client.chain.roots owns.told.chain.first in
+            let least = not-between hash verified chain is root c (own-body root next.0) has (omega (arith, before, late)) in
+            absurd (omega (arith, low, begins both.first both.at-first, first-least monitor.client.chain.roots both.first root own-up both.at-first next.0, least))
+      ]
+      watched-far below epoch (inr (none, (head, last, same))) begins c has low =
+          let both = ends monitor.client.chain.roots owns.told.chain.first in
+          let up-to = first-least monitor.client.chain.roots both.first head own-up both.at-first (is-among monitor.client.chain.roots (length monitor.client.chain.roots - 1) head last) in
+          omega (arith, low, same, begins both.first both.at-first, up-to)
+
       module _ (formed : AllByRecursion IsSignedRoot chain.roots) where
         -- each root is above the one that it names
         own-later : (root : SignedRoot) → Contains monitor.client.chain.roots root → root.body.previous_epoch < root.body.epoch
@@ -262,6 +277,13 @@ module _ (hash : List ℕ → List ℕ) (accepted verified : List ℕ → List �
 
     own-of : (monitor : Monitor) → Contains monitors monitor → IsOwn hash accepted verified Given Own start text chain marks monitor
     own-of monitor has = all-in (IsOwn hash accepted verified Given Own start text chain marks) monitors monitor owns has
+
+    -- a mark that moves does not go back over a root behind one of its name of an earlier run
+    pub moved-far : (monitor : Monitor) (now : List Mark) (new : Mark) → IsMoved monitors monitor now new → (mark : Mark) → Contains marks mark → mark.name ≡ new.name → IsAsFar chain.roots mark new
+    moved-far monitor now new moves mark has same root there low =
+        let (place, one, within, at, (named, watched)) = moves.1.0 in
+        let own = own-of one (place, within, at) in
+        watched-far text chain marks is one own mark.epoch new.epoch watched (own.above mark has (same ∙ moves.0 ∙ sym named)) root there low
 
     abbrev TellsName : List ℕ → SignedRoot → Type 0
     TellsName name root = TellsEpoch Given (IsOwnAhead Own start) (Counts start) hash accepted text name root ⊎ WasWatched marks name root

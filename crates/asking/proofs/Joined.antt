@@ -25,7 +25,7 @@ use Rattle.asking.specs.declared.joining.ToWatch.TheVariants.{FromRoot, Nothing}
 use Rattle.asking.specs.Refused.{client_refuses}
 use Rattle.asking.specs.Scenes.{Scene, scene}
 use Rattle.asking.specs.Reports.{Report, Tells, report_of, told_after}
-use Rattle.asking.specs.Visiting.{IsMarked, TestsAll}
+use Rattle.asking.specs.Visiting.{IsMarked, TestsNamed}
 use Rattle.asking.specs.Watching.{StepsThrough}
 use Rattle.asking.proofs.Going.{told_onto}
 
@@ -112,12 +112,12 @@ module _ {H V S T : Type 0} (hash : List ℕ → List ℕ) (accepted verified : 
           (told_onto said said' (client_refuses (codes "client refuses root") why) tells),
     )
 
-    -- the watch began, and the promises were tested
+    -- the watch began, and the promises of the name were tested
     pub begins : {A E : Type 0} (result : Result A E) (marks marks' : Vec Mark Global) (middle after : Scene T) → IsUnwatched asker.client.chain name marks.items (Some first) → marks' ≡ marks
-        → BeginsAt hash accepted verified exchanged marks.items key promised name given first (scene asker said stream) middle → OnOk result (TestsAll hash accepted exchanged marks'.items middle after)
+        → BeginsAt hash accepted verified exchanged marks.items key promised name given first (scene asker said stream) middle → OnOk result (TestsNamed hash accepted exchanged marks'.items name middle after)
         → OnOk result (WatchesNew hash accepted verified exchanged marks.items key promised name given (scene asker said stream) after)
     begins (Ok done) marks marks' middle after unwatched same begun tests =
-        inr (first, unwatched, (middle, begun, subst (λ (all : Vec Mark Global). TestsAll hash accepted exchanged all.items middle after) same tests))
+        inr (first, unwatched, (middle, begun, subst (λ (all : Vec Mark Global). TestsNamed hash accepted exchanged all.items name middle after) same tests))
     begins (Err fault) marks marks' middle after unwatched same begun tests = tt
 
   module _ (key : List ℕ) (promised : List SignedPromise) (name : List ℕ) (given : Option (List ℕ)) (asker : Asker H V S) (said said' : Said) (stream : T) where

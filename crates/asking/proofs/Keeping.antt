@@ -9,7 +9,7 @@ use Rattle.memory.specs.Learning.{BeginsOne, Each, LearnsLine, MarksOne}
 use Rattle.memory.specs.Memories.{Memory}
 use Rattle.memory.specs.declared.item.Item.{Item}
 use Rattle.memory.specs.declared.kind.Kind.TheVariants.{Alarms, EvidenceLines}
-use Rattle.asking.specs.Keeping.{AddsTo, IsSettled, KeepsUp, LearnsAfter, LearnsBefore, LearnsPromises, MayMove, SavesTo}
+use Rattle.asking.specs.Keeping.{AddsTo, IsNewHead, IsSettled, KeepsUp, LearnsAfter, LearnsBefore, LearnsPromises, MayMove, SavesTo}
 use Rattle.asking.specs.Saves.{IsHeadEpoch}
 use Rattle.asking.specs.declared.ask_fault.AskFault.{AskFault}
 use Rattle.asking.specs.declared.ask_fault.AskFault.TheVariants.{OutOfMemory}
@@ -68,12 +68,12 @@ was_asked asked done is none = all_not_err done OutOfMemory (sym is ∙ none)
 -- what a state learned, and how far it looked
 pub added : {A E H V S : Type 0} (result : Result A E) (asker : Asker H V S) (told : List ℕ) (before kept : State)
     → OnOk result (LearnsBefore (drop before.changes asker.changes.items) asker.client.promises told (drop before.monitors asker.monitors.items) before.memory kept.memory)
-    → (kept.head ≡ before.head) × (kept.monitors ≡ before.monitors) → OnOk result (kept.changes ≡ length asker.changes.items) → OnOk result (AddsTo asker told (Some before) (Some kept))
-added (Ok done) asker told before kept learns looked changes = (kept, refl, learns, looked.0, looked.1, changes)
+    → (kept.head ≡ before.head) × (kept.monitors ≡ before.monitors) × (kept.was_new ≡ before.was_new) → OnOk result (kept.changes ≡ length asker.changes.items) → OnOk result (AddsTo asker told (Some before) (Some kept))
+added (Ok done) asker told before kept learns looked changes = (kept, refl, learns, looked.0, looked.1, looked.2, changes)
 added (Err fault) asker told before kept learns looked changes = tt
 
 pub saved : {A E H V S : Type 0} (Enough : Type 0) (result : Result A E) (asker : Asker H V S) (told : List ℕ) (before kept : State)
-    → OnOk result ((some : List Monitor) × MayMove asker.client.chain before.head before.monitors asker.monitors.items some × LearnsAfter told asker.monitors.items some before.memory kept.memory)
-    → OnOk result ((kept.monitors ≡ length asker.monitors.items) × IsHeadEpoch asker.client.chain kept.head) → kept.changes ≡ before.changes → OnOk result (Enough → SavesTo asker told (Some before) (Some kept))
-saved Enough (Ok done) asker told before kept learns looked changes = λ enough. (kept, refl, learns, looked.1, looked.0, changes)
+    → OnOk result ((some : List Monitor) × MayMove asker.client.chain before.head before.was_new before.monitors asker.monitors.items some × LearnsAfter told asker.monitors.items some before.memory kept.memory)
+    → OnOk result ((kept.monitors ≡ length asker.monitors.items) × IsHeadEpoch asker.client.chain kept.head × IsNewHead asker.client.chain before.head kept.was_new) → kept.changes ≡ before.changes → OnOk result (Enough → SavesTo asker told (Some before) (Some kept))
+saved Enough (Ok done) asker told before kept learns looked changes = λ enough. (kept, refl, learns, looked.1, looked.2, looked.0, changes)
 saved Enough (Err fault) asker told before kept learns looked changes = tt

@@ -45,19 +45,21 @@ module _ (hash : List ℕ → List ℕ) (accepted : List ℕ → List ℕ → Li
       by signed early (inr new) = with-known signed (fewer signed new early)
 
   pub keeps-told : (start : Found) (text : List ℕ) (roots more : List SignedRoot) (known : Memory) → roots ≡ start.roots ++ more
-      → ((old : Mark) → Contains start.known.marks old → HasMark known.marks old)
+      → ((old : Mark) → Contains start.known.marks old → HasMark start.roots known.marks old)
       → ((mark : Mark) → Contains known.marks mark → (root : SignedRoot) → Contains roots root → mark.since < root.body.epoch → root.body.epoch ≤ mark.epoch → IsToldOrStored start known text mark.name root)
       → ((signed : SignedPromise) → WasOwn known signed → WasOwn start.known signed ⊎ Asked signed)
+      → ((signed : SignedPromise) → WasOwn start.known signed → WasOwn known signed)
       → KeepsTold hash accepted Given Own Asked start text (record { roots = roots; known = known })
-  keeps-told start text roots more known grown stays told own = record { grows = (more, grown); stays = stays; told = told; own = own }
+  keeps-told start text roots more known grown stays told own still = record { grows = (more, grown); stays = stays; told = told; own = own; awaits = λ signed was awaited. still signed was }
 
   -- what a run loads is so at once
   pub loads-kept : (start : Found) (text : List ℕ) (roots : List SignedRoot) → roots ≡ start.roots → KeepsTold hash accepted Given Own Asked start text (record { roots = roots; known = start.known })
   loads-kept start text roots same = record {
     grows = ([], same ∙ sym (append-nil start.roots));
-    stays = λ old has. (old, has, refl, omega arith);
+    stays = λ old has. (old, has, refl, omega arith, λ root among low. low);
     told = λ mark has root among above below. inr (subst (λ (rs : List SignedRoot). Contains rs root) same among, (mark, has, refl, above, below));
     own = λ signed was. inl was;
+    awaits = λ signed was awaited. was;
   }
 
   module _ (start : Found) (text : List ℕ) (stored : Found) (keeps : KeepsTold hash accepted Given Own Asked start text stored) where
@@ -75,15 +77,17 @@ module _ (hash : List ℕ → List ℕ) (accepted : List ℕ → List ℕ → Li
             absurd (none-new mark bound root.body.epoch (low mark has) later above below)
       ];
       own = keeps.own;
+      awaits = keeps.awaits;
     }
 
     -- new marks are of nothing watched, and no mark is above a promise that is new
     pub remembers-kept : (known : Memory) → ((mark : Mark) → Contains known.marks mark → Contains stored.known.marks mark ⊎ (mark.since ≡ mark.epoch))
-        → ((old : Mark) → Contains start.known.marks old → HasMark known.marks old)
+        → ((old : Mark) → Contains start.known.marks old → HasMark start.roots known.marks old)
         → ((signed : SignedPromise) → WasOwn known signed → WasOwn start.known signed ⊎ Asked signed)
+        → ((signed : SignedPromise) → WasOwn start.known signed → WasOwn known signed)
         → ((signed : SignedPromise) → WasOwn known signed → WasOwn stored.known signed ⊎ ((mark : Mark) → Contains stored.known.marks mark → (mark.epoch ≤ mark.since) ⊎ (mark.epoch ≤ signed.promise.epoch)))
         → KeepsTold hash accepted Given Own Asked start text (record { roots = stored.roots; known = known })
-    remembers-kept known from stays own late = record {
+    remembers-kept known from stays own still late = record {
       grows = keeps.grows;
       stays = stays;
       told = λ mark has root among above below. elim (from mark has) [
@@ -95,6 +99,7 @@ module _ (hash : List ℕ → List ℕ) (accepted : List ℕ → List ℕ → Li
         | inr empty ↦ absurd (omega (arith, empty, above, below))
       ];
       own = own;
+      awaits = λ signed was awaited. still signed was;
     }
 
     -- more is written
@@ -104,4 +109,5 @@ module _ (hash : List ℕ → List ℕ) (accepted : List ℕ → List ℕ → Li
       stays = keeps.stays;
       told = λ mark has root among above below. told-more start stored.known text more mark.name root (keeps.told mark has root among above below);
       own = keeps.own;
+      awaits = keeps.awaits;
     }

@@ -1,8 +1,9 @@
 -- Whether the last epoch of a run is as late as it is wanted.
-use Rattle.std.proofs.Common.{◌≡◌, ◌⊎◌, ◌∙◌, ◌<◌, ◌≤◌, ℕ, List, [], ◌∷◌, ◌++◌, Bor, Option, None, Some, Result, Ok, Err, ap, append-nil, append_assoc, arith, inl, inr, option_map, refl, subst, sym}
+use Rattle.std.proofs.Common.{◌≡◌, ◌≢◌, ◌⊎◌, ◌∙◌, ◌<◌, ◌≤◌, ℕ, List, [], ◌∷◌, ◌++◌, Bor, Option, None, Some, Result, Ok, Err, ap, append-nil, append_assoc, arith, inl, inr, option_map, refl, subst, sym}
 use Rattle.std.specs.Prelude.{IfErr, IfOk, IfSome, OnErr, OnOk, ⊤}
 use Rattle.std.specs.Io.KnownBytes.{Appends}
-use Rattle.std.proofs.KnownBytes.{Appends-nil, Appends-trans}
+use Rattle.std.proofs.KnownBytes.{Appends-nil, Appends-trans, Keeps-refl}
+use Rattle.textio.specs.Faults.{fault_text}
 use Rattle.textio.specs.Output.{WritesBeginning, WritesSome}
 use Rattle.play.specs.Scripts.{ScriptLine, Pass, Ask, Watch, Piece, End, line_of}
 use Rattle.asking.specs.Reports.{report_of, Report}
@@ -10,7 +11,7 @@ use Rattle.asking.specs.RunFaults.{IsFaultOfState}
 use Rattle.asking.specs.Runs.{emptied, words_line, Background, Grows, IsSoundFor, Prepares, Writes}
 use Rattle.asking.specs.Saves.{Act, LeavesTold}
 use Rattle.textio.specs.declared.program_fault.ProgramFault.{ProgramFault}
-use Rattle.textio.specs.declared.program_fault.ProgramFault.TheVariants.{OutOfMemory}
+use Rattle.textio.specs.declared.program_fault.ProgramFault.TheVariants.{CannotWrite, OutOfMemory}
 use Rattle.client.specs.Clients.{Client}
 use Rattle.monitor.specs.Monitors.{Monitor}
 use Rattle.rootchain.specs.declared.signed_promise.SignedPromise.{SignedPromise}
@@ -18,10 +19,11 @@ use Rattle.memory.specs.declared.mark.Mark.{Mark}
 use Rattle.wire.specs.Frames.{Frame}
 use Rattle.wire.specs.Requests.{RequestContent}
 use Rattle.asking.specs.AskOptions.{AskOptions, ask_values}
-use Rattle.asking.specs.Ending.{AsksAs, AsksSomeLine, DoesSome, DoesSomeNoting, EndsEarly, EndsStale, FailsAs, FailsLate, HasFirst, HasLast, IsNewFor, IsUnknown, LoadsNone, NotesFirst, PreparesSome, RunsAs, Sees}
+use Rattle.asking.specs.Ending.{AsksAs, AsksSomeLine, DoesSome, DoesSomeNoting, EndsEarly, EndsStale, FailsAs, FailsLate, HasFirst, HasLast, IsNewFor, IsUnknown, LoadsNone, NotesFirst, PreparesSome, RunsAs, Sees, TellsFault}
 use Rattle.asking.specs.Lateness.{stale_line, subject_in, subject_of, wanted_of, Finds, HasEpoch, HasNoted, HasNotedAs, IsLast, IsLimitOf, IsSameLimit, IsStale}
 use Rattle.asking.specs.Scenes.{Scene, scene}
 use Rattle.asking.specs.declared.ask_fault.AskFault.{AskFault}
+use Rattle.asking.specs.declared.ask_fault.AskFault.TheVariants.{OutOfMemory as NoMemory}
 use Rattle.asking.specs.declared.ask_fault.RunFault.{RunFault}
 use Rattle.asking.specs.declared.ask_fault.RunFault.TheVariants.{Program}
 use Rattle.asking.specs.declared.asker.Asker.{Asker}
@@ -79,6 +81,17 @@ noted_same marks marks' client client' monitors monitors' limit same one other n
 -- in the same limit it was noted
 pub noted_still : (Is : Subject → ℕ → Type 0) (before after : Limit) → after ≡ before → HasNotedAs Is before → HasNotedAs Is after
 noted_still Is before after same noted = subst (λ (l : Limit). HasNotedAs Is l) (sym same) noted
+
+-- It was noted where a question settled, or is as it was: so in a scene to which some step leads.
+pub settled_noted : {H V S T A : Type 0} (Leads : Scene T → Type 0) (marks : List Mark) (asker : Asker H V S) (asked : Result A AskFault) (Settled : Type 0) (before after : Limit) → asker.marks.items ≡ marks
+    → (asked ≢ Err NoMemory → (reached : Scene T) × Leads reached × (asker.client ≡ reached.client) × (asker.monitors.items ≡ reached.monitors))
+    → (seen : Scene T) × Leads seen × HasNotedAs (IsLast marks seen.client seen.monitors) before
+    → ((asked ≢ Err NoMemory) × HasNoted asker after) ⊎ ((¬ Settled) × (after ≡ before))
+    → (seen : Scene T) × Leads seen × HasNotedAs (IsLast marks seen.client seen.monitors) after
+settled_noted Leads marks asker asked Settled before after same stands had (inl (some, noted)) =
+    let (reached, leads, client, monitors) = stands some in
+    (reached, leads, noted_same asker.marks.items marks asker.client reached.client asker.monitors.items reached.monitors after same client monitors noted)
+settled_noted Leads marks asker asked Settled before after same stands (seen, leads, noted) (inr (not, still)) = (seen, leads, noted_still (IsLast marks seen.client seen.monitors) before after still noted)
 
 -- without words nothing has a last epoch
 pub no_subject : (order : AskOrder) (about : Subject) → order.command ≡ None → subject_in (ask_values order).words ≡ Some about → ⊥
@@ -328,6 +341,19 @@ part-all old new text appends = ([], (text, sym (append-nil text), appends))
 
 pub part-cut : (old new : Option (List ℕ)) (text : List ℕ) → WritesBeginning old new text → WritesSome old new text
 part-cut old new text (rest, some, but) = (rest, but)
+
+-- the fault behind which a run ends, or that it has none
+pub tells_fault : (ended : Result RunEnd ProgramFault) (fault : ProgramFault) (told : Result (Unit {0}) ProgramFault) (old new : Option (List ℕ)) → ended ≡ Err fault → OnOk told (Appends old new (fault_text fault))
+    → IfErr told (λ why. (why ≡ CannotWrite) × WritesBeginning old new (fault_text fault)) → TellsFault ended old new
+tells_fault ended fault told old new is whole part = subst (λ (r : Result RunEnd ProgramFault). TellsFault r old new) (sym is) (by told whole part)
+  where
+    by : (told : Result (Unit {0}) ProgramFault) → OnOk told (Appends old new (fault_text fault)) → IfErr told (λ why. (why ≡ CannotWrite) × WritesBeginning old new (fault_text fault)) → WritesSome old new (fault_text fault)
+    by (Ok done) whole part = part-all old new (fault_text fault) whole
+    by (Err why) whole part = part-cut old new (fault_text fault) part.1
+
+pub tells_none : (ended : Result RunEnd ProgramFault) (old : Option (List ℕ)) → ((fault : ProgramFault) → ended ≡ Err fault → ⊥) → TellsFault ended old old
+tells_none (Ok end) old none = Keeps-refl old
+tells_none (Err fault) old none = absurd (none fault refl)
 
 -- what the words are about, where there are some
 pub words_subject : (order : AskOrder) → ¬ (order.command ≡ None) → subject_in (ask_values order).words ≡ subject_of (line_of (words_line (ask_values order).words))

@@ -1,5 +1,5 @@
 -- What comes of a run once the files of its state are left.
-use Rattle.std.proofs.Common.{◌≡◌, ◌⊎◌, ◌∙◌, ℕ, ◌<◌, Bool, true, false, List, [], ◌∷◌, ◌++◌, Contains, Option, Some, None, Result, Ok, Err, ap, inl, inr, refl, subst, sym, zero, suc, arith}
+use Rattle.std.proofs.Common.{◌≡◌, ◌⊎◌, ◌∙◌, ℕ, ◌<◌, Bool, true, false, List, [], ◌∷◌, ◌++◌, Any, Contains, Option, Some, None, Result, Ok, Err, ap, inl, inr, refl, subst, sym, zero, suc, arith}
 use Rattle.std.specs.Prelude.{IfErr, OnErr, OnOk}
 use Rattle.textio.specs.declared.program_fault.ProgramFault.{ProgramFault}
 use Rattle.rootchain.specs.declared.signed_promise.SignedPromise.{SignedPromise}
@@ -7,6 +7,7 @@ use Rattle.rootchain.specs.declared.signed_root.SignedRoot.{SignedRoot}
 use Rattle.memory.specs.Leaving.{Leaves, Settles}
 use Rattle.memory.specs.Memories.{HoldsEachOnce, Memory}
 use Rattle.memory.specs.Texts.{memory_text, HoldsSound, Spells, TakesAll}
+use Rattle.memory.specs.Watching.{IsAwaited}
 use Rattle.memory.specs.declared.item.Item.{Item}
 use Rattle.memory.specs.declared.mark.Mark.{Mark}
 use Rattle.memory.specs.declared.promised.Promised.{Promised}
@@ -21,9 +22,10 @@ use Rattle.asking.specs.declared.lateness.Limit.{Limit}
 use Rattle.asking.specs.declared.ask_fault.RunFault.{RunFault}
 use Rattle.asking.specs.declared.ask_fault.RunFault.TheVariants.{Program}
 use Rattle.textio.specs.declared.program_fault.ProgramFault.TheVariants.{CannotWrite}
-use Rattle.asking.proofs.AskedOwn.{leaves-own}
+use Rattle.asking.proofs.AskedOwn.{leaves-awaited, leaves-own}
 use Rattle.asking.proofs.Faulty.{stops_more}
 use Rattle.asking.proofs.KeptTold.{told-counted}
+use Rattle.asking.proofs.Noting.{same-own}
 
 -- if all is well, all was asked
 pub asked_left : (P : Type 0) (asked left : Result (Unit {0}) RunFault) → OnOk left (asked ≡ Ok tt) → OnOk asked P → OnOk left P
@@ -83,10 +85,11 @@ module _ (hash : List ℕ → List ℕ) (accepted verified : List ℕ → List �
       let same : left.marks ≡ known.marks = ap (λ (m : Memory). m.marks) leaves.1 in
       record {
         grows = told.grows;
-        stays = subst (λ (ms : List Mark). (mark : Mark) → Contains start.known.marks mark → HasMark ms mark) (sym same) told.stays;
+        stays = subst (λ (ms : List Mark). (mark : Mark) → Contains start.known.marks mark → HasMark start.roots ms mark) (sym same) told.stays;
         told = λ mark has root among above below. told-counted hash accepted (IsAsked lines) (IsOwnPromise verified key lines start.known) (IsAskedChange lines) start known left text mark.name root
             (λ signed was early. inr (leaves-own tested known left leaves signed was)) (told.told mark (subst (λ (ms : List Mark). Contains ms mark) same has) root among above below);
         own = λ signed was. told.own signed (leaves-own tested known left leaves signed was);
+        awaits = λ signed was awaited. let here = subst (λ (ms : List Mark). Any (IsAwaited signed) ms) same awaited in leaves-awaited tested known left leaves signed (told.awaits signed was here) here;
       }
 
   pub leaves_told : (state : Option State) → IsLeft hash accepted verified lines key old (λ done. Before (done ++ acts)) state out → ((all : List Act) → Before all → LeavesState After all state out)
@@ -128,10 +131,11 @@ module _ (hash : List ℕ → List ℕ) (accepted verified : List ℕ → List �
       let kept : settled.promises ≡ known.promises = ap (λ (m : Memory). m.promises) settles.1 in
       record {
         grows = told.grows;
-        stays = subst (λ (ms : List Mark). (mark : Mark) → Contains start.known.marks mark → HasMark ms mark) (sym same) told.stays;
+        stays = subst (λ (ms : List Mark). (mark : Mark) → Contains start.known.marks mark → HasMark start.roots ms mark) (sym same) told.stays;
         told = λ mark has root among above below. told-counted hash accepted (IsAsked lines) (IsOwnPromise verified key lines start.known) (IsAskedChange lines) start known settled text mark.name root
             (λ signed (promised, there, this, own) early. inr (promised, subst (λ (ps : List Promised). Contains ps promised) kept there, this, own)) (told.told mark (subst (λ (ms : List Mark). Contains ms mark) same has) root among above below);
         own = λ signed (promised, has, this, own). told.own signed (promised, subst (λ (ps : List Promised). Contains ps promised) kept has, this, own);
+        awaits = λ signed was awaited. same-own known settled kept signed (told.awaits signed was (subst (λ (ms : List Mark). Any (IsAwaited signed) ms) same awaited));
       }
 
   -- a name is settled

@@ -3,7 +3,10 @@ pub mod Asked
 pub mod AskedNames
 pub mod AskedOwn
 pub mod Begun
+pub mod Between
+pub mod Catching
 pub mod Caught
+pub mod CaughtUp
 pub mod ChainRoots
 pub mod Current
 pub mod Earlier
@@ -16,11 +19,11 @@ pub mod GoneOn
 pub mod Halted
 pub mod Handed
 pub mod Heard
+pub mod HeardNoted
 pub mod HonestRoots
 pub mod Joined
 pub mod Late
 pub mod Left
-pub mod LineNoted
 pub mod Listed
 pub mod MarkedRuns
 pub mod Marks
@@ -28,6 +31,7 @@ pub mod MarksKept
 pub mod Placed
 pub mod Ran
 pub mod Recalling
+pub mod Retraced
 pub mod Rising
 pub mod Told
 pub mod ToldScenes
@@ -41,6 +45,7 @@ pub mod KeptTold
 pub mod HeldMarks
 pub mod StateRuns
 pub mod RunSteps
+pub mod RunParts
 pub mod Saving
 pub mod OwnedRoots
 pub mod JoinedChanges
@@ -50,6 +55,7 @@ pub mod OwnedScenes
 pub mod SameChain
 pub mod EveryStep
 pub mod Settled
+pub mod Shifted
 pub mod Standing
 pub mod Stepped
 pub mod Stood

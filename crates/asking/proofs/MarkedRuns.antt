@@ -165,7 +165,7 @@ module _ (hash : List ℕ → List ℕ) (accepted : List ℕ → List ℕ → Li
       → WasTold hash accepted Given Own first (later ++ run ∷ earlier) monitor.name root ⊎ IsToWatch known.marks monitor.name root
   watched-over-runs first later earlier run monitors all (was, spells, have) known spelled monitor among root there (begin, at, from) =
       let (mark, has, named, low) = all-has (HasMarkOf was.marks) monitors monitor have among in
-      let (now, still, alike, less) = marks-over-runs hash accepted Given Own Asked first later (run ∷ earlier) all was known spells spelled mark has in
+      let (now, still, alike, less, far) = marks-over-runs hash accepted Given Own Asked first later (run ∷ earlier) all was known spells spelled mark has in
       let above = low begin at in
       elim (cases_lt now.epoch root.body.epoch) [
         | inl left ↦ inr (now, still, alike ∙ named, left)

@@ -1,6 +1,6 @@
 -- Each monitor has a mark, once a state learned what is new.
-use Rattle.std.proofs.Common.{◌≡◌, ◌∙◌, ℕ, zero, suc, ◌<◌, ◌≤◌, List, [], ◌∷◌, ◌++◌, drop, length, map, Contains, Option, Some, None, Ok, ap, arith, inl, inr, refl, subst, sym}
-use Rattle.std.specs.List.{AllByRecursion}
+use Rattle.std.proofs.Common.{◌≡◌, ◌∙◌, ℕ, zero, suc, ◌<◌, ◌≤◌, false, List, [], ◌∷◌, ◌++◌, drop, length, map, Contains, Option, Some, None, Ok, ap, arith, inl, inr, refl, subst, sym}
+use Rattle.std.specs.List.{AllByRecursion, AllZip}
 use Rattle.std.proofs.lemmas.List.Elements.{Contains-append_right, Contains-push}
 use Rattle.textio.specs.Lines.{lines_of}
 use Rattle.memory.specs.Learning.{BeginsOne, Each}
@@ -15,8 +15,13 @@ use Rattle.memory.specs.declared.kind.Kind.TheVariants.{Alarms, EvidenceLines}
 use Rattle.memory.specs.declared.mark.Mark.{Mark}
 use Rattle.memory.proofs.Sound.{spelled-sound, taken-sound}
 use Rattle.monitor.specs.Monitors.{Monitor}
+use Rattle.wire.specs.Frames.{Frame}
+use Rattle.wire.specs.Requests.{RequestContent}
+use Rattle.asking.specs.Catching.{Advances}
+use Rattle.asking.specs.Following.{MonitorUpdates}
 use Rattle.asking.specs.Keeping.{KeepsUp, SavesTo}
 use Rattle.asking.specs.Marking.{AreOrdered, BeginsNoLater, HasMarkOf, StateMarks}
+use Rattle.asking.specs.Scenes.{Scene}
 use Rattle.asking.specs.declared.asker.Asker.{Asker}
 use Rattle.asking.specs.declared.state.State.{State}
 use Rattle.asking.proofs.Adding.{drop-all, learns-stay}
@@ -104,7 +109,8 @@ kept-marked begun before after news monitors each have =
 
 moved-marked : (all some : List Monitor) (before after : List Mark) (monitors : List Monitor) → EachPuts (IsMoved all) some before after → HasNoRepeat (map name_of before) → AllByRecursion (HasMarkOf before) monitors → AllByRecursion (HasMarkOf after) monitors
 moved-marked all some before after monitors puts once have = all-map (HasMarkOf before) (HasMarkOf after) monitors (λ monitor (mark, has, same, low).
-    let (next, there, named, less) = moved-stays all some before before after puts once (λ old is. (old, is, refl, omega arith)) mark has in
+    let (next, there, named, less, far) = moved-stays all some [] before before after puts once (λ monitor now new moves old is same root among. absurd (omega (arith, among.1)))
+    (λ old is. (old, is, refl, omega arith, λ root among low. low)) mark has in
     (next, there, named ∙ same, λ first at. let high = low first at in omega (arith, less, high))) have
 
 -- the monitors that were there before, and those that are new
@@ -116,6 +122,27 @@ both-marked marks [] [] go have more = tt
 both-marked marks [] (monitor ∷ after) go have more = more
 both-marked marks (monitor ∷ before) [] go have more = absurd go
 both-marked marks (monitor ∷ before) (monitor' ∷ after) go have more = (gone-marked marks monitor monitor' go.0 have.0, both-marked marks before after go.1 have.1 more)
+
+-- where none is new
+pub same-marked : (marks : List Mark) (before after : List Monitor) → length after ≡ length before → AllGo before after → AllByRecursion (HasMarkOf marks) before → AllByRecursion (HasMarkOf marks) after
+same-marked marks [] [] many go have = tt
+same-marked marks [] (monitor ∷ after) many go have = absurd (omega (arith, many))
+same-marked marks (monitor ∷ before) [] many go have = absurd go
+same-marked marks (monitor ∷ before) (monitor' ∷ after) many go have = (gone-marked marks monitor monitor' go.0 have.0, same-marked marks before after (omega (arith, many)) go.1 have.1)
+
+zip-many : (hash : List ℕ → List ℕ) (verified : List ℕ → List ℕ → List ℕ → Type 0) (list : List ℕ) (before after : List Monitor) → AllZip (MonitorUpdates hash verified list) before after → length after ≡ length before
+zip-many hash verified list [] [] zip = refl
+zip-many hash verified list [] (monitor ∷ after) zip = absurd zip
+zip-many hash verified list (monitor ∷ before) [] zip = absurd zip
+zip-many hash verified list (monitor ∷ before) (monitor' ∷ after) zip = ap suc (zip-many hash verified list before after zip.1)
+
+-- and none is new where no more lists are needed
+pub advances-many : {T : Type 0} (hash : List ℕ → List ℕ) (accepted verified : List ℕ → List ℕ → List ℕ → Type 0) (exchanged : T → RequestContent → Frame → T → Type 0) (marks : List Mark) (epoch : ℕ) (before after : Scene T)
+    → Advances hash accepted verified exchanged epoch before false after → length after.monitors ≡ length before.monitors
+advances-many {T} hash accepted verified exchanged marks epoch before after (inl (there, same)) = ap (λ (s : Scene T). length s.monitors) same
+advances-many {T} hash accepted verified exchanged marks epoch before after (inr (low, inl (inl (head, is, last, same)))) = ap (λ (s : Scene T). length s.monitors) same
+advances-many {T} hash accepted verified exchanged marks epoch before after (inr (low, inl (inr (frame, stream, asks, none, same)))) = ap (λ (s : Scene T). length s.monitors) same
+advances-many {T} hash accepted verified exchanged marks epoch before after (inr (low, inr ((frame, asks, (client, monitors), same, above), there))) = zip-many hash verified frame.body before.monitors after.monitors monitors
 
 drop-ordered : (count : ℕ) (monitors : List Monitor) → AreOrdered monitors → AreOrdered (drop count monitors)
 drop-ordered zero [] ordered = tt
@@ -135,9 +162,9 @@ pub record AreGone (known : List Mark) (before after : List Monitor) : Type 0 wh
 -- once a state learned what is told, it has looked at all monitors, and each has a mark
 pub learned-marks : {H V S : Type 0} (asker : Asker H V S) (told : List ℕ) (state : State) (after : Option State) (before : List Monitor) → KeepsUp asker told (Some state) after → HasNoRepeat (map name_of state.memory.marks)
     → AreGone state.memory.marks before asker.monitors.items → StateMarks (Some state) before → StateMarks after asker.monitors.items
-learned-marks asker told state after before (middle, (kept, is, (shown, promised, marked, one, two, shows, learns, begins), head, looked, changes), saves) once gone (count, have, was) =
+learned-marks asker told state after before (middle, (kept, is, (shown, promised, marked, one, two, shows, learns, begins), head, looked, was-new, changes), saves) once gone (count, have, was) =
     let monitors = asker.monitors.items in
-    let (last, at, (some, moves, (alarms, moved, three, tells, marks)), heads, all, still) = subst (λ (m : Option State). SavesTo asker told m after) is saves in
+    let (last, at, (some, moves, (alarms, moved, three, tells, marks)), heads, was, all, still) = subst (λ (m : Option State). SavesTo asker told m after) is saves in
     let same : two.marks ≡ state.memory.marks = learns-stay _ asker.client.promises one two promised learns ∙ lines-stay EvidenceLines (lines_of told) state.memory one shown shows in
     let alike : three.marks ≡ kept.memory.marks = lines-stay Alarms (lines_of told) kept.memory three alarms tells in
     let new = drop state.monitors monitors in
@@ -154,8 +181,8 @@ learned-marks asker told state after before (middle, (kept, is, (shown, promised
 -- a state is not lost
 pub learned-lasts : {H V S : Type 0} (asker : Asker H V S) (told : List ℕ) (before after : Option State) → KeepsUp asker told before after → after ≡ None → before ≡ None
 learned-lasts asker told None after kept none = refl
-learned-lasts asker told (Some state) after (middle, (kept, is, learns, head, looked, changes), saves) none =
-    let (last, at, moves, heads, all, still) = subst (λ (m : Option State). SavesTo asker told m after) is saves in
+learned-lasts asker told (Some state) after (middle, (kept, is, learns, head, looked, was-new, changes), saves) none =
+    let (last, at, moves, heads, was, all, still) = subst (λ (m : Option State). SavesTo asker told m after) is saves in
     absurd (some-none last after at none)
   where
     some-none : (last : State) (after : Option State) → after ≡ Some last → after ≡ None → ⊥

@@ -7,9 +7,7 @@ use Rattle.std.specs.Prelude.{slice_get, ⊤}
 use Rattle.commands.specs.Operations.{Lookup}
 use Rattle.commands.specs.declared.edit.Verb.{Verb}
 use Rattle.rootchain.specs.Promises.{SpellsPromise}
-use Rattle.rootchain.specs.Chains.{IsHead, KeyedRoots}
 use Rattle.rootchain.specs.declared.signed_promise.SignedPromise.{SignedPromise}
-use Rattle.rootchain.specs.declared.signed_root.SignedRoot.{SignedRoot}
 use Rattle.client.specs.Clients.{Client, HasRootOf}
 use Rattle.client.specs.Promising.{KeepsPromise}
 use Rattle.client.specs.declared.client_refusal.Refusal.{Refusal}
@@ -17,21 +15,22 @@ use Rattle.monitor.specs.Monitors.{Monitor}
 use Rattle.wire.specs.Frames.{Frame}
 use Rattle.wire.specs.Requests.{RequestContent, Put, Query, Turn}
 use Rattle.wire.specs.Responses.{ResponseContent, Promise, Proof, Refused, Responds, Root, Roots}
-use Rattle.play.specs.Scripts.{ScriptLine, Pass, Ask, Watch, Piece, End}
+use Rattle.play.specs.Scripts.{ScriptLine, Ask}
 use Rattle.play.proofs.Calling.{one-promise}
 use Rattle.memory.specs.declared.mark.Mark.{Mark}
 use Rattle.asking.specs.declared.ask_fault.AskFault.{AskFault}
-use Rattle.asking.specs.Asking.{replied, AsksDirectory, AsksSome, CatchesSome, CatchesUp, HearsSome, Notes}
+use Rattle.asking.specs.Answering.{IsAnswerAt}
+use Rattle.asking.specs.Asking.{response_epoch, HearsSome, Notes, SpeaksOf}
 use Rattle.asking.specs.Checking.{HearsFrame, HearsResponse}
-use Rattle.asking.specs.Ending.{DoesSomeNoting, PreparesSome}
+use Rattle.asking.specs.Ending.{DoesSomeNoting, LooksSome, PreparesSome}
 use Rattle.asking.specs.Following.{asks_roots, StopsFollowing}
 use Rattle.asking.specs.Reports.{Report}
 use Rattle.asking.specs.Runs.{Background}
 use Rattle.asking.specs.Saves.{IsSignedBy}
 use Rattle.asking.specs.Scenes.{Scene}
-use Rattle.asking.proofs.EveryStep.{catches_up-keeps, does_some-keeps, prepares_some-keeps, EachKeeps}
+use Rattle.asking.proofs.EveryStep.{advances-keep, advances_some-keeps, does_some-keeps, hears_some-keeps, looks_some-keeps, prepares_some-keeps, reply-keeps, EachKeeps}
+use Rattle.asking.proofs.Standing.{AdvancesAny, HearsAny}
 use Rattle.asking.proofs.Heard.{keeps_same}
-use Rattle.asking.proofs.OwnRoots.{some-same}
 use Rattle.asking.proofs.Ran.{updated_key}
 use Rattle.asking.proofs.SameChain.{frame-chain, shown-chain}
 
@@ -48,60 +47,70 @@ abbrev pub NotesOwn : (List ℕ → List ℕ → List ℕ → Type 0) → List �
 NotesOwn verified key Is said noted noted' = (noted' ≡ noted)
     ⊎ ((signed : SignedPromise) × IsSignedBy verified key signed × Is signed × ((verb : Verb) × (said ≡ Ask (Put verb signed.promise.name signed.promise.key))) × (noted' ≡ noted ++ signed ∷ []))
 
-pub notes-so : (verified : List ℕ → List ℕ → List ℕ → Type 0) (key : List ℕ) (Is So : SignedPromise → Type 0) (said : ScriptLine) (noted noted' : List SignedPromise) → ((signed : SignedPromise) → Is signed → So signed) → NotesOwn verified key Is said noted noted'
-    → NotesOwn verified key So said noted noted'
-notes-so verified key Is So said noted noted' so (inl same) = inl same
-notes-so verified key Is So said noted noted' so (inr (signed, by, is, asked, grown)) = inr (signed, by, so signed is, asked, grown)
-
--- the promise is over a root that is not below the chain's head
-abbrev pub IsNotBelow : KeyedRoots → SignedPromise → Type 0
-IsNotBelow chain signed = (head : SignedRoot) → IsHead chain head → head.body.epoch ≤ signed.promise.epoch
+-- the promise is over a root that is not below the head when it was asked for, nor below the epoch of which the frame speaks
+abbrev pub IsLate : ℕ → RequestContent → Frame → SignedPromise → Type 0
+IsLate held asked frame signed = (held ≤ signed.promise.epoch) × ((epoch : ℕ) → SpeaksOf held asked frame epoch → epoch ≤ signed.promise.epoch)
 
 module _ (hash : List ℕ → List ℕ) (accepted verified : List ℕ → List ℕ → List ℕ → Type 0) where
   -- a change of a name to a key is asked for
   module _ (held : ℕ) (before after : Client) (told : Report) (verb : Verb) (name key : List ℕ) where
-    -- the client has the promises that it had, or one more, which is signed for this, over a root of its chain that is not below
-    -- the head that it had when it asked
-    abbrev HasPromised : List ℕ → Type 0
-    HasPromised body = (after.promises ≡ before.promises)
-        ⊎ ((signed : SignedPromise) × IsSignedBy verified before.chain.key signed × (signed.promise.name ≡ name) × (signed.promise.key ≡ key) × SpellsPromise body signed
-        × ((held ≤ signed.promise.epoch) × HasRootOf hash before.chain signed.promise) × (after.promises ≡ before.promises ++ signed ∷ []))
+    -- the client has the promises that it had, or one more, which is signed for this, over a root of its chain, and is late
+    abbrev HasPromised : Frame → Type 0
+    HasPromised frame = (after.promises ≡ before.promises)
+        ⊎ ((signed : SignedPromise) × IsSignedBy verified before.chain.key signed × (signed.promise.name ≡ name) × (signed.promise.key ≡ key) × SpellsPromise frame.body signed
+        × (IsLate held (Put verb name key) frame signed × HasRootOf hash before.chain signed.promise) × (after.promises ≡ before.promises ++ signed ∷ []))
 
-    stays : (body : List ℕ) → after ≡ before → HasPromised body
-    stays body same = inl (ap (λ (c : Client). c.promises) same)
+    stays : (frame : Frame) → after ≡ before → HasPromised frame
+    stays frame same = inl (ap (λ (c : Client). c.promises) same)
 
-    keeps-promised : (body : List ℕ) (given : SignedPromise) → SpellsPromise body given → (given.promise.name ≡ name) × (given.promise.key ≡ key) → held ≤ given.promise.epoch → (answer : Result (Unit {0}) Refusal) → KeepsPromise hash verified before body answer after → HasPromised body
-    keeps-promised body given spelled (named, keyed) timely (Ok done) (signed, ((spells, verifies), rooted), same) =
-        let one : signed ≡ given = one-promise body signed given spells spelled in
-        inr (signed, (spells.1, verifies), ap (λ (s : SignedPromise). s.promise.name) one ∙ named, ap (λ (s : SignedPromise). s.promise.key) one ∙ keyed, spells, (subst (λ (s : SignedPromise). held ≤ s.promise.epoch) (sym one) timely, rooted), ap (λ (c : Client). c.promises) same)
-    keeps-promised body given spelled answers timely (Err why) keeps = stays body (keeps_same hash verified before after body why keeps)
+    keeps-promised : (frame : Frame) (given : SignedPromise) → SpellsPromise frame.body given → (given.promise.name ≡ name) × (given.promise.key ≡ key) → IsLate held (Put verb name key) frame given → (answer : Result (Unit {0}) Refusal)
+        → KeepsPromise hash verified before frame.body answer after → HasPromised frame
+    keeps-promised frame given spelled (named, keyed) late (Ok done) (signed, ((spells, verifies), rooted), same) =
+        let one : signed ≡ given = one-promise frame.body signed given spells spelled in
+        inr (signed, (spells.1, verifies), ap (λ (s : SignedPromise). s.promise.name) one ∙ named, ap (λ (s : SignedPromise). s.promise.key) one ∙ keyed, spells, (subst (IsLate held (Put verb name key) frame) (sym one) late, rooted), ap (λ (c : Client). c.promises) same)
+    keeps-promised frame given spelled answers late (Err why) keeps = stays frame (keeps_same hash verified before after frame.body why keeps)
 
-    hears-promised : (frame : Frame) (responded : ResponseContent) → Responds frame.kind frame.body responded → HearsResponse hash accepted verified held before frame.body (Put verb name key) responded told after → HasPromised frame.body
-    hears-promised frame (Refused code) is (tells, same) = stays frame.body same
-    hears-promised frame (Promise signed) is (inl (not, tells, same)) = stays frame.body same
-    hears-promised frame (Promise signed) (kind, spells) (inr ((answers, timely), (answer, (keeps, tellable), tells))) = keeps-promised frame.body signed spells answers timely answer keeps
-    hears-promised frame (Proof reply) is (inl (not, tells, same)) = stays frame.body same
+    -- a frame that is a promise speaks of no later epoch
+    speaks-low : (frame : Frame) (signed : SignedPromise) → Responds frame.kind frame.body (Promise signed) → (epoch : ℕ) → SpeaksOf held (Put verb name key) frame epoch → epoch ≤ signed.promise.epoch
+    speaks-low frame signed is epoch (inl (responded, responds, inl (answers, same))) = by responded responds answers same
+      where
+        by : (responded : ResponseContent) → Responds frame.kind frame.body responded → IsAnswerAt held (Put verb name key) responded → epoch ≡ response_epoch responded → epoch ≤ signed.promise.epoch
+        by (Promise other) (kind, spells) answers' same' =
+            let one : other ≡ signed = one-promise frame.body other signed spells is.1 in
+            omega (arith, same', ap (λ (s : SignedPromise). s.promise.epoch) one)
+        by (Proof reply) responds' answers' same' = absurd answers'.0
+        by (Roots roots) responds' answers' same' = absurd answers'.0
+        by (Root latest) responds' answers' same' = absurd answers'.0
+        by (Refused code) responds' answers' same' = omega (arith, same')
+    speaks-low frame signed is epoch (inl (responded, responds, inr (not, none))) = omega (arith, none)
+    speaks-low frame signed is epoch (inr (unread, none)) = omega (arith, none)
+
+    hears-promised : (frame : Frame) (responded : ResponseContent) → Responds frame.kind frame.body responded → HearsResponse hash accepted verified held before frame.body (Put verb name key) responded told after → HasPromised frame
+    hears-promised frame (Refused code) is (tells, same) = stays frame same
+    hears-promised frame (Promise signed) is (inl (not, tells, same)) = stays frame same
+    hears-promised frame (Promise signed) is (inr ((answers, timely), (answer, (keeps, tellable), tells))) = keeps-promised frame signed is.1 answers (timely, speaks-low frame signed is) answer keeps
+    hears-promised frame (Proof reply) is (inl (not, tells, same)) = stays frame same
     hears-promised frame (Proof reply) is (inr (answers, checked)) = absurd answers.0
-    hears-promised frame (Roots roots) is (inl (not, tells, same)) = stays frame.body same
+    hears-promised frame (Roots roots) is (inl (not, tells, same)) = stays frame same
     hears-promised frame (Roots roots) is (inr (answers, checked)) = absurd answers.0
-    hears-promised frame (Root latest) is (inl (not, tells, same)) = stays frame.body same
+    hears-promised frame (Root latest) is (inl (not, tells, same)) = stays frame same
     hears-promised frame (Root latest) is (inr (answers, checked)) = absurd answers.0
 
-    frame-promised : (frame : Frame) → HearsFrame hash accepted verified held before (Put verb name key) frame told after → HasPromised frame.body
+    frame-promised : (frame : Frame) → HearsFrame hash accepted verified held before (Put verb name key) frame told after → HasPromised frame
     frame-promised frame (inl (responded, responds, hears)) = hears-promised frame responded responds hears
-    frame-promised frame (inr (why, reads, tells, same)) = stays frame.body same
+    frame-promised frame (inr (why, reads, tells, same)) = stays frame same
 
   -- what is noted behind a frame
   noted-own : (held : ℕ) (asked : RequestContent) (frame : Frame) (told : Report) (before after : Client) (noted noted' : List SignedPromise) → HearsFrame hash accepted verified held before asked frame told after
-      → Notes asked before.promises after.promises noted noted' → NotesOwn verified before.chain.key (λ (signed : SignedPromise). held ≤ signed.promise.epoch) (Ask asked) noted noted'
+      → Notes asked before.promises after.promises noted noted' → NotesOwn verified before.chain.key (IsLate held asked frame) (Ask asked) noted noted'
   noted-own held (Query query) frame told before after noted noted' hears same = inl same
   noted-own held (Turn token epoch _) frame told before after noted noted' hears same = inl same
   noted-own held (Put verb name key) frame told before after noted noted' hears (inl (few, same)) = inl same
   noted-own held (Put verb name key) frame told before after noted noted' hears (inr (more, (last, at, is))) = elim (frame-promised held before after told verb name key frame hears) [
     | inl same ↦ absurd (omega (arith, ap (λ (ps : List SignedPromise). length ps) same, more))
-    | inr (signed, own, named, keyed, spelled, (timely, rooted), grown) ↦
+    | inr (signed, own, named, keyed, spelled, (late, rooted), grown) ↦
         let one : signed ≡ last = last-is before.promises signed last (subst (λ (ps : List SignedPromise). slice_get ps (length ps - 1) ≡ Some last) grown at) in
-        inr (signed, own, timely, (verb, ap₂ (λ (n k : List ℕ). Ask (Put verb n k)) (sym named) (sym keyed)), is ∙ ap (λ (s : SignedPromise). noted ++ s ∷ []) (sym one))
+        inr (signed, own, late, (verb, ap₂ (λ (n k : List ℕ). Ask (Put verb n k)) (sym named) (sym keyed)), is ∙ ap (λ (s : SignedPromise). noted ++ s ∷ []) (sym one))
   ]
 
   -- a promise that the client has now as its last is spelled by the frame
@@ -109,16 +118,16 @@ module _ (hash : List ℕ → List ℕ) (accepted verified : List ℕ → List �
       → length before.promises < length after.promises → slice_get after.promises (length after.promises - 1) ≡ Some last → SpellsPromise frame.body last
   last-spelled held verb name key frame told before after last hears more at = elim (frame-promised held before after told verb name key frame hears) [
     | inl same ↦ absurd (omega (arith, ap (λ (ps : List SignedPromise). length ps) same, more))
-    | inr (signed, own, named, keyed, spelled, (timely, rooted), grown) ↦
+    | inr (signed, own, named, keyed, spelled, (late, rooted), grown) ↦
         subst (SpellsPromise frame.body) (last-is before.promises signed last (subst (λ (ps : List SignedPromise). slice_get ps (length ps - 1) ≡ Some last) grown at)) spelled
   ]
 
-  -- and is over a root of the chain that is not below the head when it was asked for
+  -- and is over a root of the chain, and late
   pub last-rooted : (held : ℕ) (verb : Verb) (name key : List ℕ) (frame : Frame) (told : Report) (before after : Client) (last : SignedPromise) → HearsFrame hash accepted verified held before (Put verb name key) frame told after
-      → length before.promises < length after.promises → slice_get after.promises (length after.promises - 1) ≡ Some last → (held ≤ last.promise.epoch) × HasRootOf hash before.chain last.promise
+      → length before.promises < length after.promises → slice_get after.promises (length after.promises - 1) ≡ Some last → IsLate held (Put verb name key) frame last × HasRootOf hash before.chain last.promise
   last-rooted held verb name key frame told before after last hears more at = elim (frame-promised held before after told verb name key frame hears) [
     | inl same ↦ absurd (omega (arith, ap (λ (ps : List SignedPromise). length ps) same, more))
-    | inr (signed, own, named, keyed, spelled, both, grown) ↦ subst (λ (s : SignedPromise). (held ≤ s.promise.epoch) × HasRootOf hash before.chain s.promise)
+    | inr (signed, own, named, keyed, spelled, both, grown) ↦ subst (λ (s : SignedPromise). IsLate held (Put verb name key) frame s × HasRootOf hash before.chain s.promise)
         (last-is before.promises signed last (subst (λ (ps : List SignedPromise). slice_get ps (length ps - 1) ≡ Some last) grown at)) both
   ]
 
@@ -156,57 +165,33 @@ module _ (hash : List ℕ → List ℕ) (accepted verified : List ℕ → List �
     pub prepares_some_key : (background : Background) (HasNoState : Type 0) (before after : Scene T) → PreparesSome hash accepted verified exchanged background HasNoState before after → SameKey before after
     prepares_some_key background HasNoState before after prepares = prepares_some-keeps hash accepted verified exchanged background (each-key background.marks) HasNoState tt before after prepares
 
+    pub advanced_key : (background : Background) (epoch : ℕ) (before after : Scene T) → AdvancesAny hash accepted verified exchanged background epoch before after → SameKey before after
+    advanced_key background epoch before after (inl (goes, advances)) = advances-keep hash accepted verified exchanged background.marks (each-key background.marks) epoch before goes after advances
+    advanced_key background epoch before after (inr (inl stops)) = (each-key background.marks).stops before after tt stops
+    advanced_key background epoch before after (inr (inr some)) = advances_some-keeps hash accepted verified exchanged background.marks (each-key background.marks) epoch before after some
+
+    pub looks_key : (background : Background) (held : ℕ) (frame : Frame) (before after : Scene T) → LooksSome hash accepted verified exchanged background held frame before after → SameKey before after
+    looks_key background held frame before after looks = looks_some-keeps hash accepted verified exchanged background (each-key background.marks) held frame before after looks
+
+    pub hears_key : (fault : AskFault) (background : Background) (held : ℕ) (asked : RequestContent) (frame : Frame) (noted noted' : List SignedPromise) (before after : Scene T) → HearsAny hash accepted verified exchanged background fault held asked frame noted noted' before after
+        → SameKey before after
+    hears_key fault background held asked frame noted noted' before after (inl hears) = reply-keeps hash accepted verified exchanged background.marks (each-key background.marks) held asked frame noted noted' before after tt hears
+    hears_key fault background held asked frame noted noted' before after (inr some) = hears_some-keeps hash accepted verified exchanged background.marks (each-key background.marks) held asked frame noted noted' before after tt some
+
     pub some_key : (fault : AskFault) (background : Background) (said : ScriptLine) (noted noted' : List SignedPromise) (before after : Scene T) → DoesSomeNoting hash accepted verified exchanged background fault said noted noted' before after → SameKey before after
     some_key fault background said noted noted' before after does =
         does_some-keeps hash accepted verified exchanged background (each-key background.marks) fault tt said noted noted' before after tt (λ name given is. tt) does
 
-    -- ---- what is noted of a line
+    -- ---- what is noted of a reply
 
-    module _ (marks : List Mark) (token : List ℕ) (asked : RequestContent) (noted noted' : List SignedPromise) where
-      abbrev HasNotes : ℕ → Scene T → Type 0
-      HasNotes held before = NotesOwn verified before.client.chain.key (λ (signed : SignedPromise). held ≤ signed.promise.epoch) (Ask asked) noted noted'
+    hears_some-notes : (fault : AskFault) (marks : List Mark) (held : ℕ) (asked : RequestContent) (frame : Frame) (noted noted' : List SignedPromise) (before after : Scene T) → HearsSome hash accepted verified exchanged fault marks held asked frame noted noted' before after
+        → NotesOwn verified before.client.chain.key (IsLate held asked frame) (Ask asked) noted noted'
+    hears_some-notes fault marks held asked frame noted noted' before after (inl (none, same)) = inl none
+    hears_some-notes fault marks held asked frame noted noted' before after (inr (inl (inl none, told, hears, tells, monitors, stream))) = inl none
+    hears_some-notes fault marks held asked frame noted noted' before after (inr (inl (inr (out, notes), told, hears, tells, monitors, stream))) = noted-own held asked frame told before.client after.client noted noted' hears notes
+    hears_some-notes fault marks held asked frame noted noted' before after (inr (inr (heard, hears, notes, goes))) = noted-own held asked frame hears.told before.client heard.client noted noted' hears.hears notes
 
-      -- once the chain is as far as the reply
-      caught-notes : (held epoch : ℕ) (before ready : Scene T) → CatchesUp hash accepted verified exchanged epoch before ready → HasNotes held ready → HasNotes held before
-      caught-notes held epoch before ready catches notes =
-          subst (λ (k : List ℕ). NotesOwn verified k (λ (signed : SignedPromise). held ≤ signed.promise.epoch) (Ask asked) noted noted') (catches_up-keeps hash accepted verified exchanged marks (each-key marks) epoch before ready catches) notes
-
-      -- the head when it was asked is that of the chain
-      from-head : (before : Scene T) (own : SignedRoot) → IsHead before.client.chain own → HasNotes own.body.epoch before → NotesOwn verified before.client.chain.key (IsNotBelow before.client.chain) (Ask asked) noted noted'
-      from-head before own is notes = notes-so verified before.client.chain.key (λ (signed : SignedPromise). own.body.epoch ≤ signed.promise.epoch) (IsNotBelow before.client.chain) (Ask asked) noted noted'
-          (λ signed low head at. subst (λ (root : SignedRoot). root.body.epoch ≤ signed.promise.epoch) (some-same own head (sym is ∙ at)) low) notes
-
-      asks-notes : (before after : Scene T) → AsksDirectory hash accepted verified exchanged marks token asked noted noted' before after → NotesOwn verified before.client.chain.key (IsNotBelow before.client.chain) (Ask asked) noted noted'
-      asks-notes before after asks = from-head before asks.reply.head asks.reply.is (caught-notes asks.reply.head.body.epoch asks.reply.epoch (replied asks.reply) asks.ready asks.catches
-          (noted-own asks.reply.head.body.epoch asked asks.reply.frame asks.hears.told asks.ready.client asks.heard.client noted noted' asks.hears.hears asks.notes))
-
-      hears_some-notes : {fault : AskFault} (held : ℕ) (frame : Frame) (before after : Scene T) → HearsSome hash accepted verified exchanged fault marks held asked frame noted noted' before after → HasNotes held before
-      hears_some-notes held frame before after (inl (none, same)) = inl none
-      hears_some-notes held frame before after (inr (inl (inl none, told, hears, tells, monitors, stream))) = inl none
-      hears_some-notes held frame before after (inr (inl (inr (out, notes), told, hears, tells, monitors, stream))) = noted-own held asked frame told before.client after.client noted noted' hears notes
-      hears_some-notes held frame before after (inr (inr (heard, hears, notes, goes))) = noted-own held asked frame hears.told before.client heard.client noted noted' hears.hears notes
-
-      asks_some-notes : {fault : AskFault} (before after : Scene T) → AsksSome hash accepted verified exchanged fault marks token asked noted noted' before after → NotesOwn verified before.client.chain.key (IsNotBelow before.client.chain) (Ask asked) noted noted'
-      asks_some-notes before after (inl (none, same)) = inl none
-      asks_some-notes {fault} before after (inr asks) = from-head before asks.reply.head asks.reply.is (by asks.steps)
-        where
-          by : ((noted' ≡ noted) × CatchesSome hash accepted verified exchanged asks.reply.epoch (replied asks.reply) after)
-              ⊎ ((ready : Scene T) × CatchesUp hash accepted verified exchanged asks.reply.epoch (replied asks.reply) ready × HearsSome hash accepted verified exchanged fault marks asks.reply.head.body.epoch asked asks.reply.frame noted noted' ready after)
-              → HasNotes asks.reply.head.body.epoch before
-          by (inl (none, catches)) = inl none
-          by (inr (ready, catches, hears)) = caught-notes asks.reply.head.body.epoch asks.reply.epoch (replied asks.reply) ready catches (hears_some-notes asks.reply.head.body.epoch asks.reply.frame ready after hears)
-
-    pub some_notes : (fault : AskFault) (background : Background) (said : ScriptLine) (noted noted' : List SignedPromise) (before after : Scene T) → DoesSomeNoting hash accepted verified exchanged background fault said noted noted' before after
-        → NotesOwn verified before.client.chain.key (IsNotBelow before.client.chain) said noted noted'
-    some_notes fault background said noted noted' before after (inl (same, none)) = inl none
-    some_notes fault background Pass noted noted' before after (inr (inl (same, none))) = inl none
-    some_notes fault background Pass noted noted' before after (inr (inr part)) = absurd part
-    some_notes fault background (Ask asked) noted noted' before after (inr (inl asks)) = asks-notes background.marks background.token asked noted noted' before after asks
-    some_notes fault background (Ask asked) noted noted' before after (inr (inr (inl (stops, none)))) = inl none
-    some_notes fault background (Ask asked) noted noted' before after (inr (inr (inr some))) = asks_some-notes background.marks background.token asked noted noted' before after some
-    some_notes fault background (Watch name given) noted noted' before after (inr (inl (begins, none))) = inl none
-    some_notes fault background (Watch name given) noted noted' before after (inr (inr (begins, none))) = inl none
-    some_notes fault background (Piece session piece) noted noted' before after (inr (inl never)) = absurd never
-    some_notes fault background (Piece session piece) noted noted' before after (inr (inr never)) = absurd never
-    some_notes fault background (End session) noted noted' before after (inr (inl never)) = absurd never
-    some_notes fault background (End session) noted noted' before after (inr (inr never)) = absurd never
+    pub hears_notes : (fault : AskFault) (background : Background) (held : ℕ) (asked : RequestContent) (frame : Frame) (noted noted' : List SignedPromise) (before after : Scene T) → HearsAny hash accepted verified exchanged background fault held asked frame noted noted' before after
+        → NotesOwn verified before.client.chain.key (IsLate held asked frame) (Ask asked) noted noted'
+    hears_notes fault background held asked frame noted noted' before after (inl hears) = noted-own held asked frame hears.hears.told before.client hears.heard.client noted noted' hears.hears.hears hears.notes
+    hears_notes fault background held asked frame noted noted' before after (inr some) = hears_some-notes fault background.marks held asked frame noted noted' before after some

@@ -1,5 +1,5 @@
 -- What is owned stays so where a promise for a change of the owner's own is noted: it counts from then on.
-use Rattle.std.proofs.Common.{◌≡◌, ◌∙◌, ◌⊎◌, ◌-◌, ◌<◌, ◌≤◌, ℕ, zero, suc, List, [], ◌∷◌, ◌++◌, length, Contains, Option, Some, arith, ap, inl, inr, subst, sym}
+use Rattle.std.proofs.Common.{◌≡◌, ◌∙◌, ◌⊎◌, ◌-◌, ◌<◌, ◌≤◌, ℕ, true, false, List, [], ◌∷◌, ◌++◌, length, Contains, Option, Some, arith, ap, inl, inr, subst, sym}
 use Rattle.std.specs.Prelude.{slice_get}
 use Rattle.std.proofs.lemmas.List.Elements.{Contains-push}
 use Rattle.commands.specs.declared.edit.Verb.{Verb}
@@ -23,8 +23,9 @@ use Rattle.monitor.specs.declared.monitor_refusal.Refusal.{Refusal}
 use Rattle.proofs.specs.Watches.{Watch}
 use Rattle.wire.specs.Frames.{Frame}
 use Rattle.wire.specs.Requests.{RequestContent, Put, Query, Turn}
-use Rattle.asking.specs.Asking.{CatchesUp, Hands, HandsAll, HandsTo, HearsOne, Notes}
-use Rattle.asking.specs.Following.{Follows, MonitorUpdates}
+use Rattle.asking.specs.Catching.{Advances}
+use Rattle.asking.specs.Asking.{Hands, HandsAll, HandsTo, HearsOne, Notes}
+use Rattle.asking.specs.Following.{MonitorUpdates, TakesList}
 use Rattle.asking.specs.Owning.{HasChange, IsHeld, IsOwn, IsOwners, Owns}
 use Rattle.asking.specs.Reports.{Report, silent}
 use Rattle.asking.specs.Saves.{noting, Counts, IsOwnAhead}
@@ -32,7 +33,7 @@ use Rattle.asking.specs.Scenes.{Scene}
 use Rattle.asking.specs.Standing.{IsCurrent}
 use Rattle.asking.specs.Told.{HasBody}
 use Rattle.asking.proofs.JoinedChanges.{expects-handed, handed-more}
-use Rattle.asking.proofs.NotedOwn.{last-rooted, last-spelled}
+use Rattle.asking.proofs.NotedOwn.{last-rooted, last-spelled, IsLate}
 use Rattle.asking.proofs.Noting.{expects-counted, noted-last, tells-counted}
 use Rattle.asking.proofs.OwnRoots.{some-same}
 use Rattle.asking.proofs.OwnedMonitors.{own-first, Low}
@@ -68,15 +69,18 @@ module _ (hash : List ℕ → List ℕ) (accepted verified : List ℕ → List �
   all-below list (monitor ∷ before) (monitor' ∷ after) (one, zip) all = (below-taken list monitor monitor' one all.0, all-below list before after zip all.1)
 
   module _ {T : Type 0} (exchanged : T → RequestContent → Frame → T → Type 0) where
-    follows-below : (count : ℕ) (before after : Scene T) → Follows hash verified exchanged count before after → AllByRecursion IsBelow before.monitors → AllByRecursion IsBelow after.monitors
-    follows-below zero before after (inl (head, is, last, same)) all = subst (λ (s : Scene T). AllByRecursion IsBelow s.monitors) (sym same) all
-    follows-below zero before after (inr (frame, stream, asks, none, same)) all = subst (λ (s : Scene T). AllByRecursion IsBelow s.monitors) (sym same) all
-    follows-below (suc count) before after (middle, (frame, asks, (client, monitors), same, above), more) all =
-        follows-below count middle after more (all-below frame.body before.monitors middle.monitors monitors all)
+    abbrev AllBelow : Scene T → Type 0
+    AllBelow now = AllByRecursion IsBelow now.monitors
 
-    pub catches-below : (epoch : ℕ) (before after : Scene T) → CatchesUp hash accepted verified exchanged epoch before after → AllByRecursion IsBelow before.monitors → AllByRecursion IsBelow after.monitors
-    catches-below epoch before after (head, is, inl (low, same)) all = subst (λ (s : Scene T). AllByRecursion IsBelow s.monitors) (sym same) all
-    catches-below epoch before after (head, is, inr (high, (count, follows))) all = follows-below count before after follows all
+    taken-below : (before after : Scene T) → TakesList hash verified exchanged before true after → AllBelow before → AllBelow after
+    taken-below before after (frame, asks, (client, monitors), same, above) all = all-below frame.body before.monitors after.monitors monitors all
+
+    -- no more lists are needed behind this one
+    pub waits-below : (marks : List Mark) (epoch : ℕ) (before after : Scene T) → Advances hash accepted verified exchanged epoch before false after → AllBelow before → AllBelow after
+    waits-below marks epoch before after (inl (there, same)) all = subst AllBelow (sym same) all
+    waits-below marks epoch before after (inr (low, inl (inl (head, is, last, same)))) all = subst AllBelow (sym same) all
+    waits-below marks epoch before after (inr (low, inl (inr (frame, stream, asks, none, same)))) all = subst AllBelow (sym same) all
+    waits-below marks epoch before after (inr (low, inr (takes, there))) all = taken-below before after takes all
 
   -- ---- it is handed
 
@@ -190,40 +194,40 @@ module _ (hash : List ℕ → List ℕ) (accepted verified : List ℕ → List �
 
 module _ {T : Type 0} (hash : List ℕ → List ℕ) (accepted verified : List ℕ → List ℕ → List ℕ → Type 0) (exchanged : T → RequestContent → Frame → T → Type 0) (Given : List ℕ → Option (List ℕ) → Type 0) (Own : SignedPromise → Type 0) (start : Memory) (marks : List Mark)
     (text : List ℕ) (stored : List SignedRoot) (known : List Mark) (key : List ℕ) (signs : (signed : SignedPromise) → Own signed → PromiseVerifies verified key signed) where
-  -- a line began with monitors that were below its head, and marks that were not above it
-  module _ (held : ℕ) (marked : (mark : Mark) → Contains known mark → (mark.epoch ≤ mark.since) ⊎ (mark.epoch ≤ held)) where
-    up-to : (epoch : ℕ) → held ≤ epoch → (mark : Mark) → Contains known mark → (mark.epoch ≤ mark.since) ⊎ (mark.epoch ≤ epoch)
+  -- no monitor and no mark is above an epoch
+  module _ (low : ℕ) (marked : (mark : Mark) → Contains known mark → (mark.epoch ≤ mark.since) ⊎ (mark.epoch ≤ low)) where
+    up-to : (epoch : ℕ) → low ≤ epoch → (mark : Mark) → Contains known mark → (mark.epoch ≤ mark.since) ⊎ (mark.epoch ≤ epoch)
     up-to epoch late mark has = elim (marked mark has) [
       | inl none ↦ inl none
-      | inr low ↦ inr (omega (arith, low, late))
+      | inr high ↦ inr (omega (arith, high, late))
     ]
 
     hands-one : (verb : Verb) (name given promise : List ℕ) (chain : KeyedRoots) (kept kept' : List SignedPromise) (before : List Monitor) (told : Report) (after : List Monitor) (last : SignedPromise) → length kept < length kept' → slice_get kept' (length kept' - 1) ≡ Some last
-        → Hands hash accepted verified (Put verb name given) promise kept kept' before told after → SpellsPromise promise last → PromiseVerifies verified key last → HasRootOf hash chain last.promise → held ≤ last.promise.epoch
-        → AllByRecursion (IsBelow hash accepted verified held) before → AllByRecursion (IsCurrent key chain) before
+        → Hands hash accepted verified (Put verb name given) promise kept kept' before told after → SpellsPromise promise last → PromiseVerifies verified key last → HasRootOf hash chain last.promise → low ≤ last.promise.epoch
+        → AllByRecursion (IsBelow hash accepted verified low) before → AllByRecursion (IsCurrent key chain) before
         → AllByRecursion (λ (monitor : Monitor). ((first : SignedRoot) → IsFirst monitor.client.chain first → first.body.epoch ≤ last.promise.epoch) × (last.promise.name ≡ monitor.name → HasChange monitor.watch.changes last.promise.epoch)) after
     hands-one verb name given promise chain kept kept' before told after last more at (inl (few, silent-is, same)) spelled verifies rooted late below current = absurd (omega (arith, more, few))
     hands-one verb name given promise chain kept kept' before told after last more at (inr (more', (signed, also, hands))) spelled verifies rooted late below current =
         let one : signed ≡ last = some-same signed last (sym also ∙ at) in
-        all-handed hash accepted verified held key chain last promise spelled verifies rooted late before silent told after
+        all-handed hash accepted verified low key chain last promise spelled verifies rooted late before silent told after
         (subst (λ (s : SignedPromise). HandsAll hash accepted verified s promise before silent told after) one hands) below current
 
-    pub heard-noted : (asked : RequestContent) (before after : Scene T) (frame : Frame) (noted noted' : List SignedPromise) → HearsOne hash accepted verified exchanged held asked frame before after
-        → Notes asked before.client.promises after.client.promises noted noted' → AllByRecursion Own noted' → AllByRecursion (IsBelow hash accepted verified held) before.monitors → AllByRecursion (IsCurrent key before.client.chain) before.monitors
+    pub heard-noted : (held : ℕ) (asked : RequestContent) (before after : Scene T) (frame : Frame) (noted noted' : List SignedPromise) → ((signed : SignedPromise) → IsLate held asked frame signed → low ≤ signed.promise.epoch) → HearsOne hash accepted verified exchanged held asked frame before after
+        → Notes asked before.client.promises after.client.promises noted noted' → AllByRecursion Own noted' → AllByRecursion (IsBelow hash accepted verified low) before.monitors → AllByRecursion (IsCurrent key before.client.chain) before.monitors
         → Owns hash accepted verified Given Own (noting start noted) text stored marks known after → Owns hash accepted verified Given Own (noting start noted') text stored marks known after
-    heard-noted (Put verb name given) before after frame noted noted' hears (inl (few, same)) owner below current owns =
+    heard-noted held (Put verb name given) before after frame noted noted' high hears (inl (few, same)) owner below current owns =
         subst (λ (all : List SignedPromise). Owns hash accepted verified Given Own (noting start all) text stored marks known after) (sym same) owns
-    heard-noted (Put verb name given) before after frame noted noted' hears (inr (more, (last, at, is))) owner below current owns =
+    heard-noted held (Put verb name given) before after frame noted noted' high hears (inr (more, (last, at, is))) owner below current owns =
         let own = all-has Own noted' last owner (subst (λ (all : List SignedPromise). Contains all last) (sym is) (Contains-push noted last)) in
         let spelled = last-spelled hash accepted verified held verb name given frame hears.told before.client after.client last hears.hears more at in
-        let (late, rooted) = last-rooted hash accepted verified held verb name given frame hears.told before.client after.client last hears.hears more at in
+        let (timely, rooted) = last-rooted hash accepted verified held verb name given frame hears.told before.client after.client last hears.hears more at in
         let chain = frame-chain hash accepted verified held before.client after.client (Put verb name given) frame hears.told hears.hears in
-        let expecting = hands-one verb name given frame.body before.client.chain before.client.promises after.client.promises before.monitors hears.handed after.monitors last more at hears.hands spelled (signs last own) rooted late below current in
+        let expecting = hands-one verb name given frame.body before.client.chain before.client.promises after.client.promises before.monitors hears.handed after.monitors last more at hears.hands spelled (signs last own) rooted (high last timely) below current in
         subst (λ (all : List SignedPromise). Owns hash accepted verified Given Own (noting start all) text stored marks known after) (sym is)
-        (owns-noted hash accepted verified Given Own start marks noted last text stored known after (subst (λ (c : KeyedRoots). HasRootOf hash c last.promise) (sym chain) rooted) expecting (up-to last.promise.epoch late) owns)
-    heard-noted (Query query) before after frame noted noted' hears same owner below current owns =
+        (owns-noted hash accepted verified Given Own start marks noted last text stored known after (subst (λ (c : KeyedRoots). HasRootOf hash c last.promise) (sym chain) rooted) expecting (up-to last.promise.epoch (high last timely)) owns)
+    heard-noted held (Query query) before after frame noted noted' high hears same owner below current owns =
         subst (λ (all : List SignedPromise). Owns hash accepted verified Given Own (noting start all) text stored marks known after) (sym same) owns
-    heard-noted (Turn token epoch _) before after frame noted noted' hears same owner below current owns =
+    heard-noted held (Turn token epoch _) before after frame noted noted' high hears same owner below current owns =
         subst (λ (all : List SignedPromise). Owns hash accepted verified Given Own (noting start all) text stored marks known after) (sym same) owns
 
   -- where a line begins

@@ -1,10 +1,14 @@
 -- A memory with more promises, and what an owner expects where more or fewer of them count.
-use Rattle.std.proofs.Common.{◌≡◌, ◌⊎◌, ℕ, ◌<◌, List, [], ◌∷◌, ◌++◌, map, Contains, Option, ap, arith, inl, inr, refl, subst}
+use Rattle.std.proofs.Common.{◌≡◌, ◌∙◌, ◌⊎◌, ℕ, ◌<◌, ◌||◌, Bool, true, false, List, [], ◌∷◌, ◌++◌, map, Contains, Option, ap, arith, inl, inr, refl, subst, sym}
 use Rattle.std.proofs.lemmas.Bool.{cases_lt}
 use Rattle.std.proofs.lemmas.List.Elements.{Contains-append_cases, Contains-append_left, Contains-append_right}
 use Rattle.rootchain.specs.declared.signed_promise.SignedPromise.{SignedPromise}
 use Rattle.rootchain.specs.declared.signed_root.SignedRoot.{SignedRoot}
 use Rattle.memory.specs.Memories.{Memory}
+use Rattle.memory.specs.Taking.{either, Takes}
+use Rattle.memory.specs.Texts.{TakesAll}
+use Rattle.memory.specs.declared.item.Item.{Item}
+use Rattle.memory.specs.declared.item.Item.TheVariants as item
 use Rattle.memory.specs.declared.promised.Promised.{Promised}
 use Rattle.asking.specs.Saves.{own_promised, with_promises, noting, WasOwn}
 use Rattle.asking.specs.Told.{ExpectsAt, TellsEpoch}
@@ -67,6 +71,46 @@ noted-last known noted last signed was = elim (noted-cases known (noted ++ last 
     ]
   ]
 ]
+
+-- ---- what is taken
+
+pub same-own : (before after : Memory) → after.promises ≡ before.promises → (signed : SignedPromise) → WasOwn before signed → WasOwn after signed
+same-own before after same signed (promised, has, this, own) = (promised, subst (λ (all : List Promised). Contains all promised) (sym same) has, this, own)
+
+either-so : (kept new : Bool) → kept ≡ true → kept || new ≡ true
+either-so true new is = refl
+either-so false new is = absurd (not-so is)
+  where
+    not-so : false ≡ true → ⊥
+    not-so e = cc
+
+-- a promise for a change of the owner's own stays one where more is taken
+takes-own : (taken : Item) (before after : Memory) → Takes taken before after → (signed : SignedPromise) → WasOwn before signed → WasOwn after signed
+takes-own (item.Promised new) before after (inl (front, kept, behind, was, same, be), is) signed (promised, has, this, own) =
+    elim (Contains-append_cases front (kept ∷ behind) promised (subst (λ (all : List Promised). Contains all promised) was has)) [
+      | inl early ↦ (promised, there promised (Contains-append_left front (either kept new ∷ behind) promised early), this, own)
+      | inr late ↦ elim (cons-cases kept promised behind late) [
+        | inl at ↦ (
+          either kept new,
+          there (either kept new) (Contains-append_right front (either kept new ∷ behind) (either kept new) (0, omega arith, refl)),
+          ap (λ (p : Promised). p.signed) at ∙ this,
+          either-so kept.is_own new.is_own (ap (λ (p : Promised). p.is_own) at ∙ own),
+        )
+        | inr more ↦ (promised, there promised (Contains-append_right front (either kept new ∷ behind) promised (cons-front (either kept new) promised behind more)), this, own)
+      ]
+    ]
+  where
+    there : (p : Promised) → Contains (front ++ either kept new ∷ behind) p → Contains after.promises p
+    there p at = subst (λ (all : List Promised). Contains all p) (sym be) at
+takes-own (item.Promised new) before after (inr (none, be), is) signed (promised, has, this, own) =
+    (promised, subst (λ (all : List Promised). Contains all promised) (sym be) (Contains-append_left before.promises (new ∷ []) promised has), this, own)
+takes-own (item.Watched mark) before after (puts, is) signed was = same-own before after (ap (λ (m : Memory). m.promises) is) signed was
+takes-own (item.Alarm alarm) before after (puts, is) signed was = same-own before after (ap (λ (m : Memory). m.promises) is) signed was
+takes-own (item.Evidence line) before after (puts, is) signed was = same-own before after (ap (λ (m : Memory). m.promises) is) signed was
+
+pub taken-own : (items : List Item) (before after : Memory) → TakesAll items before after → (signed : SignedPromise) → WasOwn before signed → WasOwn after signed
+taken-own [] before after same signed was = subst (λ (m : Memory). WasOwn m signed) (sym same) was
+taken-own (one ∷ items) before after (middle, sound, takes, more) signed was = taken-own items middle after more signed (takes-own one before middle takes signed was)
 
 -- ---- what is expected
 

@@ -17,7 +17,8 @@ use Rattle.memory.specs.declared.kind.Kind.{Kind}
 use Rattle.memory.specs.declared.kind.Kind.TheVariants.{Alarms, EvidenceLines}
 use Rattle.memory.specs.declared.mark.Mark.{Mark}
 use Rattle.memory.proofs.Joined.{push-no_repeat}
-use Rattle.asking.specs.Saves.{HasMark}
+use Rattle.rootchain.specs.declared.signed_root.SignedRoot.{SignedRoot}
+use Rattle.asking.specs.Saves.{HasMark, IsAsFar}
 use Rattle.asking.specs.Standing.{KeepsMarks}
 
 -- ---- lists
@@ -98,11 +99,12 @@ module _ (new : Mark) (before after : List Mark) where
       subst HasNoRepeat (sym names) once
   puts-once (inr (none, be)) once = subst (λ (ms : List Mark). HasNoRepeat (map name_of ms)) (sym be) (push-no_repeat name_of before new none once)
 
-  -- where the new one is of no later beginning than that whose place it takes, no mark is lost
-  pub puts-stays : PutsMark new before after → ((mark : Mark) → Contains before mark → mark.name ≡ new.name → new.since ≤ mark.since) → (old : Mark) → HasMark before old → HasMark after old
-  puts-stays puts earlier old (mark, has, named, low) = elim (puts-there puts mark has) [
-    | inl still ↦ (mark, still, named, low)
-    | inr (same, here) ↦ (new, here, sym same ∙ named, omega (arith, low, earlier mark has same))
+  -- where the new one is of no later beginning than that whose place it takes, and as far as the old one, no mark is lost
+  pub puts-stays : (roots : List SignedRoot) → PutsMark new before after → ((mark : Mark) → Contains before mark → mark.name ≡ new.name → new.since ≤ mark.since)
+      → (old : Mark) → (old.name ≡ new.name → IsAsFar roots old new) → HasMark roots before old → HasMark roots after old
+  puts-stays roots puts earlier old far (mark, has, named, low, up) = elim (puts-there puts mark has) [
+    | inl still ↦ (mark, still, named, low, up)
+    | inr (same, here) ↦ (new, here, sym same ∙ named, omega (arith, low, earlier mark has same), far (sym named ∙ same))
   ]
 
 -- ---- one after another is put
@@ -233,12 +235,16 @@ moved-earlier monitors monitor before new once (named, up, (since, inl (known, t
 moved-earlier monitors monitor before new once (named, up, (since, inr (none, begins), is)) mark has same =
     absurd (All-contains (λ (m : Mark). m.name ≢ monitor.name) before mark none has (same ∙ named))
 
--- no mark is lost
-pub moved-stays : (monitors some : List Monitor) (marks before after : List Mark) → EachPuts (IsMoved monitors) some before after → HasNoRepeat (map name_of before)
-    → ((old : Mark) → Contains marks old → HasMark before old) → (old : Mark) → Contains marks old → HasMark after old
-moved-stays monitors some marks before after puts once stays =
-    (each-keeps (IsMoved monitors) (λ _. ⊤) (λ now. HasNoRepeat (map name_of now) × ((old : Mark) → Contains marks old → HasMark now old))
-    (λ monitor _ old now new is puts holds. (puts-once new old now puts holds.0, λ mark has. puts-stays new old now puts (moved-earlier monitors monitor old new holds.0 is) mark (holds.1 mark has)))
+-- no mark is lost, where those that move are as far as the old ones of their names
+pub moved-stays : (monitors some : List Monitor) (roots : List SignedRoot) (marks before after : List Mark) → EachPuts (IsMoved monitors) some before after → HasNoRepeat (map name_of before)
+    → ((monitor : Monitor) (now : List Mark) (new : Mark) → IsMoved monitors monitor now new → (old : Mark) → Contains marks old → old.name ≡ new.name → IsAsFar roots old new)
+    → ((old : Mark) → Contains marks old → HasMark roots before old) → (old : Mark) → Contains marks old → HasMark roots after old
+moved-stays monitors some roots marks before after puts once far stays =
+    (each-keeps (IsMoved monitors) (λ _. ⊤) (λ now. HasNoRepeat (map name_of now) × ((old : Mark) → Contains marks old → HasMark roots now old))
+    (λ monitor _ old now new is puts holds. (
+      puts-once new old now puts holds.0,
+      λ mark has. puts-stays new old now roots puts (moved-earlier monitors monitor old new holds.0 is) mark (λ same. far monitor old new is mark has same) (holds.1 mark has),
+    ))
     some before after (all-any some) puts (once, stays)).1
 
 -- ---- what a state learns

@@ -1,24 +1,24 @@
 -- No step lowers the status that was told.
-use Rattle.std.proofs.Common.{◌≡◌, ◌≢◌, ◌≤◌, ℕ, List, [], Option, Result, Ok, Err, arith, refl, rules, subst, sym}
-use Rattle.std.specs.Prelude.{IfErr, OnOk, ⊤}
+use Rattle.std.proofs.Common.{◌≡◌, ◌≢◌, ◌≤◌, Bool, ℕ, List, Option, Result, Ok, Err, arith, refl, rules, subst, sym}
+use Rattle.std.specs.Prelude.{IfErr, IfOk, OnOk, ⊤}
 use Rattle.rootchain.specs.declared.signed_promise.SignedPromise.{SignedPromise}
 use Rattle.memory.specs.Memories.{Memory}
 use Rattle.wire.specs.Frames.{Frame}
-use Rattle.commands.specs.Operations.{Head}
-use Rattle.wire.specs.Requests.{RequestContent, Query}
-use Rattle.asking.specs.Asking.{AsksDirectory, AsksSome, FindsHead, FindsSome, StopsAsking}
-use Rattle.asking.specs.Following.{Follows, StopsAfter, TakesSome}
+use Rattle.wire.specs.Requests.{RequestContent}
+use Rattle.asking.specs.Asking.{HearsReply, HearsSome}
+use Rattle.asking.specs.Catching.{Advances, AdvancesSome}
+use Rattle.asking.specs.Ending.{LooksSome}
+use Rattle.asking.specs.Following.{IsBelow, StopsList}
 use Rattle.asking.specs.Joining.{BeginsSome, BeginsWatch}
 use Rattle.asking.specs.Reports.{Report, report_of, told_after, worse}
+use Rattle.asking.specs.Runs.{Background}
 use Rattle.asking.specs.Scenes.{HaltsAfter, Scene, StopsAtHead}
-use Rattle.asking.specs.Visiting.{TestsAll, TestsSome}
 use Rattle.asking.specs.declared.asker.Asker.{Asker}
 use Rattle.memory.specs.declared.mark.Mark.{Mark}
 use Rattle.asking.specs.declared.ask_fault.AskFault.{AskFault}
 use Rattle.asking.specs.declared.ask_fault.AskFault.TheVariants.{NoReply, OutOfMemory, Stopped}
 use Rattle.asking.specs.declared.said.Said.{Said}
-use Rattle.asking.proofs.EveryStep.{asks_directory-keeps, asks_some-keeps, begins_some-keeps, begins_watch-keeps, finds_head-keeps, finds_some-keeps, follows-keeps, stops-keep, stops_asking-keeps, takes_some-keeps, tests_all-keeps, tests_some-keeps, EachKeeps}
-use Rattle.asking.proofs.Ran.{ok_then}
+use Rattle.asking.proofs.EveryStep.{advances-keep, advances_some-keeps, begins_some-keeps, begins_watch-keeps, hears_some-keeps, looks_some-keeps, reply-keeps, EachKeeps}
 
 worse-above : (one other : ℕ) → one ≤ worse one other
 worse-above one other = grind arith
@@ -81,34 +81,31 @@ module _ (hash : List ℕ → List ℕ) (accepted verified : List ℕ → List �
       → HaltsAfter Reached fault asker said → before.told.status ≤ said.status
   halted Reached before fault asker said rises (reached, is, (same, still)) = subst (λ (r : Report). before.told.status ≤ r.status) (sym same) (rises reached is)
 
-  -- the roots are taken, and then the promises tested
-  pub follow_rises : {H V S A : Type 0} (result : Result A AskFault) (before after : Scene T) (asker : Asker H V S) (said : Said) → report_of said ≡ after.told
-      → OnOk result ((count : ℕ) × Follows hash verified exchanged count before after)
-      → (result ≡ Err Stopped → (count : ℕ) × StopsAfter hash verified exchanged count before after)
-      → IfErr result (λ fault. fault ≢ Stopped → HaltsAfter (TakesSome hash verified exchanged before) fault asker said) → Rises before after
-  follow_rises result before after asker said same follows stops halts = rises_ever before.told.status after.told.status result
-      (ok_then {Q = Rises before after} result follows (λ all. follows-keeps hash accepted verified exchanged [] (each-rises []) all.0 before after all.1))
-      (λ stopped. let all = stops stopped in stops-keep hash accepted verified exchanged [] (each-rises []) tt all.0 before after all.1)
-      (err-then (λ fault. fault ≢ Stopped → HaltsAfter (TakesSome hash verified exchanged before) fault asker said) (λ fault. fault ≢ Stopped → Rises before after) result halts (λ fault halts unstopped.
-      subst (λ (r : Report). before.told.status ≤ r.status) same (halted (TakesSome hash verified exchanged before) before fault asker said (takes_some-keeps hash accepted verified exchanged [] (each-rises []) before) (halts unstopped))))
+  -- a list is taken on the way to an epoch
+  pub advance_rises : {H V S : Type 0} (marks : List Mark) (epoch : ℕ) (result : Result Bool AskFault) (before after : Scene T) (asker : Asker H V S) (said : Said) → report_of said ≡ after.told
+      → IfOk result (λ goes. Advances hash accepted verified exchanged epoch before goes after)
+      → (result ≡ Err Stopped → IsBelow epoch before.client × StopsList hash verified exchanged before after)
+      → IfErr result (λ fault. fault ≢ Stopped → IsBelow epoch before.client × HaltsAfter (AdvancesSome hash accepted verified exchanged epoch before) fault asker said) → Rises before after
+  advance_rises marks epoch (Ok goes) before after asker said same advances stops halts = advances-keep hash accepted verified exchanged marks (each-rises marks) epoch before goes after advances
+  advance_rises marks epoch (Err NoReply) before after asker said same advances stops halts =
+      subst (λ (r : Report). before.told.status ≤ r.status) same (halted (AdvancesSome hash accepted verified exchanged epoch before) before NoReply asker said (advances_some-keeps hash accepted verified exchanged marks (each-rises marks) epoch before) (halts no-reply).1)
+  advance_rises marks epoch (Err Stopped) before after asker said same advances stops halts = (each-rises marks).stops before after tt (stops refl).1
+  advance_rises marks epoch (Err OutOfMemory) before after asker said same advances stops halts =
+      subst (λ (r : Report). before.told.status ≤ r.status) same (halted (AdvancesSome hash accepted verified exchanged epoch before) before OutOfMemory asker said (advances_some-keeps hash accepted verified exchanged marks (each-rises marks) epoch before) (halts no-memory).1)
 
-  -- or those up to the latest one
-  pub find_rises : {H V S A : Type 0} (token : List ℕ) (result : Result A AskFault) (before after : Scene T) (asker : Asker H V S) (said : Said) → report_of said ≡ after.told
-      → OnOk result (FindsHead hash accepted verified exchanged token before after)
-      → (result ≡ Err Stopped → StopsAsking hash accepted verified exchanged token (Query Head) before after)
-      → IfErr result (λ fault. fault ≢ Stopped → HaltsAfter (FindsSome hash accepted verified exchanged token before) fault asker said) → Rises before after
-  find_rises token result before after asker said same finds stops halts = rises_ever before.told.status after.told.status result
-      (ok_then {Q = Rises before after} result finds (λ all. finds_head-keeps hash accepted verified exchanged [] (each-rises []) token before after all))
-      (λ stopped. stops_asking-keeps hash accepted verified exchanged [] (each-rises []) tt token (Query Head) before after (stops stopped))
-      (err-then (λ fault. fault ≢ Stopped → HaltsAfter (FindsSome hash accepted verified exchanged token before) fault asker said) (λ fault. fault ≢ Stopped → Rises before after) result halts (λ fault halts unstopped.
-      subst (λ (r : Report). before.told.status ≤ r.status) same (halted (FindsSome hash accepted verified exchanged token before) before fault asker said (finds_some-keeps hash accepted verified exchanged [] (each-rises []) token before) (halts unstopped))))
+  -- a reply is heard
+  pub hear_rises : {H V S A : Type 0} (marks : List Mark) (held : ℕ) (asked : RequestContent) (frame : Frame) (noted noted' : List SignedPromise) (result : Result A AskFault) (before after : Scene T) (asker : Asker H V S) (said : Said) → report_of said ≡ after.told
+      → OnOk result (HearsReply hash accepted verified exchanged marks held asked frame noted noted' before after)
+      → IfErr result (λ fault. HaltsAfter (HearsSome hash accepted verified exchanged fault marks held asked frame noted noted' before) fault asker said) → Rises before after
+  hear_rises marks held asked frame noted noted' (Ok done) before after asker said same hears halts = reply-keeps hash accepted verified exchanged marks (each-rises marks) held asked frame noted noted' before after tt hears
+  hear_rises marks held asked frame noted noted' (Err fault) before after asker said same hears halts =
+      subst (λ (r : Report). before.told.status ≤ r.status) same (halted (HearsSome hash accepted verified exchanged fault marks held asked frame noted noted' before) before fault asker said (λ reached is. hears_some-keeps hash accepted verified exchanged marks (each-rises marks) held asked frame noted noted' before reached tt is) halts)
 
-  pub test_rises : {H V S A : Type 0} (marks : List Mark) (result : Result A AskFault) (before after : Scene T) (asker : Asker H V S) (said : Said) → report_of said ≡ after.told
-      → OnOk result (TestsAll hash accepted exchanged marks before after) → IfErr result (λ fault. fault ≢ Stopped)
-      → IfErr result (λ fault. HaltsAfter (TestsSome hash accepted exchanged marks before) fault asker said) → Rises before after
-  test_rises marks (Ok done) before after asker said same tests err halts = tests_all-keeps hash accepted verified exchanged marks (each-rises marks) before after tests
-  test_rises marks (Err fault) before after asker said same tests err halts =
-      subst (λ (r : Report). before.told.status ≤ r.status) same (halted (TestsSome hash accepted exchanged marks before) before fault asker said (tests_some-keeps hash accepted verified exchanged marks (each-rises marks) before) halts)
+  -- the latest root is heard, or some of it
+  pub looked_rises : (background : Background) (held : ℕ) (frame : Frame) (before : Scene T) (said : Said) → (reached : Scene T) × LooksSome hash accepted verified exchanged background held frame before reached × (report_of said ≡ reached.told)
+      → before.told.status ≤ said.status
+  looked_rises background held frame before said (reached, looks, same) =
+      subst (λ (r : Report). before.told.status ≤ r.status) (sym same) (looks_some-keeps hash accepted verified exchanged background (each-rises background.marks) held frame before reached looks)
 
   pub watch_rises : {H V S A : Type 0} (known : Memory) (marks : List Mark) (key : List ℕ) (promised : List SignedPromise) (name : List ℕ) (given : Option (List ℕ)) (result : Result A AskFault) (before after : Scene T) (asker : Asker H V S) (said : Said)
       → report_of said ≡ after.told → OnOk result (BeginsWatch hash accepted verified exchanged known marks key promised name given before after)
@@ -116,17 +113,6 @@ module _ (hash : List ℕ → List ℕ) (accepted verified : List ℕ → List �
   watch_rises known marks key promised name given (Ok done) before after asker said same begins halts = begins_watch-keeps hash accepted verified exchanged marks (each-rises marks) key promised name given tt known before after begins
   watch_rises known marks key promised name given (Err fault) before after asker said same begins halts = subst (λ (r : Report). before.told.status ≤ r.status) same
       (halted (BeginsSome hash accepted verified exchanged known marks key promised name given before) before fault asker said (begins_some-keeps hash accepted verified exchanged marks (each-rises marks) key promised name given tt known before) halts)
-
-  pub ask_rises : {H V S A : Type 0} (marks : List Mark) (token : List ℕ) (asked : RequestContent) (noted noted' : List SignedPromise) (result : Result A AskFault) (before after : Scene T) (asker : Asker H V S) (said : Said)
-      → report_of said ≡ after.told → OnOk result (AsksDirectory hash accepted verified exchanged marks token asked noted noted' before after)
-      → (result ≡ Err Stopped → StopsAsking hash accepted verified exchanged token asked before after)
-      → IfErr result (λ fault. fault ≢ Stopped → HaltsAfter (AsksSome hash accepted verified exchanged fault marks token asked noted noted' before) fault asker said) → Rises before after
-  ask_rises marks token asked noted noted' result before after asker said same asks stops halts = rises_ever before.told.status after.told.status result
-      (ok_then {Q = Rises before after} result asks (λ all. asks_directory-keeps hash accepted verified exchanged marks (each-rises marks) token asked noted noted' before after tt all))
-      (λ stopped. stops_asking-keeps hash accepted verified exchanged marks (each-rises marks) tt token asked before after (stops stopped))
-      (err-then (λ fault. fault ≢ Stopped → HaltsAfter (AsksSome hash accepted verified exchanged fault marks token asked noted noted' before) fault asker said) (λ fault. fault ≢ Stopped → Rises before after) result halts (λ fault halts unstopped.
-      subst (λ (r : Report). before.told.status ≤ r.status) same
-      (halted (AsksSome hash accepted verified exchanged fault marks token asked noted noted' before) before fault asker said (λ reached is. asks_some-keeps hash accepted verified exchanged marks (each-rises marks) token asked noted noted' before reached tt is) (halts unstopped))))
 
 -- a client starts with the head, or does not
 pub start_rises : {A T : Type 0} (verified : List ℕ → List ℕ → List ℕ → Type 0) (exchanged : T → RequestContent → Frame → T → Type 0) (key : List ℕ) (result : Result A AskFault) (said said' : Said) (before after : T) → OnOk result (said' ≡ said)

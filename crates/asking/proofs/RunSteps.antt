@@ -1,6 +1,6 @@
 -- How a run stands after each step of it.
-use Rattle.std.proofs.Common.{◌≡◌, ◌≢◌, ◌∙◌, ◌⊎◌, ◌≤◌, ℕ, zero, suc, Bool, true, false, if◌then◌else◌, List, [], ◌∷◌, ◌++◌, drop, length, map, Contains, Option, Some, None, Result, Ok, Err, ap, append-nil, arith, inl, inr, refl, subst, sym}
-use Rattle.std.specs.Prelude.{OnOk}
+use Rattle.std.proofs.Common.{◌≡◌, ◌≢◌, ◌∙◌, ◌⊎◌, ◌+◌, ◌-◌, ◌≤◌, ℕ, zero, suc, Bool, true, false, if◌then◌else◌, List, [], ◌∷◌, ◌++◌, drop, length, map, Contains, Option, Some, None, Result, Ok, Err, Global, Vec, ap, append-nil, arith, inl, inr, refl, rules, subst, sym}
+use Rattle.std.specs.Prelude.{IfErr, IfOk, IfSome, OnOk, ⊤}
 use Rattle.std.specs.List.{list_any, AllByRecursion}
 use Rattle.std.specs.List.Sorted.{IsNonDecreasingBy}
 use Rattle.std.specs.Str.{bytes_eq}
@@ -15,40 +15,46 @@ use Rattle.client.specs.Clients.{Client, HasRootOf}
 use Rattle.memory.specs.Lists.{HasNoRepeat}
 use Rattle.memory.specs.Memories.{name_of, Memory}
 use Rattle.memory.specs.declared.mark.Mark.{Mark}
+use Rattle.monitor.specs.Monitors.{Monitor}
 use Rattle.wire.specs.Frames.{Frame}
 use Rattle.wire.specs.Requests.{RequestContent}
-use Rattle.play.specs.Scripts.{ScriptLine}
+use Rattle.play.specs.Scripts.{Ask, End, Pass, Piece, ScriptLine, Watch}
 use Rattle.play.proofs.Lists.{all-in}
-use Rattle.asking.specs.Ending.{DoesSomeNoting, PreparesSome}
+use Rattle.asking.specs.Asking.{HearsHead, HearsReply, SpeaksOf}
+use Rattle.asking.specs.Catching.{Advances, CatchesUp}
+use Rattle.asking.specs.Ending.{DoesSomeNoting, LooksSome}
 use Rattle.asking.specs.Owning.{Owns}
 use Rattle.asking.specs.Reports.{report_of, Report}
 use Rattle.asking.specs.Joining.{own_for}
 use Rattle.asking.specs.Keeping.{IsSettled, KeepsUp, SavesTo}
 use Rattle.asking.specs.Marking.{HasMarkOf, MarksOn, StateMarks}
-use Rattle.asking.specs.Runs.{background_of, emptied, Background, DoesLineNoting, Prepares}
+use Rattle.asking.specs.Runs.{background_of, emptied, Background, DoesLineNoting}
 use Rattle.asking.specs.Saves.{noting, own_promised, stored_after, Act, AreEarlier, Found, IsAsked, IsOwnPromise, IsSaid, WasOwn}
 use Rattle.asking.specs.Scenes.{scene, Scene}
-use Rattle.asking.specs.Standing.{standing, AreAsked, AreLate, AreNew, Fits, IsCurrent, IsInStep, IsReady, RunStands, Stands, StateStands}
-use Rattle.asking.specs.Visiting.{IsMarked}
+use Rattle.asking.specs.Standing.{standing, AreAsked, AreLate, AreNew, Fits, IsCurrent, IsInStep, IsReady, IsUpTo, RunStands, Stands, StateStands}
+use Rattle.asking.specs.Visiting.{IsMarked, TestsAll}
 use Rattle.asking.specs.declared.ask_fault.AskFault.{AskFault}
-use Rattle.asking.specs.declared.ask_fault.AskFault.TheVariants.{NoReply, OutOfMemory as NoMemory}
+use Rattle.asking.specs.declared.ask_fault.AskFault.TheVariants.{NoReply, OutOfMemory as NoMemory, Stopped}
 use Rattle.asking.specs.declared.ask_fault.RunFault.{RunFault}
 use Rattle.asking.specs.declared.asker.Asker.{Asker}
 use Rattle.asking.specs.declared.said.Said.{Said}
 use Rattle.asking.specs.declared.state.State.{State}
 use Rattle.asking.proofs.AskedOwn.{asked-of}
-use Rattle.asking.proofs.EveryStep.{does_some-keeps, prepares_some-keeps}
+use Rattle.asking.proofs.EveryStep.{advances-keep, advances_some-keeps, asks_directory-keeps, begins_watch-keeps, does_some-keeps, hears_head-keeps, hears_some-keeps, looks_some-keeps, reply-keeps, tests_all-keeps, EachKeeps}
 use Rattle.asking.proofs.GoneOn.{begin-well, each-gone, GoesOn, IsBehind}
+use Rattle.asking.proofs.HeardNoted.{caught-below, current, hears-noted}
 use Rattle.asking.proofs.Joined.{marked_any}
 use Rattle.asking.proofs.JoinedChanges.{join-ascends, IsSignedOf}
 use Rattle.asking.proofs.Keeping.{was_asked}
-use Rattle.asking.proofs.MarksKept.{have-behind, learned-lasts, learned-marks, none-marked, spans-so, AreGone}
-use Rattle.asking.proofs.LineNoted.{line-current, line-noted, prepared-current}
-use Rattle.asking.proofs.NotedOwn.{prepares_some_key, some_key, some_notes, IsNotBelow, NotesOwn}
+use Rattle.asking.proofs.MarksKept.{advances-many, have-behind, learned-lasts, learned-marks, none-marked, same-marked, spans-so, AreGone}
+use Rattle.asking.proofs.NotedOwn.{advanced_key, hears_key, hears_notes, looks_key, some_key, IsLate, NotesOwn}
+use Rattle.asking.proofs.NotedScenes.{IsBelow}
+use Rattle.asking.proofs.OwnRoots.{some-same}
 use Rattle.asking.proofs.Noting.{noted-cases, noted-more, noted-was, was-more}
 use Rattle.asking.proofs.OwnedMonitors.{AreGiven}
 use Rattle.asking.proofs.OwnedRoots.{all-has, has-cases, head-high}
 use Rattle.asking.proofs.OwnedScenes.{each-owned, owns-like}
+use Rattle.asking.proofs.Standing.{AdvancesAny, HearsAny}
 use Rattle.asking.proofs.ToldScenes.{all-map}
 
 front-all : {A : Type 0} (P : A → Type 0) (xs ys : List A) → AllByRecursion P (xs ++ ys) → AllByRecursion P xs
@@ -109,45 +115,60 @@ module _ {T H V S : Type 0} (hash : List ℕ → List ℕ) (accepted verified : 
   abbrev Owned : List ℕ → List SignedRoot → List Mark → List Mark → List SignedPromise → {U : Type 0} → Scene U → Type 0
   Owned text stored marks known noted now = Owns hash accepted verified (IsAsked lines) Own (noting start.known noted) text stored marks known now
 
-  -- the promises that are noted then: each was before, or is not below the head
-  abbrev AreNotedOn : List SignedPromise → Type 0
-  AreNotedOn noted' = (noted' ≡ before.changes.items) ⊎ ((signed : SignedPromise) × IsNotBelow before.client.chain signed × (noted' ≡ before.changes.items ++ signed ∷ []))
+  abbrev StandsBefore : Option State → Type 0
+  StandsBefore state = RunStands hash accepted verified lines start old Happened before said.text.items state out
 
-  -- what is noted of a line is the owner's own
-  pub noted-ready : (fault : AskFault) (line : ScriptLine) → IsSaid lines line → DoesSomeNoting hash accepted verified exchanged (background_of before) fault line before.changes.items after.changes.items (scene before said stream) reached → IsReady verified lines start.known before
-      → AllByRecursion (IsOwnPromise verified before.key lines start.known) after.changes.items
-  noted-ready fault line asked does (keyed, ready, are) = own-noted verified before.key (IsNotBelow before.client.chain) lines start.known line before.changes.items after.changes.items
-      (subst (λ (k : List ℕ). NotesOwn verified k (IsNotBelow before.client.chain) line before.changes.items after.changes.items) keyed (some_notes hash accepted verified exchanged fault (background_of before) line before.changes.items after.changes.items (scene before said stream) reached does))
-      asked (back-all (IsOwnPromise verified before.key lines start.known) before.earlier.items before.changes.items ready)
+  -- ---- what is noted of a reply
 
-  noted-on : (fault : AskFault) (line : ScriptLine) → DoesSomeNoting hash accepted verified exchanged (background_of before) fault line before.changes.items after.changes.items (scene before said stream) reached → AreNotedOn after.changes.items
-  noted-on fault line does = by (some_notes hash accepted verified exchanged fault (background_of before) line before.changes.items after.changes.items (scene before said stream) reached does)
-    where
-      by : NotesOwn verified before.client.chain.key (IsNotBelow before.client.chain) line before.changes.items after.changes.items → AreNotedOn after.changes.items
-      by (inl same) = inl same
-      by (inr (signed, signs, late, asks, grown)) = inr (signed, late, grown)
+  -- no promise of the owner's own, no mark and no monitor is above an epoch
+  pub record AreBelow (low : ℕ) (state : Option State) : Type 0 where
+    pub own : (signed : SignedPromise) → IfSome state (λ some. WasOwn (noting start.known before.changes.items) signed → signed.promise.epoch ≤ low)
+    pub marks : IfSome state (λ some. Fits low some.memory)
+    pub monitors : IfSome state (λ some. AllByRecursion (IsBelow hash accepted verified low) before.monitors.items)
 
-  -- what is late of the changes
-  pub line-late : (fault : AskFault) (line : ScriptLine) (state : Option State) → IsSaid lines line → DoesSomeNoting hash accepted verified exchanged (background_of before) fault line before.changes.items after.changes.items (scene before said stream) reached
-      → RunStands hash accepted verified lines start old Happened before said.text.items state out → AreNew lines start.known state after.changes.items
-  line-late fault line None asked does stands = asked-of verified before.key lines start.known after.changes.items (noted-ready fault line asked does stands.2)
-  line-late fault line (Some state) asked does (stands, same, ready, step) = (
-    asked-of verified before.key lines start.known after.changes.items (noted-ready fault line asked does ready),
-    subst (λ (n : ℕ). AreLate state.memory (drop n after.changes.items)) (sym step.0) (late-of (noted-on fault line does)),
-  )
-    where
-      late-new : (signed : SignedPromise) → IsNotBelow before.client.chain signed → Fits signed.promise.epoch state.memory
-      late-new signed late mark has = elim (stands.owns.held mark has).low [
-        | inl none ↦ inl none
-        | inr (head, at, low) ↦ let high = late head at in inr (omega (arith, low, high))
-      ]
+  -- the promises that are noted then: each was before, or is not below an epoch
+  abbrev AreNotedOn : ℕ → List SignedPromise → Type 0
+  AreNotedOn low noted' = (noted' ≡ before.changes.items) ⊎ ((signed : SignedPromise) × (low ≤ signed.promise.epoch) × (noted' ≡ before.changes.items ++ signed ∷ []))
 
-      late-of : AreNotedOn after.changes.items → AreLate state.memory (drop (length before.changes.items) after.changes.items)
-      late-of (inl is) = subst (λ (all : List SignedPromise). AreLate state.memory (drop (length before.changes.items) all)) (sym is) (drop-none (λ (s : SignedPromise). Fits s.promise.epoch state.memory) before.changes.items)
-      late-of (inr (signed, late, is)) = subst (λ (all : List SignedPromise). AreLate state.memory (drop (length before.changes.items) all)) (sym is)
-          (drop-one (λ (s : SignedPromise). Fits s.promise.epoch state.memory) before.changes.items signed (late-new signed late))
+  module _ (held : ℕ) (asked : RequestContent) (frame : Frame) (says : IsSaid lines (Ask asked)) where
+    -- it is the owner's own
+    heard-own : (fault : AskFault) → HearsAny hash accepted verified exchanged (background_of before) fault held asked frame before.changes.items after.changes.items (scene before said stream) reached → IsReady verified lines start.known before → AllByRecursion Own after.changes.items
+    heard-own fault hears (keyed, ready, are) = own-noted verified before.key (IsLate held asked frame) lines start.known (Ask asked) before.changes.items after.changes.items
+        (subst (λ (k : List ℕ). NotesOwn verified k (IsLate held asked frame) (Ask asked) before.changes.items after.changes.items) keyed (hears_notes hash accepted verified exchanged fault (background_of before) held asked frame before.changes.items after.changes.items (scene before said stream) reached hears))
+        says (back-all Own before.earlier.items before.changes.items ready)
+
+    module _ (low : ℕ) (high : (signed : SignedPromise) → IsLate held asked frame signed → low ≤ signed.promise.epoch) where
+      heard-on : (fault : AskFault) → HearsAny hash accepted verified exchanged (background_of before) fault held asked frame before.changes.items after.changes.items (scene before said stream) reached → AreNotedOn low after.changes.items
+      heard-on fault hears = by (hears_notes hash accepted verified exchanged fault (background_of before) held asked frame before.changes.items after.changes.items (scene before said stream) reached hears)
+        where
+          by : NotesOwn verified before.client.chain.key (IsLate held asked frame) (Ask asked) before.changes.items after.changes.items → AreNotedOn low after.changes.items
+          by (inl same) = inl same
+          by (inr (signed, signs, late, asks, grown)) = inr (signed, high signed late, grown)
+
+      -- and late
+      pub heard-late : (fault : AskFault) (state : Option State) → HearsAny hash accepted verified exchanged (background_of before) fault held asked frame before.changes.items after.changes.items (scene before said stream) reached
+          → AreBelow low state → StandsBefore state → AreNew lines start.known state after.changes.items
+      heard-late fault None hears below stands = asked-of verified before.key lines start.known after.changes.items (heard-own fault hears stands.2)
+      heard-late fault (Some state) hears below (stands, same, ready, step) = (
+        asked-of verified before.key lines start.known after.changes.items (heard-own fault hears ready),
+        subst (λ (n : ℕ). AreLate state.memory (drop n after.changes.items)) (sym step.0) (late-of (heard-on fault hears)),
+      )
+        where
+          late-new : (signed : SignedPromise) → low ≤ signed.promise.epoch → Fits signed.promise.epoch state.memory
+          late-new signed late mark has = elim (below.marks mark has) [
+            | inl none ↦ inl none
+            | inr under ↦ inr (omega (arith, under, late))
+          ]
+
+          late-of : AreNotedOn low after.changes.items → AreLate state.memory (drop (length before.changes.items) after.changes.items)
+          late-of (inl is) = subst (λ (all : List SignedPromise). AreLate state.memory (drop (length before.changes.items) all)) (sym is) (drop-none (λ (s : SignedPromise). Fits s.promise.epoch state.memory) before.changes.items)
+          late-of (inr (signed, late, is)) = subst (λ (all : List SignedPromise). AreLate state.memory (drop (length before.changes.items) all)) (sym is)
+              (drop-one (λ (s : SignedPromise). Fits s.promise.epoch state.memory) before.changes.items signed (late-new signed late))
 
   module _ (said' : Said) (told : report_of said' ≡ reached.told) (client : after.client ≡ reached.client) (monitors : after.monitors.items ≡ reached.monitors) where
+    abbrev StandsAfter : Option State → Type 0
+    StandsAfter state = StateStands hash accepted verified lines before.key start old Happened state out after.changes.items (standing after.client after.monitors.items said'.text.items)
+
     module _ (state : State) (stands : Standing state before.changes.items (standing before.client before.monitors.items said.text.items)) (same : start.known.marks ≡ before.marks.items) where
       abbrev written : List ℕ
       written = stands.kept.text
@@ -165,48 +186,69 @@ module _ {T H V S : Type 0} (hash : List ℕ → List ℕ) (accepted verified : 
       here = subst (λ (ms : List Mark). Owned written kept-roots ms kept-marks before.changes.items (scene before said stream)) same
           (owns-like hash accepted verified (IsAsked lines) Own (noting start.known before.changes.items) start.known.marks written kept-roots kept-marks (standing before.client before.monitors.items said.text.items) (scene before said stream) refl refl refl stands.owns)
 
-      -- each that counts is of an epoch up to the head
-      low-head : (signed : SignedPromise) → WasOwn (noting start.known before.changes.items) signed → (other : SignedPromise) → IsNotBelow before.client.chain other → signed.promise.epoch ≤ other.promise.epoch
-      low-head signed was other late =
-          let both = ends before.client.chain.roots stands.owns.chain.first in
-          let low = rooted-low hash verified before.client.chain signed.promise both.head stands.owns.chain both.at-head (stands.owns.rooted signed was) in
-          let high = late both.head both.at-head in
-          omega (arith, low, high)
+      abbrev keeps-owned : EachKeeps hash accepted verified exchanged before.marks.items (AllByRecursion Own) (λ key promised name given. IsAsked lines name given × AreGiven hash accepted verified (IsAsked lines) Own (noting start.known before.changes.items) key name promised) ⊤
+          (λ from to. Owned written kept-roots before.marks.items kept-marks before.changes.items from → Owned written kept-roots before.marks.items kept-marks before.changes.items to)
+      keeps-owned = each-owned hash accepted verified (IsAsked lines) Own (noting start.known before.changes.items) before.marks.items written kept-roots kept-marks exchanged once (λ signed own. own.0.0) same
 
-      own-on : (noted' : List SignedPromise) → AreNotedOn noted' → (signed : SignedPromise) → WasOwn (noting start.known before.changes.items) signed → WasOwn (noting start.known noted') signed
-      own-on noted' (inl is) signed was = subst (λ (all : List SignedPromise). WasOwn (noting start.known all) signed) (sym is) was
-      own-on noted' (inr (new, late, is)) signed was = subst (λ (all : List SignedPromise). WasOwn (noting start.known all) signed) (sym is) (noted-more start.known before.changes.items (new ∷ []) signed was)
+      abbrev keeps-current : EachKeeps hash accepted verified exchanged before.marks.items (AllByRecursion Own)
+          (λ key promised name given. (key ≡ before.key) × (IsAsked lines name given × AreGiven hash accepted verified (IsAsked lines) Own (noting start.known before.changes.items) key name promised)) ⊥
+          (λ from to. Owned written kept-roots before.marks.items kept-marks before.changes.items from × AllByRecursion (IsCurrent before.key from.client.chain) from.monitors
+          → Owned written kept-roots before.marks.items kept-marks before.changes.items to × AllByRecursion (IsCurrent before.key to.client.chain) to.monitors)
+      keeps-current = current hash accepted verified exchanged lines Own start.known (background_of before) written kept-roots kept-marks once (λ signed own. own.0.0) (λ signed own. own.0.1) same before.changes.items
 
-      ascend-on : (noted' : List SignedPromise) → AreNotedOn noted' → IsNonDecreasingBy (λ (signed : SignedPromise). signed.promise.epoch) noted'
-      ascend-on noted' (inl is) = subst (IsNonDecreasingBy (λ (signed : SignedPromise). signed.promise.epoch)) (sym is) stands.ascend
-      ascend-on noted' (inr (new, late, is)) = subst (IsNonDecreasingBy (λ (signed : SignedPromise). signed.promise.epoch)) (sym is)
-          (join-ascends before.changes.items (new ∷ []) stands.ascend (one-ascends new)
-          (λ one other has last. elim (has-cases new [] other last) [
-            | inl is-new ↦ subst (λ (s : SignedPromise). one.promise.epoch ≤ s.promise.epoch) is-new (low-head one (noted-was start.known before.changes.items one has) new late)
+      own-on : (noted' : List SignedPromise) (low : ℕ) → AreNotedOn low noted' → (signed : SignedPromise) → WasOwn (noting start.known before.changes.items) signed → WasOwn (noting start.known noted') signed
+      own-on noted' low (inl is) signed was = subst (λ (all : List SignedPromise). WasOwn (noting start.known all) signed) (sym is) was
+      own-on noted' low (inr (new, late, is)) signed was = subst (λ (all : List SignedPromise). WasOwn (noting start.known all) signed) (sym is) (noted-more start.known before.changes.items (new ∷ []) signed was)
+
+      module _ (low : ℕ) (under : (signed : SignedPromise) → WasOwn (noting start.known before.changes.items) signed → signed.promise.epoch ≤ low) where
+        -- each that counts is of an epoch up to that of a new one
+        low-head : (signed : SignedPromise) → WasOwn (noting start.known before.changes.items) signed → (other : SignedPromise) → low ≤ other.promise.epoch → signed.promise.epoch ≤ other.promise.epoch
+        low-head signed was other late = let early = under signed was in omega (arith, early, late)
+
+        ascend-on : (noted' : List SignedPromise) → AreNotedOn low noted' → IsNonDecreasingBy (λ (signed : SignedPromise). signed.promise.epoch) noted'
+        ascend-on noted' (inl is) = subst (IsNonDecreasingBy (λ (signed : SignedPromise). signed.promise.epoch)) (sym is) stands.ascend
+        ascend-on noted' (inr (new, late, is)) = subst (IsNonDecreasingBy (λ (signed : SignedPromise). signed.promise.epoch)) (sym is)
+            (join-ascends before.changes.items (new ∷ []) stands.ascend (one-ascends new)
+            (λ one other has last. elim (has-cases new [] other last) [
+              | inl is-new ↦ subst (λ (s : SignedPromise). one.promise.epoch ≤ s.promise.epoch) is-new (low-head one (noted-was start.known before.changes.items one has) new late)
+              | inr none ↦ absurd (omega (arith, none.1))
+            ]))
+
+        later-on : (noted' : List SignedPromise) → AreNotedOn low noted' → (earlier later : SignedPromise) → WasOwn start.known earlier → Contains noted' later → earlier.promise.epoch ≤ later.promise.epoch
+        later-on noted' (inl is) earlier later was has = stands.later earlier later was (subst (λ (all : List SignedPromise). Contains all later) is has)
+        later-on noted' (inr (new, late, is)) earlier later was has = elim (Contains-append_cases before.changes.items (new ∷ []) later (subst (λ (all : List SignedPromise). Contains all later) is has)) [
+          | inl old ↦ stands.later earlier later was old
+          | inr last ↦ elim (has-cases new [] later last) [
+            | inl is-new ↦ subst (λ (s : SignedPromise). earlier.promise.epoch ≤ s.promise.epoch) is-new (low-head earlier (was-more start.known (map own_promised before.changes.items) earlier was) new late)
             | inr none ↦ absurd (omega (arith, none.1))
-          ]))
-
-      later-on : (noted' : List SignedPromise) → AreNotedOn noted' → (earlier later : SignedPromise) → WasOwn start.known earlier → Contains noted' later → earlier.promise.epoch ≤ later.promise.epoch
-      later-on noted' (inl is) earlier later was has = stands.later earlier later was (subst (λ (all : List SignedPromise). Contains all later) is has)
-      later-on noted' (inr (new, late, is)) earlier later was has = elim (Contains-append_cases before.changes.items (new ∷ []) later (subst (λ (all : List SignedPromise). Contains all later) is has)) [
-        | inl old ↦ stands.later earlier later was old
-        | inr last ↦ elim (has-cases new [] later last) [
-          | inl is-new ↦ subst (λ (s : SignedPromise). earlier.promise.epoch ≤ s.promise.epoch) is-new (low-head earlier (was-more start.known (map own_promised before.changes.items) earlier was) new late)
-          | inr none ↦ absurd (omega (arith, none.1))
+          ]
         ]
-      ]
 
-      -- a step that keeps what is owned
-      stepped : (noted' : List SignedPromise) → AreNotedOn noted' → Owned written kept-roots before.marks.items kept-marks noted' reached → Standing state noted' (standing after.client after.monitors.items said'.text.items)
-      stepped noted' on now =
-          let back = subst (λ (ms : List Mark). Owned written kept-roots ms kept-marks noted' reached) (sym same) now in record {
+        -- a step that keeps what is owned
+        stepped : (noted' : List SignedPromise) → AreNotedOn low noted' → Owned written kept-roots before.marks.items kept-marks noted' reached → Standing state noted' (standing after.client after.monitors.items said'.text.items)
+        stepped noted' on now =
+            let back = subst (λ (ms : List Mark). Owned written kept-roots ms kept-marks noted' reached) (sym same) now in record {
+              kept = stands.kept;
+              owns = owns-like hash accepted verified (IsAsked lines) Own (noting start.known noted') start.known.marks written kept-roots kept-marks reached (standing after.client after.monitors.items said'.text.items)
+                  (ap (λ (c : Client). c.chain) client) monitors (ap (λ (r : Report). r.lines) told) back;
+              own = λ signed was. own-on noted' low on signed (stands.own signed was);
+              ascend = ascend-on noted' on;
+              later = later-on noted' on;
+            }
+
+      -- one of which nothing is noted
+      still-stepped : after.changes ≡ before.changes → Owned written kept-roots before.marks.items kept-marks before.changes.items reached → Standing state after.changes.items (standing after.client after.monitors.items said'.text.items)
+      still-stepped still now =
+          let back = subst (λ (ms : List Mark). Owned written kept-roots ms kept-marks before.changes.items reached) (sym same) now in
+          let there : Standing state before.changes.items (standing after.client after.monitors.items said'.text.items) = record {
             kept = stands.kept;
-            owns = owns-like hash accepted verified (IsAsked lines) Own (noting start.known noted') start.known.marks written kept-roots kept-marks reached (standing after.client after.monitors.items said'.text.items)
+            owns = owns-like hash accepted verified (IsAsked lines) Own (noting start.known before.changes.items) start.known.marks written kept-roots kept-marks reached (standing after.client after.monitors.items said'.text.items)
                 (ap (λ (c : Client). c.chain) client) monitors (ap (λ (r : Report). r.lines) told) back;
-            own = λ signed was. own-on noted' on signed (stands.own signed was);
-            ascend = ascend-on noted' on;
-            later = later-on noted' on;
-          }
+            own = stands.own;
+            ascend = stands.ascend;
+            later = stands.later;
+          } in
+          subst (λ (cs : Vec SignedPromise Global). Standing state cs.items (standing after.client after.monitors.items said'.text.items)) (sym still) there
 
       -- a monitor is given what was remembered as the owner's own, and what is noted if the name has a mark
       given-so : IsReady verified lines start.known before → (name : List ℕ)
@@ -255,86 +297,159 @@ module _ {T H V S : Type 0} (hash : List ℕ → List ℕ) (accepted verified : 
 
     -- ---- how it stands
 
-    -- what is new is taken and tested
-    pub prepared-stands : (HasNoState : Type 0) (state : Option State) → after.changes ≡ before.changes → PreparesSome hash accepted verified exchanged (background_of before) HasNoState (scene before said stream) reached
-        → RunStands hash accepted verified lines start old Happened before said.text.items state out → StateStands hash accepted verified lines before.key start old Happened state out after.changes.items (standing after.client after.monitors.items said'.text.items)
-    prepared-stands HasNoState None still prepares stands = stands.0
-    prepared-stands HasNoState (Some state) still prepares (stands, same, ready, step) =
-        let alike : after.changes.items ≡ before.changes.items = ap (λ cs. cs.items) still in
-        let now = prepares_some-keeps hash accepted verified exchanged (background_of before)
-        (each-owned hash accepted verified (IsAsked lines) Own (noting start.known before.changes.items) before.marks.items (written state stands same) (kept-roots state stands same) (kept-marks state stands same) exchanged (once state stands same) (λ signed own. own.0.0) same)
-        HasNoState tt (scene before said stream) reached prepares (here state stands same) in
-        stepped state stands same after.changes.items (inl alike) (subst (λ (all : List SignedPromise). Owned (written state stands same) (kept-roots state stands same) before.marks.items (kept-marks state stands same) all reached) (sym alike) now)
+    -- nothing is noted
+    still-stands : (state : Option State) → after.changes ≡ before.changes
+        → ((one : State) (stands : Standing one before.changes.items (standing before.client before.monitors.items said.text.items)) (same : start.known.marks ≡ before.marks.items) → IsReady verified lines start.known before
+        → Owned (written one stands same) (kept-roots one stands same) before.marks.items (kept-marks one stands same) before.changes.items reached)
+        → StandsBefore state → StandsAfter state
+    still-stands None still keeps stands = stands.0
+    still-stands (Some state) still keeps (stands, same, ready, step) = still-stepped state stands same still (keeps state stands same ready)
 
-    -- what the line says is asked
-    pub line-stands : (line : ScriptLine) (state : Option State) → IsSaid lines line
-        → DoesSomeNoting hash accepted verified exchanged (background_of before) NoReply line before.changes.items after.changes.items (scene before said stream) reached
-        → RunStands hash accepted verified lines start old Happened before said.text.items state out → StateStands hash accepted verified lines before.key start old Happened state out after.changes.items (standing after.client after.monitors.items said'.text.items)
-    line-stands line None asked does stands = stands.0
-    line-stands line (Some state) asked does (stands, same, ready, step) =
-        stepped state stands same after.changes.items (noted-on NoReply line does)
-        (line-noted hash accepted verified exchanged lines Own start.known (background_of before) (written state stands same) (kept-roots state stands same) (kept-marks state stands same) (once state stands same) (λ signed own. own.0.0) (λ signed own. own.0.1) same
-        before.changes.items after.changes.items (noted-ready NoReply line asked does ready) line (scene before said stream) reached (given-so state stands same ready) asked does (here state stands same) step.1)
+    -- a list is taken on the way to an epoch
+    pub advanced-stands : (epoch : ℕ) (state : Option State) → after.changes ≡ before.changes → AdvancesAny hash accepted verified exchanged (background_of before) epoch (scene before said stream) reached → StandsBefore state → StandsAfter state
+    advanced-stands epoch state still (inl (goes, advances)) = still-stands state still (λ one stands same ready.
+        advances-keep hash accepted verified exchanged before.marks.items (keeps-owned one stands same) epoch (scene before said stream) goes reached advances (here one stands same))
+    advanced-stands epoch state still (inr (inl stops)) = still-stands state still (λ one stands same ready. (keeps-owned one stands same).stops (scene before said stream) reached tt stops (here one stands same))
+    advanced-stands epoch state still (inr (inr some)) = still-stands state still (λ one stands same ready.
+        advances_some-keeps hash accepted verified exchanged before.marks.items (keeps-owned one stands same) epoch (scene before said stream) reached some (here one stands same))
+
+    -- the latest root is heard
+    pub looked-stands : (held : ℕ) (frame : Frame) (state : Option State) → after.changes ≡ before.changes → LooksSome hash accepted verified exchanged (background_of before) held frame (scene before said stream) reached → StandsBefore state → StandsAfter state
+    looked-stands held frame state still looks = still-stands state still (λ one stands same ready.
+        looks_some-keeps hash accepted verified exchanged (background_of before) (keeps-owned one stands same) held frame (scene before said stream) reached looks (here one stands same))
+
+    -- a reply is heard
+    pub heard-stands : (held : ℕ) (asked : RequestContent) (frame : Frame) (low : ℕ) → ((signed : SignedPromise) → IsLate held asked frame signed → low ≤ signed.promise.epoch) → (state : Option State) → IsSaid lines (Ask asked)
+        → HearsAny hash accepted verified exchanged (background_of before) NoReply held asked frame before.changes.items after.changes.items (scene before said stream) reached → AreBelow low state → StandsBefore state → StandsAfter state
+    heard-stands held asked frame low high None says hears below stands = stands.0
+    heard-stands held asked frame low high (Some state) says hears below (stands, same, ready, step) =
+        stepped state stands same low below.own after.changes.items (heard-on held asked frame says low high NoReply hears)
+        (hears-noted hash accepted verified exchanged lines Own start.known (background_of before) (written state stands same) (kept-roots state stands same) (kept-marks state stands same) (once state stands same) (λ signed own. own.0.0) (λ signed own. own.0.1) same
+        before.changes.items after.changes.items (heard-own held asked frame says NoReply hears ready) held asked frame low high below.marks (scene before said stream) reached hears below.monitors (here state stands same) step.1)
+
+    -- what the line says is asked, and nothing is noted
+    pub line-stands : (fault : AskFault) (line : ScriptLine) (state : Option State) → IsSaid lines line → after.changes ≡ before.changes
+        → DoesSomeNoting hash accepted verified exchanged (background_of before) fault line before.changes.items after.changes.items (scene before said stream) reached → StandsBefore state → StandsAfter state
+    line-stands fault line state asked still does = still-stands state still (λ one stands same ready.
+        does_some-keeps hash accepted verified exchanged (background_of before) (keeps-owned one stands same) fault tt line before.changes.items after.changes.items (scene before said stream) reached
+        (subst (λ (cs : Vec SignedPromise Global). AllByRecursion Own cs.items) (sym still) (back-all Own before.earlier.items before.changes.items ready.1)) (λ name key is. (subst (IsSaid lines) is asked, given-so one stands same ready name)) does (here one stands same))
 
     -- ---- and it is ready for the next
 
-    pub prepared-ready : (HasNoState : Type 0) → PreparesSome hash accepted verified exchanged (background_of before) HasNoState (scene before said stream) reached → background_of after ≡ background_of before → after.changes ≡ before.changes
-        → IsReady verified lines start.known before → IsReady verified lines start.known after
-    prepared-ready HasNoState prepares stays same (keyed, ready, are) =
+    same-ready : reached.client.chain.key ≡ before.client.chain.key → background_of after ≡ background_of before → after.changes ≡ before.changes → IsReady verified lines start.known before → IsReady verified lines start.known after
+    same-ready one stays same (keyed, ready, are) =
         let key = ap (λ (b : Background). b.key) stays in
         let earlier = ap (λ (b : Background). b.earlier) stays in (
-          ap (λ (c : Client). c.chain.key) client ∙ prepares_some_key hash accepted verified exchanged (background_of before) HasNoState (scene before said stream) reached prepares ∙ keyed ∙ sym key,
+          ap (λ (c : Client). c.chain.key) client ∙ one ∙ keyed ∙ sym key,
           subst (λ (k : List ℕ). AllByRecursion (IsOwnPromise verified k lines start.known) (after.earlier.items ++ after.changes.items)) (sym key)
               (subst (λ (xs : List SignedPromise). AllByRecursion (IsOwnPromise verified before.key lines start.known) (xs ++ after.changes.items)) (sym earlier)
               (subst (λ (xs : List SignedPromise). AllByRecursion (IsOwnPromise verified before.key lines start.known) (before.earlier.items ++ xs)) (sym (ap (λ cs. cs.items) same)) ready)),
           subst (AreEarlier start.known) (sym earlier) are,
         )
 
-    pub line-ready : (line : ScriptLine) → IsSaid lines line → DoesSomeNoting hash accepted verified exchanged (background_of before) NoReply line before.changes.items after.changes.items (scene before said stream) reached → background_of after ≡ background_of before
+    pub advanced-ready : (epoch : ℕ) → AdvancesAny hash accepted verified exchanged (background_of before) epoch (scene before said stream) reached → background_of after ≡ background_of before → after.changes ≡ before.changes
         → IsReady verified lines start.known before → IsReady verified lines start.known after
-    line-ready line asked does stays ready =
+    advanced-ready epoch advances stays same ready = same-ready (advanced_key hash accepted verified exchanged (background_of before) epoch (scene before said stream) reached advances) stays same ready
+
+    pub looked-ready : (held : ℕ) (frame : Frame) → LooksSome hash accepted verified exchanged (background_of before) held frame (scene before said stream) reached → background_of after ≡ background_of before → after.changes ≡ before.changes
+        → IsReady verified lines start.known before → IsReady verified lines start.known after
+    looked-ready held frame looks stays same ready = same-ready (looks_key hash accepted verified exchanged (background_of before) held frame (scene before said stream) reached looks) stays same ready
+
+    pub heard-ready : (held : ℕ) (asked : RequestContent) (frame : Frame) → IsSaid lines (Ask asked) → HearsAny hash accepted verified exchanged (background_of before) NoReply held asked frame before.changes.items after.changes.items (scene before said stream) reached
+        → background_of after ≡ background_of before → IsReady verified lines start.known before → IsReady verified lines start.known after
+    heard-ready held asked frame says hears stays ready =
         let key = ap (λ (b : Background). b.key) stays in
         let earlier = ap (λ (b : Background). b.earlier) stays in
         let old-ones = front-all (IsOwnPromise verified before.key lines start.known) before.earlier.items before.changes.items ready.1 in (
-          ap (λ (c : Client). c.chain.key) client ∙ some_key hash accepted verified exchanged NoReply (background_of before) line before.changes.items after.changes.items (scene before said stream) reached does ∙ ready.0 ∙ sym key,
+          ap (λ (c : Client). c.chain.key) client ∙ hears_key hash accepted verified exchanged NoReply (background_of before) held asked frame before.changes.items after.changes.items (scene before said stream) reached hears ∙ ready.0 ∙ sym key,
           subst (λ (k : List ℕ). AllByRecursion (IsOwnPromise verified k lines start.known) (after.earlier.items ++ after.changes.items)) (sym key)
               (subst (λ (xs : List SignedPromise). AllByRecursion (IsOwnPromise verified before.key lines start.known) (xs ++ after.changes.items)) (sym earlier)
-              (join-all (IsOwnPromise verified before.key lines start.known) before.earlier.items after.changes.items old-ones (noted-ready NoReply line asked does ready))),
+              (join-all (IsOwnPromise verified before.key lines start.known) before.earlier.items after.changes.items old-ones (heard-own held asked frame says NoReply hears ready))),
           subst (AreEarlier start.known) (sym earlier) ready.2,
         )
 
-    -- the state looked at all changes, and each monitor is current
-    in-step : (state : State) (state' : Option State) (told' : List ℕ) → background_of after ≡ background_of before → KeepsUp after told' (Some state) state' → AllByRecursion (IsCurrent before.key after.client.chain) after.monitors.items → IsInStep state' after
-    in-step state state' told' stays (middle, (kept, is, learns, head, looked, changes), saves) now =
-        let (last, at, moves, heads, all, still) = subst (λ (m : Option State). SavesTo after told' m state') is saves in
-        subst (λ (s : Option State). IsInStep s after) (sym at) (still ∙ changes, subst (λ (k : List ℕ). AllByRecursion (IsCurrent k after.client.chain) after.monitors.items) (sym (ap (λ (b : Background). b.key) stays)) now)
+    pub line-ready : (fault : AskFault) (line : ScriptLine) → DoesSomeNoting hash accepted verified exchanged (background_of before) fault line before.changes.items after.changes.items (scene before said stream) reached → background_of after ≡ background_of before → after.changes ≡ before.changes
+        → IsReady verified lines start.known before → IsReady verified lines start.known after
+    line-ready fault line does stays same ready = same-ready (some_key hash accepted verified exchanged fault (background_of before) line before.changes.items after.changes.items (scene before said stream) reached does) stays same ready
 
-    none-step : (state' : Option State) (told' : List ℕ) → KeepsUp after told' None state' → IsInStep state' after
-    none-step state' told' (middle, is, saves) = subst (λ (s : Option State). IsInStep s after) (sym (subst (λ (m : Option State). SavesTo after told' m state') is saves)) tt
+    -- and no question came between
+    pub here-stands : (state : Option State) (out' : Option (List ℕ)) → background_of after ≡ background_of before → start.known.marks ≡ before.marks.items → IsReady verified lines start.known after → IsInStep state after
+        → StateStands hash accepted verified lines before.key start old Happened state out' after.changes.items (standing after.client after.monitors.items said'.text.items) → RunStands hash accepted verified lines start old Happened after said'.text.items state out'
+    here-stands state out' stays marks ready step stands = (
+      subst (λ (k : List ℕ). StateStands hash accepted verified lines k start old Happened state out' after.changes.items (standing after.client after.monitors.items said'.text.items)) (sym (ap (λ (b : Background). b.key) stays)) stands,
+      marks ∙ sym (ap (λ (b : Background). b.marks) stays),
+      ready,
+      step,
+    )
 
-    at-scene : (state : State) → AllByRecursion (IsCurrent before.key reached.client.chain) reached.monitors → AllByRecursion (IsCurrent before.key after.client.chain) after.monitors.items
-    at-scene state now = subst (λ (c : Client). AllByRecursion (IsCurrent before.key c.chain) after.monitors.items) (sym client) (subst (AllByRecursion (IsCurrent before.key reached.client.chain)) (sym monitors) now)
+    -- ---- the state looked at all changes, and each monitor is current
 
-    pub prepared-step : (HasNoState : Type 0) (state state' : Option State) (told' : List ℕ) → background_of after ≡ background_of before → Prepares hash accepted verified exchanged (background_of before) HasNoState (scene before said stream) reached
-        → RunStands hash accepted verified lines start old Happened before said.text.items state out → KeepsUp after told' state state' → IsInStep state' after
-    prepared-step HasNoState None state' told' stays prepares stands keeps = none-step state' told' keeps
-    prepared-step HasNoState (Some state) state' told' stays prepares (stands, same, ready, step) keeps = in-step state state' told' stays keeps (at-scene state
-        (prepared-current hash accepted verified exchanged lines Own start.known (background_of before) (written state stands same) (kept-roots state stands same) (kept-marks state stands same) (once state stands same) (λ signed own. own.0.0) (λ signed own. own.0.1) same
-        before.changes.items HasNoState (scene before said stream) reached prepares (here state stands same) step.1))
+    -- after a whole step they are
+    abbrev IsWhole : Type 0
+    IsWhole = (one : State) (stands : Standing one before.changes.items (standing before.client before.monitors.items said.text.items)) (same : start.known.marks ≡ before.marks.items) → IsReady verified lines start.known before
+        → AllByRecursion (IsCurrent before.key before.client.chain) before.monitors.items → AllByRecursion (IsCurrent before.key reached.client.chain) reached.monitors
 
-    pub line-step : (line : ScriptLine) (state state' : Option State) (told' : List ℕ) → background_of after ≡ background_of before → IsSaid lines line → AllByRecursion (IsOwnPromise verified before.key lines start.known) after.changes.items
-        → DoesLineNoting hash accepted verified exchanged (background_of before) line before.changes.items after.changes.items (scene before said stream) reached
-        → RunStands hash accepted verified lines start old Happened before said.text.items state out → KeepsUp after told' state state' → IsInStep state' after
-    line-step line None state' told' stays asked owner does stands keeps = none-step state' told' keeps
-    line-step line (Some state) state' told' stays asked owner does (stands, same, ready, step) keeps = in-step state state' told' stays keeps (at-scene state
-        (line-current hash accepted verified exchanged lines Own start.known (background_of before) (written state stands same) (kept-roots state stands same) (kept-marks state stands same) (once state stands same) (λ signed own. own.0.0) (λ signed own. own.0.1) same
-        before.changes.items after.changes.items owner line (scene before said stream) reached (given-so state stands same ready) asked does (here state stands same) step.1))
+    at-scene : background_of after ≡ background_of before → AllByRecursion (IsCurrent before.key reached.client.chain) reached.monitors → AllByRecursion (IsCurrent after.key after.client.chain) after.monitors.items
+    at-scene stays now = subst (λ (k : List ℕ). AllByRecursion (IsCurrent k after.client.chain) after.monitors.items) (sym (ap (λ (b : Background). b.key) stays))
+        (subst (λ (c : Client). AllByRecursion (IsCurrent before.key c.chain) after.monitors.items) (sym client) (subst (AllByRecursion (IsCurrent before.key reached.client.chain)) (sym monitors) now))
+
+    whole-step : (state state' : Option State) (told' : List ℕ) → background_of after ≡ background_of before → IsWhole → StandsBefore state → KeepsUp after told' state state' → IsInStep state' after
+    whole-step None state' told' stays whole stands (middle, is, saves) = subst (λ (s : Option State). IsInStep s after) (sym (subst (λ (m : Option State). SavesTo after told' m state') is saves)) tt
+    whole-step (Some state) state' told' stays whole (stands, same, ready, step) (middle, (kept, is, learns, head, looked, was-new, changes), saves) =
+        let (last, at, moves, heads, was, all, still) = subst (λ (m : Option State). SavesTo after told' m state') is saves in
+        subst (λ (s : Option State). IsInStep s after) (sym at) (still ∙ changes, at-scene stays (whole state stands same ready step.1))
+
+    -- and where the state did not look again, as nothing was noted
+    waits-step : (state : Option State) → background_of after ≡ background_of before → after.changes ≡ before.changes → IsWhole → StandsBefore state → IsInStep state after
+    waits-step None stays still whole stands = tt
+    waits-step (Some state) stays still whole (stands, same, ready, step) = (step.0 ∙ ap (λ (cs : Vec SignedPromise Global). length cs.items) (sym still), at-scene stays (whole state stands same ready step.1))
+
+    advances-whole : (epoch : ℕ) (goes : Bool) → Advances hash accepted verified exchanged epoch (scene before said stream) goes reached → IsWhole
+    advances-whole epoch goes advances = λ one stands same ready now. (advances-keep hash accepted verified exchanged before.marks.items (keeps-current one stands same) epoch (scene before said stream) goes reached advances (here one stands same, now)).1
+
+    pub advanced-step : (epoch : ℕ) (goes : Bool) (state state' : Option State) (told' : List ℕ) → background_of after ≡ background_of before → Advances hash accepted verified exchanged epoch (scene before said stream) goes reached
+        → StandsBefore state → KeepsUp after told' state state' → IsInStep state' after
+    advanced-step epoch goes state state' told' stays advances = whole-step state state' told' stays (advances-whole epoch goes advances)
+
+    pub waiting-step : (epoch : ℕ) (goes : Bool) (state : Option State) → background_of after ≡ background_of before → after.changes ≡ before.changes → Advances hash accepted verified exchanged epoch (scene before said stream) goes reached → StandsBefore state → IsInStep state after
+    waiting-step epoch goes state stays still advances = waits-step state stays still (advances-whole epoch goes advances)
+
+    pub looked-step : (held : ℕ) (frame : Frame) (state state' : Option State) (told' : List ℕ) → background_of after ≡ background_of before
+        → (middle : Scene T) × HearsHead hash accepted verified exchanged held frame (scene before said stream) middle × TestsAll hash accepted exchanged before.marks.items middle reached → StandsBefore state → KeepsUp after told' state state' → IsInStep state' after
+    looked-step held frame state state' told' stays (middle, hears, tests) = whole-step state state' told' stays (λ one stands same ready now.
+        (tests_all-keeps hash accepted verified exchanged before.marks.items (keeps-current one stands same) middle reached tests (hears_head-keeps hash accepted verified exchanged before.marks.items (keeps-current one stands same) held frame (scene before said stream) middle hears (here one stands same, now))).1)
+
+    pub heard-step : (held : ℕ) (asked : RequestContent) (frame : Frame) (state state' : Option State) (told' : List ℕ) → IsSaid lines (Ask asked) → background_of after ≡ background_of before
+        → HearsReply hash accepted verified exchanged before.marks.items held asked frame before.changes.items after.changes.items (scene before said stream) reached → StandsBefore state → KeepsUp after told' state state' → IsInStep state' after
+    heard-step held asked frame state state' told' says stays hears = whole-step state state' told' stays (λ one stands same ready now.
+        (reply-keeps hash accepted verified exchanged before.marks.items (keeps-current one stands same) held asked frame before.changes.items after.changes.items (scene before said stream) reached (heard-own held asked frame says NoReply (inl hears) ready) hears (here one stands same, now)).1)
+
+    pub same-step : (state state' : Option State) (told' : List ℕ) → background_of after ≡ background_of before → reached ≡ scene before said stream → StandsBefore state → KeepsUp after told' state state' → IsInStep state' after
+    same-step state state' told' stays alike = whole-step state state' told' stays (λ one stands same ready now. subst (λ (s : Scene T). AllByRecursion (IsCurrent before.key s.client.chain) s.monitors) (sym alike) now)
+
+    line-whole : (line : ScriptLine) → IsSaid lines line → after.changes ≡ before.changes → DoesLineNoting hash accepted verified exchanged (background_of before) line before.changes.items after.changes.items (scene before said stream) reached → IsWhole
+    line-whole Pass asked still (alike, none) = λ one stands same ready now. subst (λ (s : Scene T). AllByRecursion (IsCurrent before.key s.client.chain) s.monitors) (sym alike) now
+    line-whole (Ask content) asked still does = λ one stands same ready now.
+        (asks_directory-keeps hash accepted verified exchanged before.marks.items (keeps-current one stands same) before.token content before.changes.items after.changes.items (scene before said stream) reached
+        (subst (λ (cs : Vec SignedPromise Global). AllByRecursion Own cs.items) (sym still) (back-all Own before.earlier.items before.changes.items ready.1)) does (here one stands same, now)).1
+    line-whole (Watch name given) asked still (begins, none) = λ one stands same ready now.
+        (begins_watch-keeps hash accepted verified exchanged before.marks.items (keeps-current one stands same) before.key (own_for before.marks.items name before.earlier.items before.changes.items) name given (refl, (asked, given-so one stands same ready name)) before.known (scene before said stream) reached begins
+        (here one stands same, now)).1
+    line-whole (Piece session piece) asked still none = absurd none
+    line-whole (End session) asked still none = absurd none
+
+    pub line-step : (line : ScriptLine) (state state' : Option State) (told' : List ℕ) → IsSaid lines line → background_of after ≡ background_of before → after.changes ≡ before.changes
+        → DoesLineNoting hash accepted verified exchanged (background_of before) line before.changes.items after.changes.items (scene before said stream) reached → StandsBefore state → KeepsUp after told' state state' → IsInStep state' after
+    line-step line state state' told' asked stays still does = whole-step state state' told' stays (line-whole line asked still does)
 
     -- ---- and each monitor has a mark
 
-    gone : (state : State) → ((text : List ℕ) (stored : List SignedRoot) (known : List Mark) (once : HasNoRepeat (map name_of before.marks.items)) (spans : (mark : Mark) → Contains known mark → mark.since ≤ mark.epoch)
-        → GoesOn hash accepted verified (IsAsked lines) (IsOwnPromise verified before.key lines start.known) (noting start.known before.changes.items) before.marks.items text stored known exchanged once spans (scene before said stream) reached)
-        → Standing state before.changes.items (standing before.client before.monitors.items said.text.items) → start.known.marks ≡ before.marks.items
+    -- the monitors go on, whatever is stored
+    abbrev Goes : Type 0
+    Goes = (text : List ℕ) (stored : List SignedRoot) (known : List Mark) (once : HasNoRepeat (map name_of before.marks.items)) (spans : (mark : Mark) → Contains known mark → mark.since ≤ mark.epoch)
+        → GoesOn hash accepted verified (IsAsked lines) Own (noting start.known before.changes.items) before.marks.items text stored known exchanged once spans (scene before said stream) reached
+
+    gone : (state : State) → Goes → Standing state before.changes.items (standing before.client before.monitors.items said.text.items) → start.known.marks ≡ before.marks.items
         → StateMarks (Some state) before.monitors.items → AreGone state.memory.marks before.monitors.items after.monitors.items
     gone state goes stands same (count, have, ordered) =
         let kept = stands.kept in
@@ -342,31 +457,89 @@ module _ {T H V S : Type 0} (hash : List ℕ → List ℕ) (accepted verified : 
         let spans = spans-so (stored_after kept.acts).text kept.saved state.memory [] kept.spells kept.ahead in
         let behind = all-map (HasMarkOf all-known) (IsBehind all-known) before.monitors.items (λ monitor has. have-behind all-known monitor kept.once has) have in
         let ((owned, low, up), go) = goes (written state stands same) (kept-roots state stands same) all-known (once state stands same) spans (here state stands same, behind, ordered) in
-        let well = begin-well hash accepted verified (IsAsked lines) (IsOwnPromise verified before.key lines start.known) (noting start.known before.changes.items) before.marks.items (written state stands same) (kept-roots state stands same) all-known exchanged (once state stands same) spans reached owned in
+        let well = begin-well hash accepted verified (IsAsked lines) Own (noting start.known before.changes.items) before.marks.items (written state stands same) (kept-roots state stands same) all-known exchanged (once state stands same) spans reached owned in
         subst (AreGone all-known before.monitors.items) (sym monitors) (record { go = go; behind = low; ordered = up; well = well })
 
-    pub prepared-marks : (HasNoState : Type 0) (state state' : Option State) (told' : List ℕ) → PreparesSome hash accepted verified exchanged (background_of before) HasNoState (scene before said stream) reached
-        → RunStands hash accepted verified lines start old Happened before said.text.items state out → KeepsUp after told' state state' → MarksOn state before.monitors.items state' after.monitors.items
-    prepared-marks HasNoState None state' told' prepares stands kept = (learned-lasts after told' None state' kept, λ marked. none-marked after told' state' kept)
-    prepared-marks HasNoState (Some state) state' told' prepares (stands, same, ready, step) kept = (
-      learned-lasts after told' (Some state) state' kept,
-      λ marked. learned-marks after told' state state' before.monitors.items kept stands.kept.once (gone state (λ text stored known once spans.
-          prepares_some-keeps hash accepted verified exchanged (background_of before) (each-gone hash accepted verified (IsAsked lines) (IsOwnPromise verified before.key lines start.known) (noting start.known before.changes.items) before.marks.items text stored known exchanged once spans
-          (each-owned hash accepted verified (IsAsked lines) (IsOwnPromise verified before.key lines start.known) (noting start.known before.changes.items) before.marks.items text stored known exchanged once (λ signed own. own.0.0) same))
-          HasNoState tt (scene before said stream) reached prepares) stands same marked) marked,
+    -- each relation between scenes keeps it so
+    each-goes : start.known.marks ≡ before.marks.items → (text : List ℕ) (stored : List SignedRoot) (known : List Mark) (once : HasNoRepeat (map name_of before.marks.items)) (spans : (mark : Mark) → Contains known mark → mark.since ≤ mark.epoch)
+        → EachKeeps hash accepted verified exchanged before.marks.items (AllByRecursion Own) (λ key promised name given. IsAsked lines name given × AreGiven hash accepted verified (IsAsked lines) Own (noting start.known before.changes.items) key name promised) ⊤
+        (GoesOn hash accepted verified (IsAsked lines) Own (noting start.known before.changes.items) before.marks.items text stored known exchanged once spans)
+    each-goes same text stored known once spans = each-gone hash accepted verified (IsAsked lines) Own (noting start.known before.changes.items) before.marks.items text stored known exchanged once spans
+        (each-owned hash accepted verified (IsAsked lines) Own (noting start.known before.changes.items) before.marks.items text stored known exchanged once (λ signed own. own.0.0) same)
+
+    -- and once a state learned what is told, each monitor has a mark
+    marked-so : (state state' : Option State) (told' : List ℕ)
+        → ((one : State) → Standing one before.changes.items (standing before.client before.monitors.items said.text.items) → start.known.marks ≡ before.marks.items → IsReady verified lines start.known before → Goes)
+        → StandsBefore state → KeepsUp after told' state state' → MarksOn state before.monitors.items state' after.monitors.items
+    marked-so None state' told' goes stands kept = (learned-lasts after told' None state' kept, λ marked. none-marked after told' state' kept)
+    marked-so (Some state) state' told' goes (stands, same, ready, step) kept =
+        (learned-lasts after told' (Some state) state' kept, λ marked. learned-marks after told' state state' before.monitors.items kept stands.kept.once (gone state (goes state stands same ready) stands same marked) marked)
+
+    -- nothing was done
+    pub here-marks : (state state' : Option State) (told' : List ℕ) → reached ≡ scene before said stream → StandsBefore state → KeepsUp after told' state state' → MarksOn state before.monitors.items state' after.monitors.items
+    here-marks state state' told' alike = marked-so state state' told' (λ one stands same ready text stored known once spans.
+        subst (GoesOn hash accepted verified (IsAsked lines) Own (noting start.known before.changes.items) before.marks.items text stored known exchanged once spans (scene before said stream)) (sym alike)
+        ((each-goes same text stored known once spans).none (scene before said stream)))
+
+    pub line-marks : (fault : AskFault) (line : ScriptLine) (state state' : Option State) (told' : List ℕ) → IsSaid lines line → after.changes ≡ before.changes
+        → DoesSomeNoting hash accepted verified exchanged (background_of before) fault line before.changes.items after.changes.items (scene before said stream) reached
+        → StandsBefore state → KeepsUp after told' state state' → MarksOn state before.monitors.items state' after.monitors.items
+    line-marks fault line state state' told' asked still does = marked-so state state' told' (λ one stands same ready text stored known once spans.
+        does_some-keeps hash accepted verified exchanged (background_of before) (each-goes same text stored known once spans) fault tt line before.changes.items after.changes.items (scene before said stream) reached
+        (subst (λ (cs : Vec SignedPromise Global). AllByRecursion Own cs.items) (sym still) (back-all Own before.earlier.items before.changes.items ready.1)) (λ name key is. (subst (IsSaid lines) is asked, given-so one stands same ready name)) does)
+
+    -- a list was taken on the way to an epoch
+    advanced-goes : (epoch : ℕ) → AdvancesAny hash accepted verified exchanged (background_of before) epoch (scene before said stream) reached → start.known.marks ≡ before.marks.items → Goes
+    advanced-goes epoch (inl (goes, advances)) same = λ text stored known once spans.
+        advances-keep hash accepted verified exchanged before.marks.items (each-goes same text stored known once spans) epoch (scene before said stream) goes reached advances
+    advanced-goes epoch (inr (inl stops)) same = λ text stored known once spans. (each-goes same text stored known once spans).stops (scene before said stream) reached tt stops
+    advanced-goes epoch (inr (inr some)) same = λ text stored known once spans.
+        advances_some-keeps hash accepted verified exchanged before.marks.items (each-goes same text stored known once spans) epoch (scene before said stream) reached some
+
+    pub advanced-marks : (epoch : ℕ) (state state' : Option State) (told' : List ℕ) → AdvancesAny hash accepted verified exchanged (background_of before) epoch (scene before said stream) reached
+        → StandsBefore state → KeepsUp after told' state state' → MarksOn state before.monitors.items state' after.monitors.items
+    advanced-marks epoch state state' told' advances = marked-so state state' told' (λ one stands same ready. advanced-goes epoch advances same)
+
+    -- or none more is needed, and no state learned anything yet
+    pub waiting-marks : (epoch : ℕ) (state : Option State) → Advances hash accepted verified exchanged epoch (scene before said stream) false reached → StandsBefore state → MarksOn state before.monitors.items state after.monitors.items
+    waiting-marks epoch None advances stands = ((λ none. none), λ marked. tt)
+    waiting-marks epoch (Some state) advances (stands, same, ready, step) = (
+      (λ none. none),
+      λ marked.
+          let go = gone state (advanced-goes epoch (inl (false, advances)) same) stands same marked in
+          let many : length after.monitors.items ≡ length before.monitors.items = ap (λ (ms : List Monitor). length ms) monitors ∙ advances-many hash accepted verified exchanged before.marks.items epoch (scene before said stream) reached advances in
+          (marked.0 ∙ sym many, same-marked state.memory.marks before.monitors.items after.monitors.items many go.go marked.1, go.ordered),
     )
 
-    pub line-marks : (line : ScriptLine) (state state' : Option State) (told' : List ℕ) → IsSaid lines line
-        → DoesSomeNoting hash accepted verified exchanged (background_of before) NoReply line before.changes.items after.changes.items (scene before said stream) reached
-        → RunStands hash accepted verified lines start old Happened before said.text.items state out → KeepsUp after told' state state' → MarksOn state before.monitors.items state' after.monitors.items
-    line-marks line None state' told' asked does stands kept = (learned-lasts after told' None state' kept, λ marked. none-marked after told' state' kept)
-    line-marks line (Some state) state' told' asked does (stands, same, ready, step) kept = (
-      learned-lasts after told' (Some state) state' kept,
-      λ marked. learned-marks after told' state state' before.monitors.items kept stands.kept.once (gone state (λ text stored known once spans.
-          does_some-keeps hash accepted verified exchanged (background_of before) (each-gone hash accepted verified (IsAsked lines) (IsOwnPromise verified before.key lines start.known) (noting start.known before.changes.items) before.marks.items text stored known exchanged once spans
-          (each-owned hash accepted verified (IsAsked lines) (IsOwnPromise verified before.key lines start.known) (noting start.known before.changes.items) before.marks.items text stored known exchanged once (λ signed own. own.0.0) same))
-          NoReply tt line before.changes.items after.changes.items (scene before said stream) reached (noted-ready NoReply line asked does ready) (λ name key is. (subst (IsSaid lines) is asked, given-so state stands same ready name)) does) stands same marked) marked,
-    )
+    -- the latest root was heard
+    pub looked-marks : (held : ℕ) (frame : Frame) (state state' : Option State) (told' : List ℕ) → LooksSome hash accepted verified exchanged (background_of before) held frame (scene before said stream) reached
+        → StandsBefore state → KeepsUp after told' state state' → MarksOn state before.monitors.items state' after.monitors.items
+    looked-marks held frame state state' told' looks = marked-so state state' told' (λ one stands same ready text stored known once spans.
+        looks_some-keeps hash accepted verified exchanged (background_of before) (each-goes same text stored known once spans) held frame (scene before said stream) reached looks)
+
+    -- a reply was heard
+    heard-goes : (held : ℕ) (asked : RequestContent) (frame : Frame) → IsSaid lines (Ask asked) → HearsAny hash accepted verified exchanged (background_of before) NoReply held asked frame before.changes.items after.changes.items (scene before said stream) reached
+        → start.known.marks ≡ before.marks.items → IsReady verified lines start.known before → Goes
+    heard-goes held asked frame says (inl hears) same ready = λ text stored known once spans.
+        reply-keeps hash accepted verified exchanged before.marks.items (each-goes same text stored known once spans) held asked frame before.changes.items after.changes.items (scene before said stream) reached (heard-own held asked frame says NoReply (inl hears) ready) hears
+    heard-goes held asked frame says (inr some) same ready = λ text stored known once spans.
+        hears_some-keeps hash accepted verified exchanged before.marks.items (each-goes same text stored known once spans) held asked frame before.changes.items after.changes.items (scene before said stream) reached (heard-own held asked frame says NoReply (inr some) ready) some
+
+    pub heard-marks : (held : ℕ) (asked : RequestContent) (frame : Frame) (state state' : Option State) (told' : List ℕ) → IsSaid lines (Ask asked)
+        → HearsAny hash accepted verified exchanged (background_of before) NoReply held asked frame before.changes.items after.changes.items (scene before said stream) reached
+        → StandsBefore state → KeepsUp after told' state state' → MarksOn state before.monitors.items state' after.monitors.items
+    heard-marks held asked frame state state' told' says hears = marked-so state state' told' (λ one stands same ready. heard-goes held asked frame says hears same ready)
+
+-- an epoch that no reply's promise is below: neither the head when it was asked for is above it, nor that of which the frame speaks
+abbrev pub low_of : ℕ → ℕ → ℕ
+low_of held epoch = held + (epoch - held)
+
+-- the head when it was asked for is not above it
+pub head-up : (chain : KeyedRoots) (head : SignedRoot) (held epoch : ℕ) → IsHead chain head → held ≡ head.body.epoch → (other : SignedRoot) → IsHead chain other → other.body.epoch ≤ low_of held epoch
+head-up chain head held epoch is same other at = let one = some-same head other (sym is ∙ at) in omega (arith, same, ap (λ (r : SignedRoot). r.body.epoch) one)
+
+pub low-high : (held epoch : ℕ) (asked : RequestContent) (frame : Frame) → SpeaksOf held asked frame epoch → (signed : SignedPromise) → IsLate held asked frame signed → low_of held epoch ≤ signed.promise.epoch
+low-high held epoch asked frame speaks signed (timely, late) = let high = late epoch speaks in omega (arith, timely, high)
 
 -- and where nothing is noted
 pub prepared-asked : {H V S : Type 0} (hash : List ℕ → List ℕ) (accepted verified : List ℕ → List ℕ → List ℕ → Type 0) (lines : Option (List (List ℕ))) (start : Found) (old : List ℕ) (Happened : List Act → Type 0) (before after : Asker H V S) (said : List ℕ) (state : Option State) (out : Option (List ℕ))
@@ -379,6 +552,56 @@ prepared-asked hash accepted verified lines start old Happened before after said
       asked-of verified before.key lines start.known before.changes.items (back-all (IsOwnPromise verified before.key lines start.known) before.earlier.items before.changes.items ready.1),
       subst (λ (n : ℕ). AreLate state.memory (drop n before.changes.items)) (sym step.0) (drop-none (λ (s : SignedPromise). Fits s.promise.epoch state.memory) before.changes.items),
     )
+
+-- no mark that is kept is above an epoch that the head is not above
+pub run-fits : {H V S : Type 0} (hash : List ℕ → List ℕ) (accepted verified : List ℕ → List ℕ → List ℕ → Type 0) (lines : Option (List (List ℕ))) (start : Found) (old : List ℕ) (Happened : List Act → Type 0) (asker : Asker H V S) (said : List ℕ) (state : Option State) (out : Option (List ℕ)) (low : ℕ)
+    → RunStands hash accepted verified lines start old Happened asker said state out → IsUpTo asker.client low → IfSome state (λ one. Fits low one.memory)
+run-fits hash accepted verified lines start old Happened asker said None out low stands up = tt
+run-fits hash accepted verified lines start old Happened asker said (Some state) out low (stands, same, ready, step) up = λ mark has. elim (stands.owns.held mark has).low [
+  | inl none ↦ inl none
+  | inr (head, at, under) ↦ let high = up head at in inr (omega (arith, under, high))
+]
+
+-- and no promise that is the owner's own
+pub run-own : {H V S : Type 0} (hash : List ℕ → List ℕ) (accepted verified : List ℕ → List ℕ → List ℕ → Type 0) (lines : Option (List (List ℕ))) (start : Found) (old : List ℕ) (Happened : List Act → Type 0) (asker : Asker H V S) (said : List ℕ) (state : Option State) (out : Option (List ℕ)) (low : ℕ)
+    → RunStands hash accepted verified lines start old Happened asker said state out → IsUpTo asker.client low → (signed : SignedPromise) → IfSome state (λ one. WasOwn (noting start.known asker.changes.items) signed → signed.promise.epoch ≤ low)
+run-own hash accepted verified lines start old Happened asker said None out low stands up signed = tt
+run-own hash accepted verified lines start old Happened asker said (Some state) out low (stands, same, ready, step) up signed = λ was.
+    let both = ends asker.client.chain.roots stands.owns.chain.first in
+    let early = rooted-low hash verified asker.client.chain signed.promise both.head stands.owns.chain both.at-head (stands.owns.rooted signed was) in
+    let high = up both.head both.at-head in
+    omega (arith, early, high)
+
+not-none : (state : State) → ◌≡◌ {A = Option State} (Some state) None → ⊥
+not-none state same = search (rules, same)
+
+-- without a state, none is kept
+pub keeps-none : {H V S : Type 0} (after : Asker H V S) (told : List ℕ) (state state' : Option State) → state ≡ None → KeepsUp after told state state' → state' ≡ None
+keeps-none after told None state' had (middle, is, saves) = subst (λ (m : Option State). SavesTo after told m state') is saves
+keeps-none after told (Some state) state' had keeps = absurd (not-none state had)
+
+-- once the chain is as far as a reply, nothing is above both that and where it was before
+pub caught-so : {T H V S : Type 0} (hash : List ℕ → List ℕ) (accepted verified : List ℕ → List ℕ → List ℕ → Type 0) (exchanged : T → RequestContent → Frame → T → Type 0) (lines : Option (List (List ℕ))) (start : Found) (old : List ℕ) (Happened : List Act → Type 0)
+    (before ready : Asker H V S) (said : Said) (stream : T) (out : Option (List ℕ)) (state state' : Option State) (epoch low : ℕ) (told : Report) (later : T) → IsUpTo before.client low → epoch ≤ low → ready.changes ≡ before.changes → (state ≡ None → state' ≡ None)
+    → RunStands hash accepted verified lines start old Happened before said.text.items state out
+    → CatchesUp hash accepted verified exchanged epoch (scene before said stream) (record { client = ready.client; monitors = ready.monitors.items; told = told; stream = later })
+    → IfSome state' (λ one. Fits low one.memory) → (reached : Scene T) → AreBelow hash accepted verified exchanged lines start old Happened ready ready said stream out reached low state'
+caught-so {T} {H} {V} {S} hash accepted verified exchanged lines start old Happened before ready said stream out state None epoch low told later up high still none stands catches fits reached = record { own = λ signed. tt; marks = tt; monitors = tt }
+caught-so {T} {H} {V} {S} hash accepted verified exchanged lines start old Happened before ready said stream out None (Some state') epoch low told later up high still some stands catches fits reached = absurd (not-none state' (some refl))
+caught-so {T} {H} {V} {S} hash accepted verified exchanged lines start old Happened before ready said stream out (Some state) (Some state') epoch low told later up high still none (stands, same, (keyed, ready-so, are), step) catches fits reached = record {
+  own = λ signed was. run-own hash accepted verified lines start old Happened before said.text.items (Some state) out low (stands, same, (keyed, ready-so, are), step) up signed (subst (λ (cs : Vec SignedPromise Global). WasOwn (noting start.known cs.items) signed) still was);
+  marks = fits;
+  monitors = caught-below hash accepted verified exchanged lines (IsOwnPromise verified before.key lines start.known) start.known (background_of before) stands.kept.text (stored_after stands.kept.acts).roots state.memory.marks
+      (subst (λ (ms : List Mark). HasNoRepeat (map name_of ms)) same stands.kept.begun) (λ signed own. own.0.0) (λ signed own. own.0.1) same before.changes.items epoch low (scene before said stream) _ catches up high
+      (subst (λ (ms : List Mark). Owns hash accepted verified (IsAsked lines) (IsOwnPromise verified before.key lines start.known) (noting start.known before.changes.items) stands.kept.text (stored_after stands.kept.acts).roots ms state.memory.marks (scene before said stream)) same
+      (owns-like hash accepted verified (IsAsked lines) (IsOwnPromise verified before.key lines start.known) (noting start.known before.changes.items) start.known.marks stands.kept.text (stored_after stands.kept.acts).roots state.memory.marks (standing before.client before.monitors.items said.text.items) (scene before said stream) refl refl refl stands.owns)) step.1;
+}
+
+-- what is below an epoch is so whatever the output
+pub below-as : {T H V S : Type 0} (hash : List ℕ → List ℕ) (accepted verified : List ℕ → List ℕ → List ℕ → Type 0) (exchanged : T → RequestContent → Frame → T → Type 0) (lines : Option (List (List ℕ))) (start : Found) (old : List ℕ) (Happened Happened' : List Act → Type 0)
+    (before last after : Asker H V S) (said said' : Said) (stream stream' : T) (out out' : Option (List ℕ)) (reached reached' : Scene T) (low : ℕ) (state : Option State)
+    → AreBelow hash accepted verified exchanged lines start old Happened before last said stream out reached low state → AreBelow hash accepted verified exchanged lines start old Happened' before after said' stream' out' reached' low state
+below-as hash accepted verified exchanged lines start old Happened Happened' before last after said said' stream stream' out out' reached reached' low state below = record { own = below.own; marks = below.marks; monitors = below.monitors }
 
 -- a question that settled stands for the next, once all is written
 module _ {H V S : Type 0} (hash : List ℕ → List ℕ) (accepted verified : List ℕ → List ℕ → List ℕ → Type 0) (lines : Option (List (List ℕ))) (start : Found) (old : List ℕ) (Happened : List Act → Type 0)
@@ -408,9 +631,39 @@ pub ok_step : {A P Q R : Type 0} (result : Result A RunFault) (asked : Result (U
 ok_step {A} {P} {Q} {R} (Ok done) asked is whole keeps leads = leads (subst (λ (r : Result (Unit {0}) AskFault). OnOk r P) is whole) (keeps tt)
 ok_step {A} {P} {Q} {R} (Err fault) asked is whole keeps leads = tt
 
+-- what stays of what asks, stays of its background
+pub same_background : {H V S : Type 0} (before after : Asker H V S) → after.key ≡ before.key → after.token ≡ before.token → after.marks ≡ before.marks → after.earlier ≡ before.earlier → after.known ≡ before.known → background_of after ≡ background_of before
+same_background before after key token marks earlier known =
+    ap (λ (k : List ℕ). let b : Background = record { key = k; token = after.token; marks = after.marks.items; earlier = after.earlier.items; known = after.known } in b) key
+    ∙ ap (λ (t : List ℕ). let b : Background = record { key = before.key; token = t; marks = after.marks.items; earlier = after.earlier.items; known = after.known } in b) token
+    ∙ ap (λ (ms : Vec Mark Global). let b : Background = record { key = before.key; token = before.token; marks = ms.items; earlier = after.earlier.items; known = after.known } in b) marks
+    ∙ ap (λ (es : Vec SignedPromise Global). let b : Background = record { key = before.key; token = before.token; marks = before.marks.items; earlier = es.items; known = after.known } in b) earlier
+    ∙ ap (λ (m : Memory). let b : Background = record { key = before.key; token = before.token; marks = before.marks.items; earlier = before.earlier.items; known = m } in b) known
+
+-- what is made of an answer, whatever it is
+pub answered_enough : (advanced : Result Bool AskFault) (asked : Result (Unit {0}) AskFault) → IfErr advanced (λ fault. asked ≡ Err fault) → asked ≢ Err NoMemory → advanced ≢ Err NoMemory
+answered_enough (Ok goes) asked fails enough same = search (rules, same)
+answered_enough (Err NoReply) asked fails enough same = search (rules, same)
+answered_enough (Err Stopped) asked fails enough same = search (rules, same)
+answered_enough (Err NoMemory) asked fails enough same = enough fails
+
+pub went_on : (P : Bool → Type 0) (advanced : Result Bool AskFault) (asked : Result (Unit {0}) AskFault) → IfErr advanced (λ fault. asked ≡ Err fault) → asked ≡ Ok tt → advanced ≢ Ok false → IfOk advanced P → P true
+went_on P (Ok true) asked fails ok goes holds = holds
+went_on P (Ok false) asked fails ok goes holds = absurd (goes refl)
+went_on P (Err fault) asked fails ok goes holds = search (rules, sym fails ∙ ok)
+
+pub has_stopped : (advanced : Result Bool AskFault) (asked : Result (Unit {0}) AskFault) → OnOk advanced (asked ≡ Ok tt) → IfErr advanced (λ fault. asked ≡ Err fault) → asked ≡ Err Stopped → advanced ≡ Err Stopped
+has_stopped (Ok goes) asked ok fails is = search (rules, sym ok ∙ is)
+has_stopped (Err fault) asked ok fails is = search (rules, sym fails ∙ is)
+
 pub told-so : {A E : Type 0} (result : Result A E) (old new : Option (List ℕ)) (text : List ℕ) (said : Said) (status : ℕ) → OnOk result (Appends old new text × (report_of said ≡ emptied status)) → OnOk result (report_of said ≡ emptied status)
 told-so (Ok done) old new text said status both = both.1
 told-so (Err fault) old new text said status both = tt
 
 pub ok_have : {A E P : Type 0} (result : Result A E) {done : A} → result ≡ Ok done → OnOk result P → P
 ok_have {A} {E} {P} result was holds = subst (λ (r : Result A E). OnOk r P) was holds
+
+-- what holds where this is known to be Ok
+pub ok_known : {A E P Q : Type 0} (result : Result A E) → OnOk result P → ((done : A) → result ≡ Ok done → P → Q) → OnOk result Q
+ok_known (Ok done) holds leads = leads done refl holds
+ok_known (Err why) holds leads = tt

@@ -1,5 +1,5 @@
 -- How a state stands once it learned what was told, and handed it on.
-use Rattle.std.proofs.Common.{◌≡◌, ◌⊎◌, ℕ, List, [], ◌∷◌, ◌++◌, Contains, Option, inl, inr, subst, sym}
+use Rattle.std.proofs.Common.{◌≡◌, ◌⊎◌, ◌||◌, ℕ, Bool, if◌then◌else◌, List, [], ◌∷◌, ◌++◌, Contains, Option, subst, sym}
 use Rattle.std.specs.List.{AllByRecursion}
 use Rattle.rootchain.specs.Chains.{KeyedRoots}
 use Rattle.client.specs.Clients.{Client}
@@ -13,15 +13,14 @@ use Rattle.rootchain.specs.declared.signed_promise.SignedPromise.{SignedPromise}
 use Rattle.asking.specs.Saves.{Act, AddsLines, Found}
 use Rattle.asking.specs.Scenes.{Scene}
 use Rattle.asking.specs.Standing.{standing, IsKept, IsUpTo, Stands}
-use Rattle.asking.proofs.Adding.{all-self, drop-among}
+use Rattle.asking.proofs.Adding.{drop-among}
 use Rattle.asking.proofs.AskedOwn.{moved-promises}
 use Rattle.asking.proofs.PutMarks.{monitors-move, same-marks}
 use Rattle.asking.proofs.Stood.{kept-handed, stands-handed, stands-moved, stands-same, unchanged-adds, unchanged-own}
 
 -- the monitors whose marks may move are among all
-pub may-among : (chain : KeyedRoots) (head known : ℕ) (monitors some : List Monitor) → MayMove chain head known monitors some → AllByRecursion (Contains monitors) some
-may-among chain head known monitors some (root, at, inl (low, is)) = subst (AllByRecursion (Contains monitors)) (sym is) (drop-among known monitors)
-may-among chain head known monitors some (root, at, inr (high, is)) = subst (AllByRecursion (Contains monitors)) (sym is) (all-self monitors)
+pub may-among : (chain : KeyedRoots) (head : ℕ) (was_new : Bool) (known : ℕ) (monitors some : List Monitor) → MayMove chain head was_new known monitors some → AllByRecursion (Contains monitors) some
+may-among chain head was_new known monitors some (is_new, new, is) = subst (AllByRecursion (Contains monitors)) (sym is) (drop-among (if is_new || was_new then 0 else known) monitors)
 
 -- what is handed on, by the text of it
 handed-as : (Before After : List Act → Type 0) (text : List ℕ) (items : List Item) (out : Option (List ℕ)) → text ≡ items_text items

@@ -1,14 +1,16 @@
--- Over all runs of a state, it was told of each root up to a mark, and no mark is lost.
-use Rattle.std.proofs.Common.{◌≡◌, ◌≢◌, ◌∙◌, ℕ, ◌<◌, ◌≤◌, List, [], ◌∷◌, ◌++◌, Contains, Option, Ok, ap, append_assoc, append-nil, arith, inl, inr, refl, subst, sym}
+-- Over all runs of a state, it was told of each root up to a mark, and no mark is lost, nor a promise that one awaits.
+use Rattle.std.proofs.Common.{◌≡◌, ◌≢◌, ◌∙◌, ℕ, ◌<◌, ◌≤◌, List, [], ◌∷◌, ◌++◌, Any, Contains, Option, Ok, ap, append_assoc, append-nil, arith, inl, inr, refl, subst, sym}
+use Rattle.std.specs.List.{AllByRecursion}
 use Rattle.std.proofs.lemmas.List.Elements.{Contains-append_left}
 use Rattle.rootchain.specs.declared.signed_promise.SignedPromise.{SignedPromise}
 use Rattle.rootchain.specs.declared.signed_root.SignedRoot.{SignedRoot}
 use Rattle.memory.specs.Memories.{Memory}
 use Rattle.memory.specs.Texts.{Spells}
+use Rattle.memory.specs.Watching.{IsAwaited}
 use Rattle.memory.specs.declared.mark.Mark.{Mark}
 use Rattle.memory.proofs.OneMemory.{one_memory}
 use Rattle.asking.specs.Saves.{stored_after, Act, AddsLines, AddsRoots, AllKeepTold, Found, HasMark, IsFound, KeepsTold, Loads, SpellsTold, Stored, WasOwn, Writes}
-use Rattle.asking.specs.StateRuns.{left_by, AllRun, AreAdded, AreFirst, FirstLoads, StateRun, WasAskedIn, WasTold, WasWritten}
+use Rattle.asking.specs.StateRuns.{left_by, AllRun, AreAdded, AreFirst, FirstLoads, LeavesAwaited, StateRun, WasAskedIn, WasTold, WasWritten}
 use Rattle.asking.proofs.KeptTold.{loads-kept}
 
 some-left : (front back : List Act) → back ≢ [] → front ++ back ≡ [] → ⊥
@@ -54,6 +56,7 @@ module _ (hash : List ℕ → List ℕ) (accepted : List ℕ → List ℕ → Li
       stays = kept.stays;
       told = λ mark has root among above below. kept.told mark has root (subst (λ (rs : List SignedRoot). Contains rs root) (sym parts) (Contains-append_left roots rest root among)) above below;
       own = kept.own;
+      awaits = kept.awaits;
     }
 
   module _ {X : Type 0} (Given : X → List ℕ → Option (List ℕ) → Type 0) (Own : X → Memory → SignedPromise → Type 0) (Asked : X → SignedPromise → Type 0) where
@@ -91,23 +94,44 @@ module _ (hash : List ℕ → List ℕ) (accepted : List ℕ → List ℕ → Li
                 (told-over-runs earlier all start.known found.1 old knows root (subst (λ (rs : List SignedRoot). Contains rs root) (sym found.0) there) above' below'))
           ]
 
-      -- no mark is lost, and no root
-      pub marks-over-runs : (later earlier : List (StateRun X)) → AllRun hash accepted Given Own Asked first (later ++ earlier) → (before known : Memory) → Spells (left_by first earlier).text (Ok before)
-          → Spells (left_by first (later ++ earlier)).text (Ok known) → (old : Mark) → Contains before.marks old → HasMark known.marks old
-      marks-over-runs [] earlier all before known was spells old has =
-          (old, subst (λ (m : Memory). Contains m.marks old) (one-spelled (left_by first earlier).text before known was spells) has, refl, omega arith)
-      marks-over-runs (run ∷ later) earlier (loads, keeps, prefix, added, all) before known was spells old has =
-          let (start, found, (text, written, (saved, says, kept))) = kept-by run (left_by first (later ++ earlier)) loads keeps prefix added in
-          let same = one-spelled (stored_after run.left).text saved known says spells in
-          let (mark, there, named, low) = marks-over-runs later earlier all before start.known was found.1 old has in
-          let (next, there', named', low') = kept.stays mark there in
-          (next, subst (λ (m : Memory). Contains m.marks next) same there', named' ∙ named, omega (arith, low, low'))
-
+      -- no root is lost, and no mark
       pub roots-over-runs : (later earlier : List (StateRun X)) → AllRun hash accepted Given Own Asked first (later ++ earlier) → (more : List SignedRoot) × ((left_by first (later ++ earlier)).roots ≡ (left_by first earlier).roots ++ more)
       roots-over-runs [] earlier all = ([], sym (append-nil (left_by first earlier).roots))
       roots-over-runs (run ∷ later) earlier (loads, keeps, prefix, (new, rest, grown, parts), all) =
           let (more, is) = roots-over-runs later earlier all in
           (more ++ new, grown ∙ ap (λ (rs : List SignedRoot). rs ++ new) is ∙ append_assoc (left_by first earlier).roots more new)
+
+      still-root : (later earlier : List (StateRun X)) → AllRun hash accepted Given Own Asked first (later ++ earlier) → (roots : List SignedRoot) → (left_by first (later ++ earlier)).roots ≡ roots
+          → (root : SignedRoot) → Contains (left_by first earlier).roots root → Contains roots root
+      still-root later earlier all roots is root has =
+          let (more, grown) = roots-over-runs later earlier all in
+          subst (λ (rs : List SignedRoot). Contains rs root) (sym grown ∙ is) (Contains-append_left (left_by first earlier).roots more root has)
+
+      pub marks-over-runs : (later earlier : List (StateRun X)) → AllRun hash accepted Given Own Asked first (later ++ earlier) → (before known : Memory) → Spells (left_by first earlier).text (Ok before)
+          → Spells (left_by first (later ++ earlier)).text (Ok known) → (old : Mark) → Contains before.marks old → HasMark (left_by first earlier).roots known.marks old
+      marks-over-runs [] earlier all before known was spells old has =
+          (old, subst (λ (m : Memory). Contains m.marks old) (one-spelled (left_by first earlier).text before known was spells) has, refl, omega arith, λ root among low. low)
+      marks-over-runs (run ∷ later) earlier (loads, keeps, prefix, added, all) before known was spells old has =
+          let (start, found, (text, written, (saved, says, kept))) = kept-by run (left_by first (later ++ earlier)) loads keeps prefix added in
+          let same = one-spelled (stored_after run.left).text saved known says spells in
+          let (mark, there, named, low, far) = marks-over-runs later earlier all before start.known was found.1 old has in
+          let (next, there', named', low', far') = kept.stays mark there in (
+            next,
+            subst (λ (m : Memory). Contains m.marks next) same there',
+            named' ∙ named,
+            omega (arith, low, low'),
+            λ root among up. far' root (still-root later earlier all start.roots found.0 root among) (far root among up),
+          )
+
+      -- nor a promise for a change of the owner's own, as long as a mark awaits it
+      pub awaited-over-runs : (later earlier : List (StateRun X)) → AllRun hash accepted Given Own Asked first (later ++ earlier) → (before known : Memory) → Spells (left_by first earlier).text (Ok before)
+          → Spells (left_by first (later ++ earlier)).text (Ok known) → (signed : SignedPromise) → WasOwn before signed → AllByRecursion (LeavesAwaited signed) later → WasOwn known signed
+      awaited-over-runs [] earlier all before known was spells signed own awaited = subst (λ (m : Memory). WasOwn m signed) (one-spelled (left_by first earlier).text before known was spells) own
+      awaited-over-runs (run ∷ later) earlier (loads, keeps, prefix, added, all) before known was spells signed own ((now, reads, awaits), awaited) =
+          let (start, found, (text, written, (saved, says, kept))) = kept-by run (left_by first (later ++ earlier)) loads keeps prefix added in
+          let old = awaited-over-runs later earlier all before start.known was found.1 signed own awaited in
+          let here = subst (λ (m : Memory). Any (IsAwaited signed) m.marks) (one-spelled (stored_after run.left).text now saved reads says) awaits in
+          subst (λ (m : Memory). WasOwn m signed) (one-spelled (stored_after run.left).text saved known says spells) (kept.awaits signed old here)
 
       -- each promise that is the owner's own was asked for
       pub own-over-runs : (runs : List (StateRun X)) → AllRun hash accepted Given Own Asked first runs → (known : Memory) → Spells (left_by first runs).text (Ok known) → (signed : SignedPromise) → WasOwn known signed → WasAskedIn Asked first runs signed

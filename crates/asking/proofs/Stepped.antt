@@ -85,18 +85,19 @@ module _ {T : Type 0} (hash : List ℕ → List ℕ) (accepted : List ℕ → Li
       let behind = subst (λ (n : ℕ). AllStep hash accepted exchanged (end - n) middle n after) is rest in
       subst (λ (n : ℕ). AllStep hash accepted exchanged n before place after) left (count, middle, through, behind)
 
-  -- all monitors stepped, and then the promises were tested
-  pub goes_on : {A E : Type 0} (result : Result A E) (marks marks' : Vec Mark Global) (place end : ℕ) (before middle after : Scene T) → marks ≡ marks' → end ≡ length before.monitors → end ≤ place
+  -- all monitors stepped
+  pub all_stepped : (place end : ℕ) (before middle : Scene T) → end ≡ length before.monitors → end ≤ place
       → ((x : Scene T) → AllStep hash accepted exchanged (end - place) middle place x → AllStep hash accepted exchanged end before 0 x)
-      → OnOk result (TestsAll hash accepted exchanged marks.items middle after) → OnOk result (GoesOn hash accepted exchanged marks'.items before after)
-  goes_on (Ok done) marks marks' place end before middle after same is past all tests =
+      → AllStep hash accepted exchanged (length before.monitors) before 0 middle
+  all_stepped place end before middle is past all =
       let none : 0 ≡ end - place = omega (arith, past) in
-      let whole = all middle (subst (λ (n : ℕ). AllStep hash accepted exchanged n middle place middle) none refl) in (
-        middle,
-        subst (λ (n : ℕ). AllStep hash accepted exchanged n before 0 middle) is whole,
-        subst (λ (m : Vec Mark Global). TestsAll hash accepted exchanged m.items middle after) same tests,
-      )
-  goes_on (Err fault) marks marks' place end before middle after same is past all tests = tt
+      subst (λ (n : ℕ). AllStep hash accepted exchanged n before 0 middle) is (all middle (subst (λ (n : ℕ). AllStep hash accepted exchanged n middle place middle) none refl))
+
+  -- and then the promises were tested
+  pub goes_on : {A E : Type 0} (result : Result A E) (marks marks' : Vec Mark Global) (before middle after : Scene T) → marks ≡ marks' → AllStep hash accepted exchanged (length before.monitors) before 0 middle
+      → OnOk result (TestsAll hash accepted exchanged marks.items middle after) → OnOk result (GoesOn hash accepted exchanged marks'.items before after)
+  goes_on (Ok done) marks marks' before middle after same all tests = (middle, all, subst (λ (m : Vec Mark Global). TestsAll hash accepted exchanged m.items middle after) same tests)
+  goes_on (Err fault) marks marks' before middle after same all tests = tt
 
   -- the monitor at a place stepped, and of those behind it some
   pub some_step_more : (place next end count : ℕ) (before middle after : Scene T) → place < end → next ≡ suc place → StepsThrough hash accepted exchanged count before place middle
@@ -113,21 +114,15 @@ module _ {T : Type 0} (hash : List ℕ → List ℕ) (accepted : List ℕ → Li
       let left : suc (end - suc place) ≡ end - place = omega (arith, below) in
       subst (λ (n : ℕ). SomeStep hash accepted exchanged n before place after) left (inl some)
 
+  -- a fault came as the monitors stepped
+  pub halts_stepping : {H V S : Type 0} (marks : List Mark) (fault : AskFault) (before : Scene T) (asker : Asker H V S) (said : Said)
+      → HaltsAfter (SomeStep hash accepted exchanged (length before.monitors) before 0) fault asker said → HaltsAfter (GoesSome hash accepted exchanged marks before) fault asker said
+  halts_stepping marks fault before asker said (reached, some, halts) = (reached, inl some, halts)
+
   -- all monitors stepped, and then a fault came as the promises were tested
-  pub halts_testing : {A H V S : Type 0} (result : Result A AskFault) (asker : Asker H V S) (said : Said) (marks marks' : Vec Mark Global) (place end : ℕ) (before middle : Scene T) → marks ≡ marks'
-      → end ≡ length before.monitors → end ≤ place
-      → ((x : Scene T) → AllStep hash accepted exchanged (end - place) middle place x → AllStep hash accepted exchanged end before 0 x)
-      → IfErr result (λ fault. HaltsAfter (TestsSome hash accepted exchanged marks.items middle) fault asker said)
+  pub halts_testing : {A H V S : Type 0} (result : Result A AskFault) (asker : Asker H V S) (said : Said) (marks marks' : Vec Mark Global) (before middle : Scene T) → marks ≡ marks'
+      → AllStep hash accepted exchanged (length before.monitors) before 0 middle → IfErr result (λ fault. HaltsAfter (TestsSome hash accepted exchanged marks.items middle) fault asker said)
       → IfErr result (λ fault. HaltsAfter (GoesSome hash accepted exchanged marks'.items before) fault asker said)
-  halts_testing (Ok done) asker said marks marks' place end before middle same is past all halts = tt
-  halts_testing (Err fault) asker said marks marks' place end before middle same is past all (reached, some, halts) =
-      let none : 0 ≡ end - place = omega (arith, past) in
-      let whole = all middle (subst (λ (n : ℕ). AllStep hash accepted exchanged n middle place middle) none refl) in (
-        reached,
-        inr (
-          middle,
-          subst (λ (n : ℕ). AllStep hash accepted exchanged n before 0 middle) is whole,
-          subst (λ (m : Vec Mark Global). TestsSome hash accepted exchanged m.items middle reached) same some,
-        ),
-        halts,
-      )
+  halts_testing (Ok done) asker said marks marks' before middle same all halts = tt
+  halts_testing (Err fault) asker said marks marks' before middle same all (reached, some, halts) =
+      (reached, inr (middle, all, subst (λ (m : Vec Mark Global). TestsSome hash accepted exchanged m.items middle reached) same some), halts)

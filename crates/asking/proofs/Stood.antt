@@ -3,7 +3,7 @@ use Rattle.std.proofs.Common.{◌≡◌, ◌∙◌, ◌⊎◌, ℕ, suc, ◌<◌
 use Rattle.std.specs.Prelude.{if◌then◌else◌, nat_lt}
 use Rattle.std.specs.List.{AllByRecursion}
 use Rattle.std.proofs.lemmas.Bool.{ltb-true}
-use Rattle.std.proofs.lemmas.List.Elements.{All-contains, All-from_recursion, Contains-append_cases}
+use Rattle.std.proofs.lemmas.List.Elements.{All-contains, All-from_recursion, Contains-append_cases, Contains-append_left}
 use Rattle.rootchain.specs.declared.signed_promise.SignedPromise.{SignedPromise}
 use Rattle.rootchain.specs.declared.signed_root.SignedRoot.{SignedRoot}
 use Rattle.client.specs.Clients.{Client}
@@ -16,12 +16,12 @@ use Rattle.memory.proofs.Taken.{taken-append, unchanged-taken}
 use Rattle.memory.proofs.WholeLines.{spells-more, whole-more}
 use Rattle.monitor.specs.Monitors.{Monitor}
 use Rattle.asking.specs.Owning.{IsHeld, IsOwn, Owns, WasWatched}
-use Rattle.asking.specs.Saves.{found_in, own_promised, roots_above, stored_after, with_promises, noting, Act, AddsLines, AddsRoots, Counts, Found, IsAsked, IsAskedChange, IsOwnAhead, IsOwnPromise, KeepsTold, WasOwn, WasStored}
+use Rattle.asking.specs.Saves.{found_in, own_promised, roots_above, stored_after, with_promises, noting, Act, AddsLines, AddsRoots, Counts, Found, IsAsked, IsAskedChange, IsAsFar, IsOwnAhead, IsOwnPromise, KeepsTold, WasOwn, WasStored}
 use Rattle.asking.specs.Scenes.{Scene}
 use Rattle.asking.specs.Standing.{standing, AddsOwn, Fits, IsKept, IsUpTo, KeepsMarks, Stands}
-use Rattle.asking.proofs.HeldMarks.{begun-held, moved-held}
+use Rattle.asking.proofs.HeldMarks.{begun-held, moved-far, moved-held}
 use Rattle.asking.proofs.KeptTold.{adds-roots-kept, keeps-told, remembers-kept, text-kept, IsToldOrStored}
-use Rattle.asking.proofs.Noting.{noted-was, tells-counted, was-cases, was-more}
+use Rattle.asking.proofs.Noting.{noted-was, same-own, taken-own, tells-counted, was-cases, was-more}
 use Rattle.asking.proofs.PutMarks.{begun-marks, moved-once, moved-stays, EachPuts, IsBegun, IsMoved}
 
 -- ---- roots above an epoch
@@ -90,6 +90,10 @@ module _ (hash : List ℕ → List ℕ) (accepted verified : List ℕ → List �
   Told = KeepsTold hash accepted (IsAsked lines) (IsOwnPromise verified key lines start.known) (IsAskedChange lines) start
 
   module _ (Happened : List Act → Type 0) (epoch : ℕ) (known : Memory) (unsaved : List Item) (out : Option (List ℕ)) (kept : IsKept hash accepted verified lines key start old Happened epoch known unsaved out) where
+    -- what was the owner's own is
+    pub still-known : (signed : SignedPromise) → WasOwn start.known signed → WasOwn known signed
+    still-known signed was = taken-own unsaved kept.saved known kept.ahead signed (kept.had signed was)
+
     -- more is learned, and no mark moves
     abbrev pub kept-known : (known' : Memory) (news : List Item) → TakesAll news known known' → KeepsMarks known known' → OwnAsked lines start.known known known' → IsKept hash accepted verified lines key start old Happened epoch known' (unsaved ++ news) out
     kept-known known' news takes marks own = record {
@@ -99,13 +103,15 @@ module _ (hash : List ℕ → List ℕ) (accepted verified : List ℕ → List �
       is-out = kept.is-out;
       all = kept.all;
       saved = kept.saved;
+      had = kept.had;
       whole = kept.whole;
       spells = kept.spells;
       ahead = taken-append unsaved news kept.saved known known' kept.ahead takes;
       now = kept.now;
       next = remembers-kept hash accepted (IsAsked lines) (IsOwnPromise verified key lines start.known) (IsAskedChange lines) start kept.text (found_in (stored_after kept.acts) known) kept.next known' marks.known
-          (λ mark has. let (one, there, named, low) = kept.next.stays mark has in (one, marks.still one there, named, low))
+          (λ mark has. let (one, there, named, low, far) = kept.next.stays mark has in (one, marks.still one there, named, low, far))
           (asked-then lines start.known known known' own kept.next.own)
+          (λ signed was. taken-own news known known' takes signed (still-known signed was))
           (late-then lines start.known known known' own);
       early = kept.early;
       low-start = kept.low-start;
@@ -127,6 +133,7 @@ module _ (hash : List ℕ → List ℕ) (accepted verified : List ℕ → List �
       is-out = is ∙ ap Some (append_assoc old kept.text more);
       all = kept.all;
       saved = kept.saved;
+      had = kept.had;
       whole = kept.whole;
       spells = kept.spells;
       ahead = kept.ahead;
@@ -159,6 +166,7 @@ module _ (hash : List ℕ → List ℕ) (accepted verified : List ℕ → List �
         is-out = kept.is-out;
         all = (kept.all, (kept.text, kept.is-out, (kept.saved, kept.spells, adds)));
         saved = kept.saved;
+        had = kept.had;
         whole = kept.whole;
         spells = kept.spells;
         ahead = kept.ahead;
@@ -186,6 +194,7 @@ module _ (hash : List ℕ → List ℕ) (accepted verified : List ℕ → List �
       is-out = kept.is-out;
       all = kept.all;
       saved = kept.saved;
+      had = kept.had;
       whole = kept.whole;
       spells = kept.spells;
       ahead = unchanged-taken unsaved kept.saved known kept.ahead none;
@@ -208,6 +217,7 @@ module _ (hash : List ℕ → List ℕ) (accepted verified : List ℕ → List �
       is-out = kept.is-out;
       all = (kept.all, (kept.text, kept.is-out, (known, grown, kept.next)));
       saved = known;
+      had = still-known;
       whole = whole-more (stored_after kept.acts).text unsaved kept.whole;
       spells = grown;
       ahead = refl;
@@ -336,6 +346,13 @@ module _ (hash : List ℕ → List ℕ) (accepted verified : List ℕ → List �
         counted signed (inl old) = was-more start.known (map own_promised noted) signed old
         counted signed (inr new) = own-so signed new
 
+    -- no mark goes back over a root that was there
+    far-so : (monitor : Monitor) (now : List Mark) (new : Mark) → IsMoved monitors monitor now new → (mark : Mark) → Contains start.known.marks mark → mark.name ≡ new.name → IsAsFar start.roots mark new
+    far-so monitor now new moves mark has named root among =
+        moved-far hash accepted verified (IsAsked lines) (IsOwnPromise verified key lines start.known) (noting start.known noted) text client.chain start.known.marks monitors stands.owns.chain stands.owns.formed watched-so monitor now new moves mark has named root
+        (all-in (Contains client.chain.roots) (stored_after stands.kept.acts).roots root stands.owns.stores
+        (subst (λ (rs : List SignedRoot). Contains rs root) (sym stands.kept.next.grows.1) (Contains-append_left start.roots stands.kept.next.grows.0 root among)))
+
     low-so : Fits epoch known'
     low-so mark has = elim (held mark has).low [
       | inl empty ↦ inl empty
@@ -351,13 +368,15 @@ module _ (hash : List ℕ → List ℕ) (accepted verified : List ℕ → List �
         is-out = kept.is-out;
         all = kept.all;
         saved = kept.saved;
+        had = kept.had;
         whole = kept.whole;
         spells = kept.spells;
         ahead = taken-append unsaved news kept.saved known known' kept.ahead takes;
         now = kept.now;
         next = keeps-told hash accepted (IsAsked lines) (IsOwnPromise verified key lines start.known) (IsAskedChange lines) start text (stored_after kept.acts).roots kept.next.grows.0 known' kept.next.grows.1
-            (moved-stays monitors some start.known.marks known.marks known'.marks puts kept.once kept.next.stays) told-so
-            (asked-then lines start.known known known' (unchanged-own lines start.known known known' same) kept.next.own);
+            (moved-stays monitors some start.roots start.known.marks known.marks known'.marks puts kept.once far-so kept.next.stays) told-so
+            (asked-then lines start.known known known' (unchanged-own lines start.known known known' same) kept.next.own)
+            (λ signed was. same-own known known' same signed (still-known Happened epoch known unsaved out kept signed was));
         early = kept.early;
         low-start = kept.low-start;
         low = kept.low;

@@ -8,7 +8,7 @@ use Rattle.monitor.specs.Expecting.{Expects}
 use Rattle.monitor.specs.Monitors.{Monitor}
 use Rattle.monitor.specs.Refusals.{monitor_refusal_number}
 use Rattle.monitor.specs.declared.monitor_refusal.Refusal.{Refusal}
-use Rattle.monitor.specs.declared.monitor_refusal.Refusal.TheVariants.{Client}
+use Rattle.monitor.specs.declared.monitor_refusal.Refusal.TheVariants as monitor
 use Rattle.commands.specs.Operations.{Head}
 use Rattle.wire.specs.Frames.{Frame}
 use Rattle.wire.specs.Requests.{RequestContent, Put, Query, Turn}
@@ -19,9 +19,12 @@ use Rattle.memory.specs.declared.mark.Mark.{Mark}
 use Rattle.asking.specs.declared.ask_fault.AskFault.{AskFault}
 use Rattle.asking.specs.declared.ask_fault.AskFault.TheVariants.{OutOfMemory}
 use Rattle.asking.specs.Answering.{IsAnswerAt}
+use Rattle.asking.specs.Catching.{CatchesSome, CatchesUp, StopsBelow}
 use Rattle.asking.specs.Checking.{HearsFrame}
-use Rattle.asking.specs.Following.{Follows, StopsAfter, TakesSome}
+use Rattle.asking.specs.Exchanges.{HoldsFrame}
 use Rattle.asking.specs.Scenes.{Scene}
+use Rattle.asking.specs.declared.reply.Reply.{Reply}
+use Rattle.client.specs.Clients.{Client}
 use Rattle.asking.specs.Refused.{refuses_text}
 use Rattle.asking.specs.Reports.{Report, refused, silent, told_after, unless_fine}
 use Rattle.asking.specs.Wanted.{last_epoch}
@@ -52,6 +55,11 @@ pub record GetsReply {T : Type 0} (exchanged : T → RequestContent → Frame �
   pub exchange : exchanged before.stream (with_token token asked) frame stream
   pub epoch : ℕ
   pub speaks : SpeaksOf head.body.epoch asked frame epoch
+
+-- the line is sent, and this reply, of one frame, comes back
+abbrev pub Sends : {T : Type 0} → (T → RequestContent → Frame → T → Type 0) → List ℕ → RequestContent → Client → T → Reply → T → Type 0
+Sends exchanged token asked client before reply after = (head : SignedRoot) × IsHead client.chain head × (reply.held ≡ head.body.epoch)
+    × ((frame : Frame) × HoldsFrame reply.bytes.items frame × exchanged before (with_token token asked) frame after × SpeaksOf reply.held asked frame reply.epoch)
 
 -- the scene once the frame has come
 abbrev pub replied : {T : Type 0} {exchanged : T → RequestContent → Frame → T → Type 0} {token : List ℕ} {asked : RequestContent} {before : Scene T} → GetsReply exchanged token asked before → Scene T
@@ -86,7 +94,7 @@ module _ (hash : List ℕ → List ℕ) (accepted verified : List ℕ → List �
       ((before.name ≡ signed.promise.name) × Expects hash verified before signed.promise.key promise {A = Unit {0}} (Ok tt) after)
       ⊎ ((before.name ≢ signed.promise.name) × (after ≡ before))
   HandsTo signed promise before (Some why) after =
-      (before.name ≡ signed.promise.name) × (why ≢ Client Memory) × Expects hash verified before signed.promise.key promise {A = Unit {0}} (Err why) after
+      (before.name ≡ signed.promise.name) × (why ≢ monitor.Client Memory) × Expects hash verified before signed.promise.key promise {A = Unit {0}} (Err why) after
 
   -- each of these monitors is given it, and what they refuse is told behind what was
   abbrev pub HandsAll : SignedPromise → List ℕ → List Monitor → Report → Report → List Monitor → Type 0
@@ -104,11 +112,6 @@ module _ (hash : List ℕ → List ℕ) (accepted verified : List ℕ → List �
   Hands asked promise before after monitors told monitors' = (told ≡ silent) × (monitors' ≡ monitors)
 
   module _ {T : Type 0} (exchanged : T → RequestContent → Frame → T → Type 0) where
-    -- the chain has a root of this epoch or a later one, or all roots that are new are taken
-    abbrev pub CatchesUp : ℕ → Scene T → Scene T → Type 0
-    CatchesUp epoch before after = (head : SignedRoot) × IsHead before.client.chain head
-        × (((epoch ≤ head.body.epoch) × (after ≡ before)) ⊎ ((head.body.epoch < epoch) × ((count : ℕ) × Follows hash verified exchanged count before after)))
-
     -- what the client makes of a frame, and what the monitors are given of it and refuse
     pub record HearsOne (held : ℕ) (asked : RequestContent) (frame : Frame) (before after : Scene T) : Type 0 where
       pub told : Report
@@ -123,39 +126,38 @@ module _ (hash : List ℕ → List ℕ) (accepted verified : List ℕ → List �
     GoesOnAbove marks epoch before after = (head : SignedRoot) × IsHead before.client.chain head
         × (((head.body.epoch ≤ epoch) × (after ≡ before)) ⊎ ((epoch < head.body.epoch) × GoesOn hash accepted exchanged marks before after))
 
-    -- The line gets a reply. Then, in this order: the chain gets as far as the reply, what the client makes of it
-    -- is told and noted, and of new epochs what monitors and promises say.
+    -- what the client makes of a frame is told and noted, and of new epochs what monitors and promises say
+    pub record HearsReply (marks : List Mark) (held : ℕ) (asked : RequestContent) (frame : Frame) (noted noted' : List SignedPromise) (before after : Scene T) : Type 0 where
+      pub heard : Scene T
+      pub hears : HearsOne held asked frame before heard
+      pub notes : Notes asked before.client.promises heard.client.promises noted noted'
+      pub goes : GoesOnAbove marks held heard after
+
+    -- the line gets a reply, the chain gets as far as that, and it is heard
     pub record AsksDirectory (marks : List Mark) (token : List ℕ) (asked : RequestContent) (noted noted' : List SignedPromise) (before after : Scene T) : Type 0 where
       pub reply : GetsReply exchanged token asked before
       pub ready : Scene T
-      pub catches : CatchesUp reply.epoch (replied reply) ready
-      pub heard : Scene T
-      pub hears : HearsOne reply.head.body.epoch asked reply.frame ready heard
-      pub notes : Notes asked ready.client.promises heard.client.promises noted noted'
-      pub goes : GoesOnAbove marks reply.head.body.epoch heard after
+      pub catches : CatchesUp hash accepted verified exchanged reply.epoch (replied reply) ready
+      pub hears : HearsReply marks reply.head.body.epoch asked reply.frame noted noted' ready after
 
-    -- The latest root is asked for. Then the chain gets as far as it, and it is told only if it is refused.
+    -- what the client makes of the latest root, which is told only if it is refused
+    pub record HearsHead (held : ℕ) (frame : Frame) (before after : Scene T) : Type 0 where
+      pub told : Report
+      pub hears : HearsFrame hash accepted verified held before.client (Query Head) frame told after.client
+      pub tells : after.told ≡ told_after before.told (unless_fine told)
+      pub same : (after.monitors ≡ before.monitors) × (after.stream ≡ before.stream)
+
+    -- the latest root is asked for, the chain gets as far as that, and it is heard
     pub record FindsHead (token : List ℕ) (before after : Scene T) : Type 0 where
       pub reply : GetsReply exchanged token (Query Head) before
       pub ready : Scene T
-      pub catches : CatchesUp reply.epoch (replied reply) ready
-      pub told : Report
-      pub hears : HearsFrame hash accepted verified reply.head.body.epoch ready.client (Query Head) reply.frame told after.client
-      pub tells : after.told ≡ told_after ready.told (unless_fine told)
-      pub same : (after.monitors ≡ ready.monitors) × (after.stream ≡ ready.stream)
-
-    -- the chain has no root of this epoch or a later one, and a frame stops the taking of roots
-    abbrev pub StopsBelow : ℕ → Scene T → Scene T → Type 0
-    StopsBelow epoch before after = (head : SignedRoot) × IsHead before.client.chain head × (head.body.epoch < epoch) × ((count : ℕ) × StopsAfter hash verified exchanged count before after)
+      pub catches : CatchesUp hash accepted verified exchanged reply.epoch (replied reply) ready
+      pub hears : HearsHead reply.head.body.epoch reply.frame ready after
 
     -- the line gets a reply, and the chain does not get as far as it
     pub record StopsAsking (token : List ℕ) (asked : RequestContent) (before after : Scene T) : Type 0 where
       pub reply : GetsReply exchanged token asked before
-      pub stops : StopsBelow reply.epoch (replied reply) after
-
-    -- the chain has no root of this epoch or a later one, and some lists of roots are taken
-    abbrev pub CatchesSome : ℕ → Scene T → Scene T → Type 0
-    CatchesSome epoch before after = (head : SignedRoot) × IsHead before.client.chain head × (head.body.epoch < epoch) × TakesSome hash verified exchanged before after
+      pub stops : StopsBelow hash accepted verified exchanged reply.epoch (replied reply) after
 
     -- what the client makes of a frame is told, and the monitors are given nothing of it yet; it is noted only where the fault is
     -- that memory ran out
@@ -165,23 +167,23 @@ module _ (hash : List ℕ → List ℕ) (accepted verified : List ℕ → List �
 
     -- the chain has epochs above this one, and monitors and promises are at some point
     abbrev pub GoesSomeAbove : List Mark → ℕ → Scene T → Scene T → Type 0
-    GoesSomeAbove marks epoch before after = (head : SignedRoot) × IsHead before.client.chain head × (epoch < head.body.epoch) × GoesSome hash accepted exchanged marks before after
+    GoesSomeAbove marks held before after = (head : SignedRoot) × IsHead before.client.chain head × (held < head.body.epoch) × GoesSome hash accepted exchanged marks before after
 
     -- a frame is heard, up to some point: it is not told yet; it is told; or monitors and promises go on
     abbrev pub HearsSome : AskFault → List Mark → ℕ → RequestContent → Frame → List SignedPromise → List SignedPromise → Scene T → Scene T → Type 0
-    HearsSome fault marks epoch asked frame noted noted' before after = ((noted' ≡ noted) × (after ≡ before)) ⊎ (HearsOnly fault epoch asked frame noted noted' before after
-        ⊎ ((heard : Scene T) × HearsOne epoch asked frame before heard × Notes asked before.client.promises heard.client.promises noted noted' × GoesSomeAbove marks epoch heard after))
+    HearsSome fault marks held asked frame noted noted' before after = ((noted' ≡ noted) × (after ≡ before)) ⊎ (HearsOnly fault held asked frame noted noted' before after
+        ⊎ ((heard : Scene T) × HearsOne held asked frame before heard × Notes asked before.client.promises heard.client.promises noted noted' × GoesSomeAbove marks held heard after))
 
     -- The line gets a reply. Then the steps of AsksDirectory, up to some point.
     pub record AsksOn (fault : AskFault) (marks : List Mark) (token : List ℕ) (asked : RequestContent) (noted noted' : List SignedPromise) (before after : Scene T) : Type 0 where
       pub reply : GetsReply exchanged token asked before
-      pub steps : ((noted' ≡ noted) × CatchesSome reply.epoch (replied reply) after)
-          ⊎ ((ready : Scene T) × CatchesUp reply.epoch (replied reply) ready × HearsSome fault marks reply.head.body.epoch asked reply.frame noted noted' ready after)
+      pub steps : ((noted' ≡ noted) × CatchesSome hash accepted verified exchanged reply.epoch (replied reply) after)
+          ⊎ ((ready : Scene T) × CatchesUp hash accepted verified exchanged reply.epoch (replied reply) ready × HearsSome fault marks reply.head.body.epoch asked reply.frame noted noted' ready after)
 
     -- no frame comes back, or the chain is on its way to the latest root, or is there
     abbrev pub FindsSome : List ℕ → Scene T → Scene T → Type 0
     FindsSome token before after = (after ≡ before)
-        ⊎ ((reply : GetsReply exchanged token (Query Head) before) × (CatchesSome reply.epoch (replied reply) after ⊎ CatchesUp reply.epoch (replied reply) after))
+        ⊎ ((reply : GetsReply exchanged token (Query Head) before) × (CatchesSome hash accepted verified exchanged reply.epoch (replied reply) after ⊎ CatchesUp hash accepted verified exchanged reply.epoch (replied reply) after))
 
     -- no frame comes back, or the steps of a line are at some point, where a fault comes
     abbrev pub AsksSome : AskFault → List Mark → List ℕ → RequestContent → List SignedPromise → List SignedPromise → Scene T → Scene T → Type 0

@@ -1,11 +1,12 @@
 -- How a run ends: whole, stopped, or with a fault.
-use Rattle.std.specs.Prelude.{◌≡◌, ◌⊎◌, ◌↔◌, ◌<◌, ◌≤◌, ℕ, List, [], ◌∷◌, ◌++◌, nat_lt, if◌then◌else◌, Option, Some, None, Result, Err, IfSome}
+use Rattle.std.specs.Prelude.{◌≡◌, ◌⊎◌, ◌↔◌, ◌<◌, ◌≤◌, ℕ, List, [], ◌∷◌, ◌++◌, nat_lt, if◌then◌else◌, Option, Some, None, Result, Ok, Err, IfSome, true}
 use Rattle.std.specs.Io.KnownBytes.{Appends, Keeps}
 use Rattle.nodehash.specs.Sha256.{sha256}
 use Rattle.vrfiface.specs.StandIns.{KeyedAccepts}
 use Rattle.sigiface.specs.StandIn.{KeyedVerifies}
 use Rattle.client.specs.Clients.{Client}
 use Rattle.rootchain.specs.declared.signed_promise.SignedPromise.{SignedPromise}
+use Rattle.textio.specs.Faults.{fault_text}
 use Rattle.textio.specs.Output.{WritesSome}
 use Rattle.textio.specs.declared.program_fault.ProgramFault.{ProgramFault}
 use Rattle.textio.specs.declared.program_fault.ProgramFault.TheVariants.{CannotWrite, OutOfMemory}
@@ -15,19 +16,20 @@ use Rattle.wire.specs.Requests.{RequestContent, Query}
 use Rattle.play.specs.Scripts.{ScriptLine, Pass, Ask, Watch, Piece, End, line_of}
 use Rattle.asking.specs.AskOptions.{AskOptions, ask_keys_of}
 use Rattle.asking.specs.declared.ask_fault.AskFault.{AskFault}
-use Rattle.asking.specs.Asking.{AsksSome, FindsSome, StopsAsking}
+use Rattle.asking.specs.Asking.{AsksSome, FindsHead, FindsSome, HearsHead, StopsAsking}
+use Rattle.asking.specs.Catching.{Advances, AdvancesSome}
 use Rattle.asking.specs.Exchanges.{ExchangesFrames}
-use Rattle.asking.specs.Following.{StopsAfter, TakesSome}
+use Rattle.asking.specs.Following.{IsBelow, StopsList}
 use Rattle.asking.specs.Joining.{own_for, BeginsSome}
 use Rattle.asking.specs.Lateness.{stale_line, HasEpoch, HasNotedAs, IsLast, IsLimitOf, IsStale}
 use Rattle.asking.specs.Marking.{IsUnlooked}
 use Rattle.asking.specs.Reports.{Report, report_of}
 use Rattle.asking.specs.RunFaults.{IsFaultOfState}
-use Rattle.asking.specs.Runs.{AsksLines, StartsRun, DoesLine, DoesLineNoting, emptied, Background, IsSoundFor, lines_asked, Prepares, RunsWhole, TakesNew, words_line, Writes, written}
+use Rattle.asking.specs.Runs.{AsksLines, StartsRun, DoesLine, DoesLineNoting, emptied, Background, IsSoundFor, lines_asked, Prepares, RunsWhole, words_line, Writes, written}
 use Rattle.asking.specs.Scenes.{Scene, StopsAtHead}
 use Rattle.asking.specs.Settling.{IsSettling, Settles, SettlesPart}
 use Rattle.asking.specs.Standing.{IsFresh}
-use Rattle.asking.specs.Visiting.{TestsSome}
+use Rattle.asking.specs.Visiting.{TestsSome, TestsAll}
 use Rattle.asking.specs.declared.ask_fault.RunFault.{RunFault}
 use Rattle.asking.specs.declared.ask_fault.RunFault.TheVariants.{Program}
 use Rattle.asking.specs.declared.connecting.Connection.{Connection}
@@ -85,6 +87,11 @@ EndsWith Failed said old new (Stale epoch) = ⊥
 abbrev pub FailsWith : Type 0 → Said → Option (List ℕ) → Option (List ℕ) → ProgramFault → Type 0
 FailsWith Failed said old new fault = (said.status < CAUGHT) × (((¬ Failed) × Appends old new said.text.items) ⊎ ((fault ≡ CannotWrite) × WritesSome old new said.text.items))
 
+-- behind this end the errors have the line of its fault, or a beginning of it; or it has no fault, and they have no more
+abbrev pub TellsFault : Result RunEnd ProgramFault → Option (List ℕ) → Option (List ℕ) → Type 0
+TellsFault (Ok end) old new = Keeps old new
+TellsFault (Err fault) old new = WritesSome old new (fault_text fault)
+
 -- where a run did not begin, 0 was noted; or the last epoch of a client with the chain of a state; or nothing, as it could not be read
 abbrev pub NotesFirst : {A : Type 0} → (List ℕ → List ℕ) → (List ℕ → List ℕ → List ℕ → Type 0) → (List ℕ → List ℕ → List ℕ → Type 0) → List ℕ → Type 0 → Result A RunFault → Limit → Limit → ℕ → Type 0
 NotesFirst hash accepted verified key HasNoState result before after status = (after.last ≡ Some 0)
@@ -93,17 +100,22 @@ NotesFirst hash accepted verified key HasNoState result before after status = (a
 
 module _ (hash : List ℕ → List ℕ) (accepted verified : List ℕ → List ℕ → List ℕ → Type 0) {T : Type 0} (exchanged : T → RequestContent → Frame → T → Type 0) where
   module _ (background : Background) where
-    -- some of the new roots are taken, or a frame stops it
-    abbrev pub TakesSomeNew : Type 0 → Scene T → Scene T → Type 0
-    TakesSomeNew HasNoState before reached =
-        (HasNoState × (TakesSome hash verified exchanged before reached ⊎ ((count : ℕ) × StopsAfter hash verified exchanged count before reached)))
-        ⊎ ((¬ HasNoState) × (FindsSome hash accepted verified exchanged background.token before reached ⊎ StopsAsking hash accepted verified exchanged background.token (Query Head) before reached))
+    -- a list is taken on the way to an epoch, and what is done behind it; wholly, or up to some point, or up to a frame that stops it
+    abbrev pub AdvancesPart : ℕ → Scene T → Scene T → Type 0
+    AdvancesPart epoch before reached = IsBelow epoch before.client × (Advances hash accepted verified exchanged epoch before true reached
+        ⊎ (StopsList hash verified exchanged before reached ⊎ AdvancesSome hash accepted verified exchanged epoch before reached))
 
-    -- what is new is taken and tested, wholly or up to some point, or up to a frame that stops it
+    -- the latest root is heard, and then promises are tested; not yet, or wholly or up to some point
+    abbrev pub LooksSome : ℕ → Frame → Scene T → Scene T → Type 0
+    LooksSome held frame before reached = (reached ≡ before) ⊎ ((middle : Scene T) × HearsHead hash accepted verified exchanged held frame before middle
+        × (TestsAll hash accepted exchanged background.marks middle reached ⊎ TestsSome hash accepted exchanged background.marks middle reached))
+
+    -- what is new is taken and tested, wholly or up to some point, or up to where it stops
     abbrev pub PreparesSome : Type 0 → Scene T → Scene T → Type 0
     PreparesSome HasNoState before reached = Prepares hash accepted verified exchanged background HasNoState before reached
-        ⊎ (TakesSomeNew HasNoState before reached
-        ⊎ ((middle : Scene T) × TakesNew hash accepted verified exchanged background HasNoState before middle × TestsSome hash accepted exchanged background.marks middle reached))
+        ⊎ ((¬ HasNoState) × (FindsSome hash accepted verified exchanged background.token before reached
+        ⊎ (StopsAsking hash accepted verified exchanged background.token (Query Head) before reached
+        ⊎ ((middle : Scene T) × FindsHead hash accepted verified exchanged background.token before middle × TestsSome hash accepted exchanged background.marks middle reached))))
 
     -- what a line says is asked up to some point, or up to a frame that stops it
     abbrev pub DoesPart : ScriptLine → Scene T → Scene T → Type 0

@@ -1,5 +1,5 @@
--- How all take the roots that are new.
-use Rattle.std.specs.Prelude.{◌≡◌, ◌≢◌, ◌⊎◌, ℕ, zero, suc, ◌+◌, ◌-◌, ◌<◌, ◌≤◌, ◌^◌, Bool, true, false, List, [], ◌∷◌, Ok, Err, codes}
+-- How all take a list of the roots that are new.
+use Rattle.std.specs.Prelude.{◌≡◌, ◌≢◌, ◌⊎◌, ℕ, ◌+◌, ◌-◌, ◌<◌, ◌≤◌, ◌^◌, Bool, true, false, List, [], ◌∷◌, Ok, Err, codes}
 use Rattle.std.specs.List.{AllZip}
 use Rattle.commands.specs.Operations.{History}
 use Rattle.rootchain.specs.Chains.{IsHead}
@@ -32,6 +32,13 @@ IsAbove before after = (head : SignedRoot) × (latest : SignedRoot) × IsHead be
 -- it is of no later epoch
 abbrev pub IsNotAbove : Client → Client → Type 0
 IsNotAbove before after = (head : SignedRoot) × (latest : SignedRoot) × IsHead before.chain head × IsHead after.chain latest × (latest.body.epoch ≤ head.body.epoch)
+
+-- the head is not below an epoch; it is
+abbrev pub HasGotTo : ℕ → Client → Type 0
+HasGotTo epoch client = (head : SignedRoot) × IsHead client.chain head × (epoch ≤ head.body.epoch)
+
+abbrev pub IsBelow : ℕ → Client → Type 0
+IsBelow epoch client = (head : SignedRoot) × IsHead client.chain head × (head.body.epoch < epoch)
 
 -- the bytes of a list of no root
 abbrev pub no_roots : List ℕ
@@ -90,25 +97,7 @@ module _ (hash : List ℕ → List ℕ) (verified : List ℕ → List ℕ → Li
     TakesList before true after = (frame : Frame) × AsksRoots before frame after.stream
         × AllUpdate frame.body before.client before.monitors after.client after.monitors × (after.told ≡ before.told) × IsAbove before.client after.client
 
-    -- so many lists are taken, and then no more are
-    abbrev pub Follows : ℕ → Scene T → Scene T → Type 0
-    Follows zero before after = TakesList before false after
-    Follows (suc count) before after = (middle : Scene T) × TakesList before true middle × Follows count middle after
-
-    -- so many lists are taken, and more may come; some lists
-    abbrev pub TakesLists : ℕ → Scene T → Scene T → Type 0
-    TakesLists zero before after = after ≡ before
-    TakesLists (suc count) before after = (middle : Scene T) × TakesList before true middle × TakesLists count middle after
-
-    abbrev pub TakesSome : Scene T → Scene T → Type 0
-    TakesSome before after = (count : ℕ) × TakesLists count before after
-
     -- the roots above the head are asked for, and a frame comes that stops it, which is told behind what was
     abbrev pub StopsList : Scene T → Scene T → Type 0
     StopsList before after = (head : SignedRoot) × IsHead before.client.chain head × (frame : Frame) × exchanged before.stream (asks_roots head) frame after.stream
         × (told : Report) × StopsFollowing (asks_roots head) before.client before.monitors frame told after.client after.monitors × (after.told ≡ told_after before.told told)
-
-    -- so many lists are taken, and then a frame stops it
-    abbrev pub StopsAfter : ℕ → Scene T → Scene T → Type 0
-    StopsAfter zero before after = StopsList before after
-    StopsAfter (suc count) before after = (middle : Scene T) × TakesList before true middle × StopsAfter count middle after

@@ -27,7 +27,7 @@ use Rattle.asking.specs.Refused.{client_refuses}
 use Rattle.asking.specs.Scenes.{Scene}
 use Rattle.asking.specs.Recalled.{TellsAlarms}
 use Rattle.asking.specs.Reports.{Report, fine, told_after}
-use Rattle.asking.specs.Visiting.{TestsAll, TestsSome}
+use Rattle.asking.specs.Visiting.{TestsNamed, TestsSomeNamed}
 use Rattle.asking.specs.Watching.{StepsSome, StepsThrough}
 use Rattle.asking.specs.declared.joining.ToWatch.{ToWatch}
 use Rattle.asking.specs.declared.joining.ToWatch.TheVariants.{FromRoot, Nothing}
@@ -130,13 +130,13 @@ module _ (hash : List ℕ → List ℕ) (accepted verified : List ℕ → List �
         ⊎ ((why : Refusal) × (why ≢ Memory) × StartsFrom hash verified before.client.chain key first (Err why)
         × (after ≡ record before { told = told_after before.told (client_refuses (codes "client refuses root") why) }))
 
-    -- a name is watched from the first root on that is to be watched, and then each promise is tested that is
+    -- a name is watched from the first root on that is to be watched, and then its promises are tested that are
     -- due; where there is no such root, nothing is asked, and it is told up to which epoch the name was watched
     abbrev pub WatchesNew : Scene T → Scene T → Type 0
     WatchesNew before after =
         (IsUnwatched before.client.chain name marks None × ((epoch : ℕ) × IsMarkedUpTo name epoch marks × (after ≡ record before { told = told_after before.told (watched_told name epoch) })))
         ⊎ ((first : SignedRoot) × IsUnwatched before.client.chain name marks (Some first)
-        × ((middle : Scene T) × BeginsAt first before middle × TestsAll hash accepted exchanged marks middle after))
+        × ((middle : Scene T) × BeginsAt first before middle × TestsNamed hash accepted exchanged marks name middle after))
 
     -- nothing is told of such a monitor yet; or it is added, and watches some epochs
     abbrev pub BeginsSomeAt : SignedRoot → Scene T → Scene T → Type 0
@@ -145,11 +145,11 @@ module _ (hash : List ℕ → List ℕ) (accepted verified : List ℕ → List �
         × StepsSome hash accepted exchanged (record before { monitors = before.monitors ++ monitor ∷ [] }) (length before.monitors) after)
 
     -- nothing is told of a name yet; or it is watched from such a root on, up to some point; or it is watched, and then some
-    -- promises are tested
+    -- of its promises are tested
     abbrev pub WatchesSome : Scene T → Scene T → Type 0
     WatchesSome before after = (after ≡ before)
         ⊎ ((first : SignedRoot) × IsUnwatched before.client.chain name marks (Some first)
-        × (BeginsSomeAt first before after ⊎ ((middle : Scene T) × BeginsAt first before middle × TestsSome hash accepted exchanged marks middle after)))
+        × (BeginsSomeAt first before after ⊎ ((middle : Scene T) × BeginsAt first before middle × TestsSomeNamed hash accepted exchanged name middle after)))
 
   module _ {T : Type 0} (exchanged : T → RequestContent → Frame → T → Type 0) (known : Remembered) (marks : List Mark) (key : List ℕ) (promised : List SignedPromise) (name : List ℕ) (given : Option (List ℕ)) where
     -- the alarms that earlier runs told of a name are told again, and then it is watched

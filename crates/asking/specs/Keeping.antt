@@ -1,5 +1,5 @@
 -- What a run adds to what is remembered.
-use Rattle.std.specs.Prelude.{◌≡◌, ◌≢◌, ◌⊎◌, ℕ, true, false, List, [], ◌++◌, drop, length, map, Option, None, Some, Result, Ok, Err, ⊤}
+use Rattle.std.specs.Prelude.{◌≡◌, ◌≢◌, ◌⊎◌, ◌↔◌, ◌||◌, ℕ, Bool, true, false, if◌then◌else◌, List, [], ◌++◌, drop, length, map, Option, None, Some, Result, Ok, Err, ⊤}
 use Rattle.textio.specs.Lines.{lines_of}
 use Rattle.rootchain.specs.Chains.{IsHead, KeyedRoots}
 use Rattle.rootchain.specs.declared.signed_promise.SignedPromise.{SignedPromise}
@@ -32,10 +32,14 @@ abbrev pub LearnsBefore : List SignedPromise → List SignedPromise → List ℕ
 LearnsBefore own kept told begun before after = (shown : List Item) × (promised : List Item) × (marked : List Item) × (one : Memory) × (two : Memory)
     × Each (LearnsLine EvidenceLines) (lines_of told) before shown one × LearnsPromises own kept one promised two × Each BeginsOne begun two marked after
 
--- the monitors whose marks may move: all of them if the head is another one, or else those that are new
-abbrev pub MayMove : KeyedRoots → ℕ → ℕ → List Monitor → List Monitor → Type 0
-MayMove chain head known monitors some = (root : SignedRoot) × IsHead chain root
-    × (((root.body.epoch ≡ head) × (some ≡ drop known monitors)) ⊎ ((root.body.epoch ≢ head) × (some ≡ monitors)))
+-- whether the head is another one than that of this epoch
+abbrev pub IsNewHead : KeyedRoots → ℕ → Bool → Type 0
+IsNewHead chain epoch is_new = (root : SignedRoot) × IsHead chain root × ((is_new ≡ true) ↔ (root.body.epoch ≢ epoch))
+
+-- the monitors whose marks may move: all of them if the head is another one, or was when it was last looked; or else those
+-- that are new
+abbrev pub MayMove : KeyedRoots → ℕ → Bool → ℕ → List Monitor → List Monitor → Type 0
+MayMove chain head was_new known monitors some = (is_new : Bool) × IsNewHead chain head is_new × (some ≡ drop (if is_new || was_new then 0 else known) monitors)
 
 -- once it is told: the alarms in it, and how far names were watched
 abbrev pub LearnsAfter : List ℕ → List Monitor → List Monitor → Memory → Memory → Type 0
@@ -55,14 +59,14 @@ abbrev pub AddsTo : {H V S : Type 0} → Asker H V S → List ℕ → Option Sta
 AddsTo asker told None after = after ≡ None
 AddsTo asker told (Some before) after = (kept : State) × (after ≡ Some kept)
     × LearnsBefore (drop before.changes asker.changes.items) asker.client.promises told (drop before.monitors asker.monitors.items) before.memory kept.memory
-    × (kept.head ≡ before.head) × (kept.monitors ≡ before.monitors) × (kept.changes ≡ length asker.changes.items)
+    × (kept.head ≡ before.head) × (kept.monitors ≡ before.monitors) × (kept.was_new ≡ before.was_new) × (kept.changes ≡ length asker.changes.items)
 
 -- what it learns once it is told, and how far it looked
 abbrev pub SavesTo : {H V S : Type 0} → Asker H V S → List ℕ → Option State → Option State → Type 0
 SavesTo asker told None after = after ≡ None
 SavesTo asker told (Some before) after = (kept : State) × (after ≡ Some kept)
-    × ((some : List Monitor) × MayMove asker.client.chain before.head before.monitors asker.monitors.items some × LearnsAfter told asker.monitors.items some before.memory kept.memory)
-    × IsHeadEpoch asker.client.chain kept.head × (kept.monitors ≡ length asker.monitors.items) × (kept.changes ≡ before.changes)
+    × ((some : List Monitor) × MayMove asker.client.chain before.head before.was_new before.monitors asker.monitors.items some × LearnsAfter told asker.monitors.items some before.memory kept.memory)
+    × IsHeadEpoch asker.client.chain kept.head × IsNewHead asker.client.chain before.head kept.was_new × (kept.monitors ≡ length asker.monitors.items) × (kept.changes ≡ before.changes)
 
 -- both
 abbrev pub KeepsUp : {H V S : Type 0} → Asker H V S → List ℕ → Option State → Option State → Type 0

@@ -1,11 +1,12 @@
 -- The last epoch of what the words are about, and whether it is as late as an order wants it.
-use Rattle.std.specs.Prelude.{◌≡◌, ◌≢◌, ◌⊎◌, ℕ, ◌<◌, ◌≤◌, List, [], ◌∷◌, ◌++◌, Option, Some, None, IfSome, codes, decimal}
+use Rattle.std.specs.Prelude.{◌≡◌, ◌≢◌, ◌⊎◌, ℕ, ◌<◌, ◌≤◌, nat_lt, if◌then◌else◌, List, [], ◌∷◌, ◌++◌, Option, Some, None, IfSome, codes, decimal}
 use Rattle.commands.specs.Operations.{Head}
 use Rattle.wire.specs.Requests.{Query}
 use Rattle.play.specs.Scripts.{ScriptLine, Ask, Watch, line_of}
 use Rattle.rootchain.specs.Chains.{IsHead}
 use Rattle.rootchain.specs.declared.signed_root.SignedRoot.{SignedRoot}
 use Rattle.client.specs.Clients.{Client}
+use Rattle.memory.specs.Learning.{BeginsBehind}
 use Rattle.memory.specs.Watching.{WatchedUpTo}
 use Rattle.memory.specs.declared.mark.Mark.{Mark}
 use Rattle.monitor.specs.Monitors.{Monitor}
@@ -37,11 +38,26 @@ abbrev pub IsMarkedTo : List ℕ → ℕ → List Mark → Type 0
 IsMarkedTo name epoch [] = epoch ≡ 0
 IsMarkedTo name epoch (mark ∷ more) = ((mark.name ≡ name) × (mark.epoch ≡ epoch)) ⊎ ((mark.name ≢ name) × IsMarkedTo name epoch more)
 
--- The last epoch, where earlier runs left these marks: of a name the one up to which its monitors have watched, or where it
--- has none that of its mark; or the head's.
+-- a name was watched up to this epoch: by its monitors, or where it has none as its mark says
+abbrev pub IsWatchedTo : List Mark → List Monitor → List ℕ → ℕ → Type 0
+IsWatchedTo marks monitors name epoch = WatchedUpTo monitors name (Some epoch) ⊎ (WatchedUpTo monitors name None × IsMarkedTo name epoch marks)
+
+-- behind this epoch the watching of a name began: the first mark of it says so, or where it has none its first monitor; it has
+-- neither, and this is 0
+abbrev pub BeganBehind : List Mark → List Monitor → List ℕ → ℕ → Type 0
+BeganBehind (mark ∷ more) monitors name epoch = ((mark.name ≡ name) × (epoch ≡ mark.since)) ⊎ ((mark.name ≢ name) × BeganBehind more monitors name epoch)
+BeganBehind [] (monitor ∷ more) name epoch = ((monitor.name ≡ name) × BeginsBehind monitor epoch) ⊎ ((monitor.name ≢ name) × BeganBehind [] more name epoch)
+BeganBehind [] [] name epoch = epoch ≡ 0
+
+-- an epoch counts above the one behind which the watching began; where none does, the last is 0
+abbrev pub last_above : ℕ → ℕ → ℕ
+last_above since epoch = if nat_lt since epoch then epoch else 0
+
+-- The last epoch, where earlier runs left these marks: the one up to which a name was watched, if it counts; or the head's.
 abbrev pub IsLast : List Mark → Client → List Monitor → Subject → ℕ → Type 0
-IsLast marks client monitors (subject.Name name) epoch = WatchedUpTo monitors name (Some epoch) ⊎ (WatchedUpTo monitors name None × IsMarkedTo name epoch marks)
-IsLast marks client monitors subject.Head epoch = (head : SignedRoot) × IsHead client.chain head × (epoch ≡ head.body.epoch)
+IsLast marks client monitors (subject.Name name) last =
+    (since : ℕ) × (epoch : ℕ) × BeganBehind marks monitors name since × IsWatchedTo marks monitors name epoch × (last ≡ last_above since epoch)
+IsLast marks client monitors subject.Head last = (head : SignedRoot) × IsHead client.chain head × (last ≡ head.body.epoch)
 
 -- the limit has noted such an epoch of what it is about
 abbrev pub HasNotedAs : (Subject → ℕ → Type 0) → Limit → Type 0

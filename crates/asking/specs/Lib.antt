@@ -2,6 +2,7 @@ pub mod Askers
 pub mod Answering
 pub mod Asking
 pub mod AskOptions
+pub mod Catching
 pub mod Checking
 pub mod Ending
 pub mod Exchanges

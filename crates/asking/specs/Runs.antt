@@ -1,5 +1,5 @@
 -- What a run writes: all that is told of each line that it asks, one after another.
-use Rattle.std.specs.Prelude.{◌≡◌, ◌⊎◌, ℕ, List, [], ◌∷◌, ◌++◌, Contains, Option, Some, None, IfSome, option_map}
+use Rattle.std.specs.Prelude.{◌≡◌, ◌⊎◌, ℕ, zero, suc, ◌<◌, Bool, true, false, List, [], ◌∷◌, ◌++◌, Contains, Option, Some, None, IfSome, option_map}
 use Rattle.std.specs.List.{AllByRecursion}
 use Rattle.std.specs.Io.KnownBytes.{Appends}
 use Rattle.rootchain.specs.Chains.{IsChain}
@@ -12,13 +12,14 @@ use Rattle.wire.specs.Requests.{RequestContent}
 use Rattle.play.specs.Scripts.{ScriptLine, Pass, Ask, Watch, Piece, End, line_of}
 use Rattle.asking.specs.AskOptions.{AskOptions}
 use Rattle.asking.specs.Asking.{AsksDirectory, FindsHead}
-use Rattle.asking.specs.Following.{Follows}
+use Rattle.asking.specs.Catching.{Advances}
 use Rattle.asking.specs.Joining.{own_for, BeginsWatch}
 use Rattle.asking.specs.Recalled.{evidence_again}
 use Rattle.asking.specs.Reports.{Report}
 use Rattle.asking.specs.Scenes.{Scene, StartsAtHead}
 use Rattle.asking.specs.Visiting.{TestsAll}
 use Rattle.asking.specs.declared.asker.Asker.{Asker}
+use Rattle.asking.specs.declared.following.TheConstants.{MAX_LISTS}
 use Rattle.memory.specs.declared.mark.Mark.{Mark}
 
 -- the background of a run, which stays throughout it: the provider's key, the token, what is remembered of earlier
@@ -90,14 +91,25 @@ IsSoundFor hash accepted verified key client = (client.chain.key ≡ key) × IsC
 
 module _ (hash : List ℕ → List ℕ) (accepted verified : List ℕ → List ℕ → List ℕ → Type 0) {T : Type 0} (exchanged : T → RequestContent → Frame → T → Type 0) where
   module _ (background : Background) where
-    -- the new roots are taken; where there is a state, those up to the latest root, which is placed in the chain
-    abbrev pub TakesNew : Type 0 → Scene T → Scene T → Type 0
-    TakesNew HasNoState before after =
-        (HasNoState × (count : ℕ) × Follows hash verified exchanged count before after) ⊎ ((¬ HasNoState) × FindsHead hash accepted verified exchanged background.token before after)
+    -- Whether one more list is needed on the way to an epoch. If it is, what was told by then is written.
+    abbrev pub AdvancesOnce : ℕ → Scene T → Option (List ℕ) → Bool → Option (List ℕ) → Scene T → Type 0
+    AdvancesOnce epoch before old true new after = Writes (λ from to. Advances hash accepted verified exchanged epoch from true to) before old new after
+    AdvancesOnce epoch before old false new after = Advances hash accepted verified exchanged epoch before false after × (new ≡ old)
 
-    -- the new roots are taken, and each promise is tested that is due and does not wait
+    -- so many lists are taken, and what is told of each is written before the next one is asked for
+    abbrev pub AdvancesLists : ℕ → ℕ → Scene T → Option (List ℕ) → Option (List ℕ) → Scene T → Type 0
+    AdvancesLists epoch zero before old new after = (new ≡ old) × (after ≡ before)
+    AdvancesLists epoch (suc count) before old new after = (middle : Scene T) × (now : Option (List ℕ)) × AdvancesOnce epoch before old true now middle × AdvancesLists epoch count middle now new after
+
+    -- no more are needed after some of them; there are at most 1,024 lists
+    abbrev pub CatchesUpBy : ℕ → Scene T → Option (List ℕ) → Option (List ℕ) → Scene T → Type 0
+    CatchesUpBy epoch before old new after = (count : ℕ) × (count < MAX_LISTS) × ((here : Scene T) × (now : Option (List ℕ)) × AdvancesLists epoch count before old now here × AdvancesOnce epoch here now false new after)
+
+    -- Where there is a state, the roots up to the latest one are taken, which is placed in the chain, and each promise is
+    -- tested that is due and does not wait. Without one the chain begins at the latest root.
     abbrev pub Prepares : Type 0 → Scene T → Scene T → Type 0
-    Prepares HasNoState before after = (middle : Scene T) × TakesNew HasNoState before middle × TestsAll hash accepted exchanged background.marks middle after
+    Prepares HasNoState before after = (HasNoState × (after ≡ before))
+        ⊎ ((¬ HasNoState) × ((middle : Scene T) × FindsHead hash accepted verified exchanged background.token before middle × TestsAll hash accepted exchanged background.marks middle after))
 
     -- what a line says is asked; one that says something to a session asks nothing of a directory
     abbrev pub DoesLine : ScriptLine → Scene T → Scene T → Type 0

@@ -125,9 +125,13 @@ IsHeadEpoch chain epoch = (head : SignedRoot) × IsHead chain head × (epoch ≡
 abbrev pub HasOneOfEachName : Memory → Type 0
 HasOneOfEachName memory = HasNoRepeat (map name_of memory.marks)
 
--- a mark of the same name, of which the watching begins no later
-abbrev pub HasMark : List Mark → Mark → Type 0
-HasMark marks old = (mark : Mark) × Contains marks mark × (mark.name ≡ old.name) × (mark.since ≤ old.since)
+-- each of these roots up to which the first mark is, the second is too
+abbrev pub IsAsFar : List SignedRoot → Mark → Mark → Type 0
+IsAsFar roots old mark = (root : SignedRoot) → Contains roots root → root.body.epoch ≤ old.epoch → root.body.epoch ≤ mark.epoch
+
+-- a mark of the same name, of which the watching begins no later, and that is as far over these roots
+abbrev pub HasMark : List SignedRoot → List Mark → Mark → Type 0
+HasMark roots marks old = (mark : Mark) × Contains marks mark × (mark.name ≡ old.name) × (mark.since ≤ old.since) × IsAsFar roots old mark
 
 -- the root is an old one, whose epoch was watched for the name before
 abbrev pub WasStored : Found → List ℕ → SignedRoot → Type 0
@@ -136,15 +140,17 @@ WasStored before name root = Contains before.roots root
 
 module _ (hash : List ℕ → List ℕ) (accepted : List ℕ → List ℕ → List ℕ → Type 0) (Given : List ℕ → Option (List ℕ) → Type 0) (Own Asked : SignedPromise → Type 0) where
   -- What is found where something else was before a run, and this text was written in it: roots are only added, and no mark
-  -- that was there is lost; of each root above the begin of a mark, up to the mark, it was told, or the root's epoch had been
-  -- watched before. What counts there are the promises for changes of the owner's own that were remembered or are now, and that
-  -- a mark of before awaited. Each of them is an old one, or was asked for.
+  -- that was there is lost, or goes back over a root (one between two roots may go to the lower of them); of each root above the
+  -- begin of a mark, up to the mark, it was told, or the root's epoch had been watched before. What counts there are the promises
+  -- for changes of the owner's own that were remembered or are now, and that a mark of before awaited. Each of them is an old one,
+  -- or was asked for; and each old one that a mark awaits is still there.
   pub record KeepsTold (before : Found) (text : List ℕ) (after : Found) : Type 0 where
     pub grows : (more : List SignedRoot) × (after.roots ≡ before.roots ++ more)
-    pub stays : (old : Mark) → Contains before.known.marks old → HasMark after.known.marks old
+    pub stays : (old : Mark) → Contains before.known.marks old → HasMark before.roots after.known.marks old
     pub told : (mark : Mark) → Contains after.known.marks mark → (root : SignedRoot) → Contains after.roots root → mark.since < root.body.epoch → root.body.epoch ≤ mark.epoch
         → TellsEpoch Given (IsOwnAhead Own before.known) (Counts (with_promises before.known after.known.promises)) hash accepted text mark.name root ⊎ WasStored before mark.name root
     pub own : (signed : SignedPromise) → WasOwn after.known signed → WasOwn before.known signed ⊎ Asked signed
+    pub awaits : (signed : SignedPromise) → WasOwn before.known signed → Any (IsAwaited signed) after.known.marks → WasOwn after.known signed
 
   -- the text that is stored spells a memory, with which it is so
   abbrev pub SpellsTold : Found → List ℕ → Stored → Type 0

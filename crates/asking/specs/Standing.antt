@@ -60,8 +60,8 @@ standing client monitors lines = record { client = client; monitors = monitors; 
 
 module _ (hash : List ℕ → List ℕ) (accepted verified : List ℕ → List ℕ → List ℕ → Type 0) (lines : Option (List (List ℕ))) (key : List ℕ) (start : Found) (old : List ℕ) where
   -- What was kept in a run, and what is to be kept next, was told before. The output had one text before the run, which began
-  -- with what was found. The text that is stored spells what was saved of the memory: all of it but these items. Roots that
-  -- are added next are above this epoch.
+  -- with what was found. The text that is stored spells what was saved of the memory: all of it but these items. It has
+  -- all promises for changes of the owner's own that were there. Roots that are added next are above this epoch.
   pub record IsKept (Happened : List Act → Type 0) (epoch : ℕ) (known : Memory) (unsaved : List Item) (out : Option (List ℕ)) : Type 0 where
     pub acts : List Act
     pub happened : Happened acts
@@ -69,6 +69,7 @@ module _ (hash : List ℕ → List ℕ) (accepted verified : List ℕ → List �
     pub is-out : out ≡ Some (old ++ text)
     pub all : AllKeepTold hash accepted (IsAsked lines) (IsOwnPromise verified key lines start.known) (IsAskedChange lines) start old acts
     pub saved : Memory
+    pub had : (signed : SignedPromise) → WasOwn start.known signed → WasOwn saved signed
     pub whole : HasWholeLines (stored_after acts).text
     pub spells : Spells (stored_after acts).text (Ok saved)
     pub ahead : TakesAll unsaved saved known

@@ -1,9 +1,10 @@
 -- Runs over the files of one state, one after another, the latest first.
-use Rattle.std.specs.Prelude.{◌≡◌, ◌≢◌, ◌⊎◌, ℕ, List, [], ◌∷◌, ◌++◌, Option, Some, Ok, ⊤}
+use Rattle.std.specs.Prelude.{◌≡◌, ◌≢◌, ◌⊎◌, ℕ, List, [], ◌∷◌, ◌++◌, Any, Option, Some, Ok, ⊤}
 use Rattle.rootchain.specs.declared.signed_promise.SignedPromise.{SignedPromise}
 use Rattle.rootchain.specs.declared.signed_root.SignedRoot.{SignedRoot}
 use Rattle.memory.specs.Memories.{Memory}
 use Rattle.memory.specs.Texts.{Spells}
+use Rattle.memory.specs.Watching.{IsAwaited}
 use Rattle.asking.specs.Saves.{found_in, stored_after, Act, AddsLines, AddsRoots, AllKeepTold, Counts, Found, IsOwnAhead, Loads, Stored, WasOwn, WasStored, with_promises, Writes}
 use Rattle.asking.specs.Told.{TellsEpoch}
 
@@ -59,6 +60,10 @@ module _ (hash : List ℕ → List ℕ) (accepted : List ℕ → List ℕ → Li
     AllRun first [] = ⊤
     AllRun first (run ∷ earlier) = FirstLoads run.acts (left_by first earlier) × ((start : Found) × AllKeepTold hash accepted (Given run.asked) (Own run.asked start.known) (Asked run.asked) start run.old run.acts)
         × AreFirst run.acts run.left × AreAdded (left_by first earlier).roots run.roots (stored_after run.left).roots × AllRun first earlier
+
+-- what the run left has a mark that awaits the promise
+abbrev pub LeavesAwaited : {X : Type 0} → SignedPromise → StateRun X → Type 0
+LeavesAwaited signed run = (known : Memory) × Spells (stored_after run.left).text (Ok known) × Any (IsAwaited signed) known.marks
 
 -- the change that is promised was asked for in one of the runs, or was remembered as the owner's own before all of them
 module _ {X : Type 0} (Asked : X → SignedPromise → Type 0) where

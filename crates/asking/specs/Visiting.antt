@@ -1,5 +1,5 @@
 -- How the promises that are kept are tested, one place of their list after another.
-use Rattle.std.specs.Prelude.{◌≡◌, ◌⊎◌, ℕ, zero, suc, Bool, false, if◌then◌else◌, List, Option, Some, None, Result, Contains, slice_get}
+use Rattle.std.specs.Prelude.{◌≡◌, ◌⊎◌, ℕ, zero, suc, Bool, true, false, if◌then◌else◌, List, Option, Some, None, Result, Contains, slice_get}
 use Rattle.commands.specs.Operations.{Lookup}
 use Rattle.rootchain.specs.declared.signed_promise.SignedPromise.{SignedPromise}
 use Rattle.client.specs.Clients.{Client}
@@ -75,3 +75,21 @@ module _ (hash : List ℕ → List ℕ) (accepted : List ℕ → List ℕ → Li
 
     abbrev pub TestsSome : List Mark → Scene T → Scene T → Type 0
     TestsSome marks before after = (count : ℕ) × VisitsOn marks count before 0 after
+
+    -- so many promises for a name are found kept, one after another, and then none is
+    abbrev pub FindsKept : ℕ → Scene T → List ℕ → Scene T → Type 0
+    FindsKept zero before name after = TestsName before name false after
+    FindsKept (suc count) before name after = (middle : Scene T) × TestsName before name true middle × FindsKept count middle name after
+
+    -- the promises for a name that are due are tested, if they do not wait, up to one that is not found kept
+    abbrev pub TestsNamed : List Mark → List ℕ → Scene T → Scene T → Type 0
+    TestsNamed marks name before after = (AwaitsMonitor marks before.monitors name × (after ≡ before))
+        ⊎ ((¬ AwaitsMonitor marks before.monitors name) × ((count : ℕ) × FindsKept count before name after))
+
+    -- so many are found kept, and more may come; some of them
+    abbrev pub KeptOn : ℕ → Scene T → List ℕ → Scene T → Type 0
+    KeptOn zero before name after = after ≡ before
+    KeptOn (suc count) before name after = (middle : Scene T) × TestsName before name true middle × KeptOn count middle name after
+
+    abbrev pub TestsSomeNamed : List ℕ → Scene T → Scene T → Type 0
+    TestsSomeNamed name before after = (count : ℕ) × KeptOn count before name after

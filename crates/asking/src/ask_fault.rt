@@ -10,9 +10,9 @@ pub enum AskFault {
     /// The stream ended, failed or was silent before a reply was whole.
     #[error("no reply")]
     NoReply,
-    /// The roots that the client has to take do not come: the reply is no answer, a root is refused, or no root is
-    /// new. This is told.
-    #[error("the roots do not come")]
+    /// The chain does not get as far as a reply: new roots do not come or are refused, which is told, or they are more than
+    /// so many lists have.
+    #[error("the chain does not get as far as the reply")]
     Stopped,
     #[error("{}", ProgramFault::OutOfMemory)]
     OutOfMemory,

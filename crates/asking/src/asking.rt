@@ -6,19 +6,19 @@ ghost use Rattle.wire.specs.FrameViews.{frame_seen};
 ghost use Rattle.wire.specs.Requests.{Query};
 ghost use Rattle.wire.specs.Responses.{response_seen};
 ghost use Rattle.play.specs.Scripts.{ask_seen, with_token};
-ghost use Rattle.asking.specs.Askers.{asker_changes, asker_marks, asker_token};
-ghost use Rattle.asking.specs.Asking.{response_epoch, AsksDirectory, AsksSome, CatchesSome, CatchesUp, FindsHead, FindsSome, GoesOnAbove, GoesSomeAbove, Hands, IsChange, Notes, SpeaksOf, StopsAsking, StopsBelow};
+ghost use Rattle.asking.specs.Askers.{asker_changes, asker_client, asker_marks, asker_monitors, asker_token};
+ghost use Rattle.asking.specs.Asking.{response_epoch, GoesOnAbove, GoesSomeAbove, Hands, HearsReply, HearsSome, IsChange, Notes, Sends, SpeaksOf};
 ghost use Rattle.asking.specs.Checking.{HearsFrame};
 ghost use Rattle.asking.specs.Exchanges.{ExchangesFrames, HoldsFrame, IsOneFrame};
 ghost use Rattle.asking.specs.Scenes.{scene, HaltsAfter, Remains, StaysWhole};
 ghost use Rattle.asking.specs.Reports.{report_of, told_after, unless_fine, Report};
-ghost use Rattle.asking.specs.declared.ask_fault.AskFault.TheVariants.{Stopped};
+ghost use Rattle.asking.specs.declared.ask_fault.AskFault.TheVariants.{OutOfMemory, Stopped};
 
 use crate::answering::answers_at;
 use crate::checking::hear;
 use crate::exchange::{exchange, frame_in};
 use crate::wanted::last_epoch;
-use crate::{AskFault, Asker, Said};
+use crate::{AskFault, Asker, Reply, Said};
 use nodehash::NodeHash;
 use play::Ask;
 use sigiface::Verifier;
@@ -75,52 +75,61 @@ where
     V: VufCheck + Drop,
     S: Verifier + Drop,
 {
-    /// Asks what a line asks, and tells what the client makes of the reply. If there are new epochs, the
-    /// monitors then watch them, and the promises that are due are tested.
+    /// Asks what a line asks, and returns what comes back.
     ///
     /// # Errors
     ///
-    /// `NoReply`; `Stopped` if the roots up to the reply are not taken; `OutOfMemory`.
-    pub fn ask<T: Read + Write>(
+    /// `NoReply`; `OutOfMemory`.
+    pub fn send<T: Read + Write>(&self, stream: &mut T, ask: &Ask) -> Result<Reply, AskFault>
+        ensures sends { IfOk result (λ reply. Sends (ExchangesFrames T.contents T.remaining) (asker_token self.now) (ask_seen ask.now) (asker_client self.now) stream.old reply stream.new) }
+        ensures err { IfErr result (λ fault. fault ≢ Stopped) }
+    {
+        let held = self.head();
+        let bytes = self.request(stream, ask)?;
+        let epoch = epoch_of(held, ask, &frame_in(&bytes)?);
+        Ok(Reply { bytes, held, epoch })
+    }
+
+    /// Tells what the client makes of a reply to what was asked, whose epoch the chain has to have. If there are new epochs,
+    /// the monitors then watch them, and the promises that are due are tested.
+    ///
+    /// # Errors
+    ///
+    /// `NoReply`; `OutOfMemory`.
+    pub fn hear<T: Read + Write>(
         &mut self,
         stream: &mut T,
         ask: &Ask,
+        reply: &Reply,
         said: &mut Said,
     ) -> Result<(), AskFault>
-        ensures asks { OnOk result (AsksDirectory H.digest_of V.accepted S.verified (ExchangesFrames T.contents T.remaining) (asker_marks self.old) (asker_token self.old) (ask_seen ask.now) (asker_changes self.old) (asker_changes self.new) (scene self.old said.old stream.old) (scene self.new said.new stream.new)) }
+        ensures hears { (frame : Frame) → HoldsFrame reply.now.bytes.items frame → OnOk result (HearsReply H.digest_of V.accepted S.verified (ExchangesFrames T.contents T.remaining) (asker_marks self.old) reply.now.held (ask_seen ask.now) frame (asker_changes self.old) (asker_changes self.new) (scene self.old said.old stream.old) (scene self.new said.new stream.new)) }
         ensures stays { Remains self.old self.new }
-        ensures unnoted { result ≡ Err Stopped → asker_changes self.new ≡ asker_changes self.old }
-        ensures stops { result ≡ Err Stopped → StopsAsking H.digest_of V.accepted S.verified (ExchangesFrames T.contents T.remaining) (asker_token self.old) (ask_seen ask.now) (scene self.old said.old stream.old) (scene self.new said.new stream.new) }
-        ensures halts { IfErr result (λ fault. fault ≢ Stopped → HaltsAfter (AsksSome H.digest_of V.accepted S.verified (ExchangesFrames T.contents T.remaining) fault (asker_marks self.old) (asker_token self.old) (ask_seen ask.now) (asker_changes self.old) (asker_changes self.new) (scene self.old said.old stream.old)) fault self.new said.new) }
+        ensures err { IfErr result (λ fault. fault ≢ Stopped) }
+        ensures halts { (frame : Frame) → HoldsFrame reply.now.bytes.items frame → IfErr result (λ fault. HaltsAfter (HearsSome H.digest_of V.accepted S.verified (ExchangesFrames T.contents T.remaining) fault (asker_marks self.old) reply.now.held (ask_seen ask.now) frame (asker_changes self.old) (asker_changes self.new) (scene self.old said.old stream.old)) fault self.new said.new) }
     {
-        let head = self.head();
-        let reply = self.request(stream, ask)?;
-        let frame = frame_in(&reply)?;
-        self.catch_up(stream, epoch_of(head, ask, &frame), said)?;
-        self.answer(head, ask, &frame, said)?;
-        self.go_on_from(stream, head, said)
+        let frame = frame_in(&reply.bytes)?;
+        self.answer(reply.held, ask, &frame, said)?;
+        self.go_on_from(stream, reply.held, said)
     }
 
-    /// Asks for the directory's latest root, and tells what the client makes of it only if it refuses it.
+    /// Tells what the client makes of a reply to a question for the latest root, if it refuses it. Monitors and promises are
+    /// left alone: `go_on` sees to them.
     ///
     /// # Errors
     ///
-    /// `NoReply`; `Stopped` if the roots up to it are not taken; `OutOfMemory`.
-    pub fn check_head<T: Read + Write>(
-        &mut self,
-        stream: &mut T,
-        said: &mut Said,
-    ) -> Result<(), AskFault>
-        ensures finds { OnOk result (FindsHead H.digest_of V.accepted S.verified (ExchangesFrames T.contents T.remaining) (asker_token self.old) (scene self.old said.old stream.old) (scene self.new said.new stream.new)) }
+    /// `NoReply`; `OutOfMemory`.
+    pub fn hear_head(&mut self, reply: &Reply, said: &mut Said) -> Result<(), AskFault>
+        ensures finds { (frame : Frame) → HoldsFrame reply.now.bytes.items frame → OnOk result ((told : Report) × HearsFrame H.digest_of V.accepted S.verified reply.now.held (asker_client self.old) (Query Head) frame told (asker_client self.new)
+            × (report_of said.new ≡ told_after (report_of said.old) (unless_fine told))) }
+        ensures monitors { asker_monitors self.new ≡ asker_monitors self.old }
         ensures stays { StaysWhole self.old self.new }
-        ensures stops { result ≡ Err Stopped → StopsAsking H.digest_of V.accepted S.verified (ExchangesFrames T.contents T.remaining) (asker_token self.old) (Query Head) (scene self.old said.old stream.old) (scene self.new said.new stream.new) }
-        ensures halts { IfErr result (λ fault. fault ≢ Stopped → HaltsAfter (FindsSome H.digest_of V.accepted S.verified (ExchangesFrames T.contents T.remaining) (asker_token self.old) (scene self.old said.old stream.old)) fault self.new said.new) }
+        ensures err { IfErr result (λ fault. fault ≢ Stopped) }
+        ensures untold { OnErr result (report_of said.new ≡ report_of said.old) }
+        ensures still { IfErr result (λ fault. fault ≢ OutOfMemory → asker_client self.new ≡ asker_client self.old) }
     {
-        let held = self.head();
-        let reply = self.request(stream, &Ask::Head)?;
-        let frame = frame_in(&reply)?;
-        self.catch_up(stream, epoch_of(held, &Ask::Head, &frame), said)?;
-        Ok(self.find_head(held, &frame, said)?)
+        let frame = frame_in(&reply.bytes)?;
+        Ok(self.find_head(reply.held, &frame, said)?)
     }
 
     /// Tells what the client makes of a frame that came back for the latest root, if it refuses it.
@@ -150,24 +159,6 @@ where
             return Ok(());
         }
         said.join(now)
-    }
-
-    /// Takes the roots up to the one that a reply speaks of.
-    fn catch_up<T: Read + Write>(
-        &mut self,
-        stream: &mut T,
-        epoch: u64,
-        said: &mut Said,
-    ) -> Result<(), AskFault>
-        ensures catches { OnOk result (CatchesUp H.digest_of V.accepted S.verified (ExchangesFrames T.contents T.remaining) epoch (scene self.old said.old stream.old) (scene self.new said.new stream.new)) }
-        ensures stays { StaysWhole self.old self.new }
-        ensures stops { result ≡ Err Stopped → StopsBelow H.digest_of V.accepted S.verified (ExchangesFrames T.contents T.remaining) epoch (scene self.old said.old stream.old) (scene self.new said.new stream.new) }
-        ensures halts { IfErr result (λ fault. fault ≢ Stopped → HaltsAfter (CatchesSome H.digest_of V.accepted S.verified (ExchangesFrames T.contents T.remaining) epoch (scene self.old said.old stream.old)) fault self.new said.new) }
-    {
-        if epoch <= self.head() {
-            return Ok(());
-        }
-        self.follow(stream, said)
     }
 
     /// Tells what the client makes of a frame that came back, or nothing if memory runs out. A promise that it keeps

@@ -1,8 +1,10 @@
 // The client and its monitors take the roots that are new.
-ghost use Rattle.std.specs.Prelude.{◌≡◌, ◌≢◌, ℕ, Err, IfErr, IfOk, OnOk};
+ghost use Rattle.std.specs.Prelude.{◌≡◌, ◌≢◌, Err, IfErr, IfOk, OnOk};
 ghost use Rattle.std.specs.List.{AllZip};
+ghost use Rattle.asking.specs.Askers.{asker_client, asker_marks};
+ghost use Rattle.asking.specs.Catching.{Advances, AdvancesSome};
 ghost use Rattle.asking.specs.Exchanges.{ExchangesFrames};
-ghost use Rattle.asking.specs.Following.{AllUpdate, AnyRefuses, Follows, MonitorUpdates, OneRefuses, RefusesList, StopsAfter, StopsList, TakesList, TakesSome, TellsRootRefusal};
+ghost use Rattle.asking.specs.Following.{AllUpdate, AnyRefuses, IsBelow, MonitorUpdates, OneRefuses, RefusesList, StopsList, TakesList, TellsRootRefusal};
 ghost use Rattle.asking.specs.Scenes.{scene, HaltsAfter, HaltsIn, StaysWhole};
 ghost use Rattle.asking.specs.Reports.{report_of};
 ghost use Rattle.asking.specs.declared.ask_fault.AskFault.TheVariants.{NoReply, Stopped};
@@ -20,6 +22,9 @@ use std::alloc::Global;
 use std::io::{Read, Write};
 use vrfiface::VufCheck;
 
+/// The most lists of roots that a run takes for one reply.
+pub const MAX_LISTS: u16 = 1024;
+
 /// The bytes of a list of no root.
 const EMPTY_LIST: [u8; 2] = [0, 0];
 
@@ -29,29 +34,36 @@ where
     V: VufCheck + Drop,
     S: Verifier + Drop,
 {
-    /// Lets the client and the monitors take all roots that are new.
+    /// Lets the client and the monitors take the next list of roots, if the head is below an epoch. If it still is, the
+    /// monitors watch the epochs that are new. Returns whether that was done: then one more list is needed.
     ///
     /// # Errors
     ///
     /// `NoReply`; `Stopped` if what comes is no answer, or a root is refused, or none is above the head;
     /// `OutOfMemory`.
-    pub fn follow<T: Read + Write>(
+    pub fn advance<T: Read + Write>(
         &mut self,
         stream: &mut T,
+        epoch: u64,
         said: &mut Said,
-    ) -> Result<(), AskFault>
-        ensures follows { OnOk result ((count : ℕ) × Follows H.digest_of S.verified (ExchangesFrames T.contents T.remaining) count (scene self.old said.old stream.old) (scene self.new said.new stream.new)) }
+    ) -> Result<bool, AskFault>
+        ensures advances { IfOk result (λ goes. Advances H.digest_of V.accepted S.verified (ExchangesFrames T.contents T.remaining) epoch (scene self.old said.old stream.old) goes (scene self.new said.new stream.new)) }
         ensures stays { StaysWhole self.old self.new }
-        ensures stops { result ≡ Err Stopped → (count : ℕ) × StopsAfter H.digest_of S.verified (ExchangesFrames T.contents T.remaining) count (scene self.old said.old stream.old) (scene self.new said.new stream.new) }
-        ensures halts { IfErr result (λ fault. fault ≢ Stopped → HaltsAfter (TakesSome H.digest_of S.verified (ExchangesFrames T.contents T.remaining) (scene self.old said.old stream.old)) fault self.new said.new) }
+        ensures stops { result ≡ Err Stopped → IsBelow epoch (asker_client self.old) × StopsList H.digest_of S.verified (ExchangesFrames T.contents T.remaining) (scene self.old said.old stream.old) (scene self.new said.new stream.new) }
+        ensures halts { IfErr result (λ fault. fault ≢ Stopped → IsBelow epoch (asker_client self.old)
+            × HaltsAfter (AdvancesSome H.digest_of V.accepted S.verified (ExchangesFrames T.contents T.remaining) epoch (scene self.old said.old stream.old)) fault self.new said.new) }
     {
-        // Every loop of Rattle has an end: this one's is past any chain.
-        for _ in 0..u64::MAX {
-            if !self.take_list(stream, said)? {
-                return Ok(());
-            }
+        if epoch <= self.head() {
+            return Ok(false);
         }
-        Err(AskFault::NoReply)
+        if !self.take_list(stream, said)? {
+            return Ok(false);
+        }
+        if epoch <= self.head() {
+            return Ok(false);
+        }
+        self.step_all(stream, said)?;
+        Ok(true)
     }
 
     /// Takes the next roots, as many as a list has. Returns whether there were any.

@@ -87,7 +87,7 @@ where
         match left_to_watch(&self.client, &self.marks, name) {
             ToWatch::FromRoot(first) => {
                 self.begin_watch(stream, &first, name, key, said)?;
-                self.test_promises(stream, said)
+                self.test_named(stream, name, said)
             }
             ToWatch::Nothing(epoch) => Ok(tell_watched(self.alloc, name, epoch, said)?),
         }

@@ -6,14 +6,15 @@ ghost use Rattle.textio.specs.Output.{WritesSome};
 ghost use Rattle.textio.specs.declared.program_fault.ProgramFault.TheVariants.{CannotWrite};
 ghost use Rattle.play.specs.Scripts.{line_seen};
 ghost use Rattle.asking.specs.AskOptions.{ask_values};
-ghost use Rattle.asking.specs.Lateness.{stale_line, subject_in, subject_of, wanted_of, Finds, HasNoted, IsLast, IsLimitOf, IsMarkedTo, IsSameLimit};
+ghost use Rattle.asking.specs.Lateness.{last_above, stale_line, subject_in, subject_of, wanted_of, BeganBehind, Finds, HasNoted, IsLast, IsLimitOf, IsMarkedTo, IsSameLimit, IsWatchedTo};
 ghost use Rattle.asking.specs.Runs.{Grows};
 
 use crate::run::line_of_words;
 use crate::{AskOrder, Asker};
 use encoding::Name;
 use itoa::Buffer;
-use memory::{Mark, watched_up_to};
+use memory::{Mark, begins_behind, watched_up_to};
+use monitor::Monitor;
 use nodehash::NodeHash;
 use play::{Ask, Line, read_line};
 use sigiface::Verifier;
@@ -25,7 +26,7 @@ use vrfiface::VufCheck;
 /// What has a last epoch.
 #[derive(Debug, Drop)]
 pub(crate) enum Subject {
-    /// A name that is watched: the last epoch up to which it was.
+    /// A name that is watched: the last epoch that was.
     Name(Name),
     /// The directory: the epoch of the head of its chain.
     Head,
@@ -75,7 +76,7 @@ fn wanted(alloc: Global, order: &AskOrder<'_>) -> Result<Option<Subject>, AllocE
 }
 
 impl Limit {
-    /// None.
+    /// A limit that wants nothing.
     pub(crate) fn none() -> Self
         ensures none { (result.subject ≡ None) × (result.last ≡ None) }
     {
@@ -86,7 +87,7 @@ impl Limit {
         }
     }
 
-    /// That of an order.
+    /// The limit of an order.
     pub(crate) fn of(alloc: Global, order: &AskOrder<'_>) -> Result<Self, AllocError>
         ensures is { IfOk result (IsLimitOf (ask_values order.now)) }
         ensures last { IfOk result (λ limit. limit.last ≡ None) }
@@ -140,12 +141,54 @@ where
     ensures { IsLast asker.now.marks.items asker.now.client asker.now.monitors.items subject.now result }
 {
     match subject {
-        Subject::Name(name) => match watched_up_to(&asker.monitors, name) {
-            Some(epoch) => epoch,
-            None => marked_epoch(&asker.marks, name),
-        },
+        Subject::Name(name) => {
+            let since = began_behind(&asker.marks, &asker.monitors, name);
+            last_above(since, watched_to(&asker.marks, &asker.monitors, name))
+        }
         Subject::Head => asker.head(),
     }
+}
+
+/// Behind which epoch the watching of a name began, 0 if it did not.
+fn began_behind<H, V, S>(marks: &[Mark], monitors: &[Monitor<H, V, S>], name: &Name) -> u64
+where
+    H: NodeHash,
+    V: VufCheck,
+    S: Verifier,
+    ensures { BeganBehind marks.now monitors.now name.now result }
+{
+    for mark in marks {
+        if mark.name == *name {
+            return mark.since;
+        }
+    }
+    for monitor in monitors {
+        if monitor.name() == name {
+            return begins_behind(monitor);
+        }
+    }
+    0
+}
+
+/// Up to which epoch a name was watched, 0 if it was not.
+fn watched_to<H, V, S>(marks: &[Mark], monitors: &[Monitor<H, V, S>], name: &Name) -> u64
+where
+    H: NodeHash,
+    V: VufCheck,
+    S: Verifier,
+    ensures { IsWatchedTo marks.now monitors.now name.now result }
+{
+    match watched_up_to(monitors, name) {
+        Some(epoch) => epoch,
+        None => marked_epoch(marks, name),
+    }
+}
+
+/// The epoch, if it is above the one behind which the watching began; else 0.
+fn last_above(since: u64, epoch: u64) -> u64
+    ensures { result ≡ last_above since epoch }
+{
+    if since < epoch { epoch } else { 0 }
 }
 
 /// The epoch of the mark of a name, or 0.

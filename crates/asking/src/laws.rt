@@ -24,12 +24,13 @@ ghost use Rattle.asking.specs.Refused.{client_refuses};
 ghost use Rattle.asking.specs.Reports.{refused, told_after, Report};
 ghost use Rattle.asking.specs.Runs.{lines_asked, RunsWhole};
 ghost use Rattle.asking.specs.Saves.{stored_after, HasMark, IsAsked, IsAskedChange, IsOwnPromise, Stored, WasOwn};
-ghost use Rattle.asking.specs.StateRuns.{left_by, AllRun, StateRun, WasAskedIn, WasTold};
+ghost use Rattle.asking.specs.StateRuns.{left_by, AllRun, LeavesAwaited, StateRun, WasAskedIn, WasTold};
 ghost use Rattle.asking.specs.Testing.{due_told};
 ghost use Rattle.asking.specs.Told.{TellsWatched};
 ghost use Rattle.asking.specs.Visiting.{HasMonitor, IsMarked};
 ghost use Rattle.asking.specs.Wanted.{last_epoch, roots_sent, AreWanted, BeginFrom, IsOfChain, IsReached};
 ghost use Rattle.asking.specs.Watching.{step_told};
+ghost use Rattle.asking.specs.declared.following.TheConstants.{MAX_LISTS};
 ghost use Rattle.asking.specs.declared.said.TheConstants.{OTHER_INDEX, OTHER_REPLY};
 
 use nodehash::NodeHash;
@@ -42,6 +43,11 @@ use vrfiface::VufCheck;
 pub fn refusals_have_their_numbers()
     ensures reply { OTHER_REPLY ≡ 25 }
     ensures index { OTHER_INDEX ≡ 26 }
+{}
+
+/// At most 1,024 lists of roots are taken for one reply.
+pub fn lists_are_few()
+    ensures { MAX_LISTS ≡ 1024 }
 {}
 
 /// What is told has status 3 where the provider is caught: by roots that contradict the chain, by a promise that was not
@@ -69,10 +75,12 @@ pub fn watched_epochs_are_told<T: Read + Write, H: NodeHash, V: VufCheck, S: Ver
 
 /// Whatever runs there were over one state, and wherever each was stopped: what is saved loads as a memory. Each root of
 /// the state that a mark of it says was watched is told in the output of one of the runs, against what its owner expected
-/// there, before the last act of that run that is left; or it was watched before all of them. No root is lost, and no mark of an earlier run: the memory has one of
-/// its name that begins no later. Each promise that it has for a change of the owner's own is for one that a line of some run
-/// asks for, or was remembered so before all of them. Where what a run left has marks for monitors, as it has for all those of
-/// a whole run without a stale epoch, each root from the first of such a monitor on was told for its name, or is still to be watched.
+/// there, before the last act of that run that is left; or it was watched before all of them. No root is lost, and no mark of an
+/// earlier run: the memory has one of its name that begins no later, and that is as far over the roots that were there. Each
+/// promise that it has for a change of the owner's own is for one that a line of some run asks for, or was remembered so before
+/// all of them; and none of these is lost as long as a mark awaits it. Where what a run left has marks for monitors, as it has
+/// for all those of a whole run without a stale epoch, each root from the first of such a monitor on was told for its name, or is
+/// still to be watched.
 pub fn stored_marks_are_told<H: NodeHash, V: VufCheck, S: Verifier>()
     ensures loads { (key : List ℕ) (first : Stored) (runs : List (StateRun (Option (List (List ℕ))))) → AllRun H.digest_of V.accepted IsAsked (IsOwnPromise S.verified key) IsAskedChange first runs
         → (before : Memory) → Spells first.text (Ok before) → (known : Memory) × Spells (left_by first runs).text (Ok known) }
@@ -83,9 +91,12 @@ pub fn stored_marks_are_told<H: NodeHash, V: VufCheck, S: Verifier>()
     ensures grow { (key : List ℕ) (first : Stored) (later earlier : List (StateRun (Option (List (List ℕ))))) → AllRun H.digest_of V.accepted IsAsked (IsOwnPromise S.verified key) IsAskedChange first (later ++ earlier)
         → (more : List SignedRoot) × ((left_by first (later ++ earlier)).roots ≡ (left_by first earlier).roots ++ more) }
     ensures stay { (key : List ℕ) (first : Stored) (later earlier : List (StateRun (Option (List (List ℕ))))) → AllRun H.digest_of V.accepted IsAsked (IsOwnPromise S.verified key) IsAskedChange first (later ++ earlier)
-        → (before known : Memory) → Spells (left_by first earlier).text (Ok before) → Spells (left_by first (later ++ earlier)).text (Ok known) → (old : Mark) → Contains before.marks old → HasMark known.marks old }
+        → (before known : Memory) → Spells (left_by first earlier).text (Ok before) → Spells (left_by first (later ++ earlier)).text (Ok known) → (old : Mark) → Contains before.marks old → HasMark (left_by first earlier).roots known.marks old }
     ensures own { (key : List ℕ) (first : Stored) (runs : List (StateRun (Option (List (List ℕ))))) → AllRun H.digest_of V.accepted IsAsked (IsOwnPromise S.verified key) IsAskedChange first runs
         → (known : Memory) → Spells (left_by first runs).text (Ok known) → (signed : SignedPromise) → WasOwn known signed → WasAskedIn IsAskedChange first runs signed }
+    ensures awaits { (key : List ℕ) (first : Stored) (later earlier : List (StateRun (Option (List (List ℕ))))) → AllRun H.digest_of V.accepted IsAsked (IsOwnPromise S.verified key) IsAskedChange first (later ++ earlier)
+        → (before known : Memory) → Spells (left_by first earlier).text (Ok before) → Spells (left_by first (later ++ earlier)).text (Ok known)
+        → (signed : SignedPromise) → WasOwn before signed → AllByRecursion (LeavesAwaited signed) later → WasOwn known signed }
     ensures watched { (key : List ℕ) (first : Stored) (later earlier : List (StateRun (Option (List (List ℕ))))) (run : StateRun (Option (List (List ℕ)))) (monitors : List Monitor)
         → AllRun H.digest_of V.accepted IsAsked (IsOwnPromise S.verified key) IsAskedChange first (later ++ run ∷ earlier) → StoresMarks (stored_after run.left) monitors
         → (known : Memory) → Spells (left_by first (later ++ run ∷ earlier)).text (Ok known) → (monitor : Monitor) → Contains monitors monitor
@@ -93,12 +104,11 @@ pub fn stored_marks_are_told<H: NodeHash, V: VufCheck, S: Verifier>()
         → WasTold H.digest_of V.accepted IsAsked (IsOwnPromise S.verified key) first (later ++ run ∷ earlier) monitor.name root ⊎ IsToWatch known.marks monitor.name root }
 {}
 
-/// Each name that a line of a whole run asks to be watched has a monitor at its end, or a mark of an earlier run; or
-/// something was refused, and the status is not 0.
+/// Each name that a line of a whole run asks to be watched has a monitor at its end, or a mark of an earlier run.
 pub fn asked_names_are_watched<T: Read + Write, H: NodeHash, V: VufCheck, S: Verifier>()
     ensures { (key token : List ℕ) (options : AskOptions) (stream left : T) (input : Option (List ℕ)) (status : ℕ) (old new : Option (List ℕ)) (lines : List (List ℕ)) → lines_asked options.words input ≡ Some lines
         → (run : RunsWhole H.digest_of V.accepted S.verified (ExchangesFrames T.contents T.remaining) key token options (options.state ≡ None) stream left input status old new)
-        → (name : List ℕ) (given : Option (List ℕ)) → IsAsked (Some lines) name given → HasMonitor run.last.monitors name ⊎ (IsMarked run.background.marks name ⊎ (0 < status)) }
+        → (name : List ℕ) (given : Option (List ℕ)) → IsAsked (Some lines) name given → HasMonitor run.last.monitors name ⊎ IsMarked run.background.marks name }
 {}
 
 /// Of the roots that a directory has, where each names the one before, and none comes before the first, it sends so many

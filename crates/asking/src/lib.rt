@@ -9,7 +9,13 @@
 //!
 //! ```text
 //! let mut asker = Asker::start_at_head(alloc, &mut stream, checks, key, token, &mut said)?;
-//! asker.ask(&mut stream, &Ask::Head, &mut said)?;
+//! let reply = asker.send(&mut stream, &Ask::Head)?;
+//! for _ in 0..MAX_LISTS {
+//!     if !asker.advance(&mut stream, reply.epoch(), &mut said)? {
+//!         break;
+//!     }
+//! }
+//! asker.hear(&mut stream, &Ask::Head, &reply, &mut said)?;
 //! write_text(&mut writer, &said.text)?;
 //! ```
 #![tactic(auto)]
@@ -30,6 +36,7 @@ mod lines;
 mod order;
 mod placing;
 mod promises;
+mod reply;
 mod run;
 mod running;
 mod said;
@@ -42,14 +49,16 @@ mod watching;
 pub use ask_fault::AskFault;
 pub use asker::Asker;
 pub use checking::hear;
+pub use following::MAX_LISTS;
 pub use keeper::{Keeper, Loaded};
 pub use laws::{
-    asked_names_are_watched, refusals_have_their_numbers, sent_roots_are_wanted,
+    asked_names_are_watched, lists_are_few, refusals_have_their_numbers, sent_roots_are_wanted,
     statuses_tell_who_is_caught, stored_marks_are_told, told_roots_are_of_the_chain,
     watched_epochs_are_told,
 };
 pub use order::{AskKeys, AskOrder};
 pub use play::Checks;
+pub use reply::Reply;
 pub use run::RunEnd;
 pub use running::{ask, ask_over};
 pub use said::Said;

@@ -1,5 +1,5 @@
 // The promises that the client keeps are tested once the chain has the next root.
-ghost use Rattle.std.specs.Prelude.{◌≡◌, ◌≢◌, ◌↔◌, codes, IfErr, IfOk, IsTrue, OnErr, OnOk};
+ghost use Rattle.std.specs.Prelude.{◌≡◌, ◌≢◌, ◌↔◌, ℕ, codes, IfErr, IfOk, IsTrue, OnErr, OnOk};
 ghost use Rattle.auditor.specs.declared.evidence.Evidence.TheVariants as evidence;
 ghost use Rattle.audits.specs.Files.{evidence_text};
 ghost use Rattle.asking.specs.Askers.{asker_marks};
@@ -9,7 +9,7 @@ ghost use Rattle.asking.specs.Scenes.{scene, HaltsAfter, HaltsIn, StaysWhole};
 ghost use Rattle.asking.specs.Testing.{TellsDue};
 ghost use Rattle.asking.specs.declared.said.TheConstants.{OTHER_INDEX};
 ghost use Rattle.asking.specs.Reports.{caught, refused, report_of, Tells};
-ghost use Rattle.asking.specs.Visiting.{AwaitsMonitor, HasMonitor, IsMarked, TestsAll, TestsName, TestsSome, Visits};
+ghost use Rattle.asking.specs.Visiting.{AwaitsMonitor, FindsKept, HasMonitor, IsMarked, TestsAll, TestsName, TestsNamed, TestsSome, TestsSomeNamed, Visits};
 ghost use Rattle.asking.specs.declared.ask_fault.AskFault.TheVariants.{Stopped};
 
 use crate::checking::{tell_client, tell_evidence};
@@ -82,6 +82,50 @@ where
             return Ok(Some(place));
         }
         Ok(Some(place + 1))
+    }
+
+    /// Tests the promises for a name that are due, one after another, up to one that is not found kept. If the name has a
+    /// mark and no monitor, they wait.
+    ///
+    /// # Errors
+    ///
+    /// `NoReply`; `OutOfMemory`.
+    pub(crate) fn test_named<T: Read + Write>(
+        &mut self,
+        stream: &mut T,
+        name: &Name,
+        said: &mut Said,
+    ) -> Result<(), AskFault>
+        ensures tests { OnOk result (TestsNamed H.digest_of V.accepted (ExchangesFrames T.contents T.remaining) (self.old).marks.items name.now (scene self.old said.old stream.old) (scene self.new said.new stream.new)) }
+        ensures stays { StaysWhole self.old self.new }
+        ensures err { IfErr result (λ fault. fault ≢ Stopped) }
+        ensures halts { IfErr result (λ fault. HaltsAfter (TestsSomeNamed H.digest_of V.accepted (ExchangesFrames T.contents T.remaining) name.now (scene self.old said.old stream.old)) fault self.new said.new) }
+    {
+        if self.waits_for_monitor(name) {
+            return Ok(());
+        }
+        self.test_each(stream, name, said)
+    }
+
+    /// Tests the promises for a name that are due, one after another, up to one that is not found kept.
+    fn test_each<T: Read + Write>(
+        &mut self,
+        stream: &mut T,
+        name: &Name,
+        said: &mut Said,
+    ) -> Result<(), AskFault>
+        ensures tests { OnOk result ((count : ℕ) × FindsKept H.digest_of V.accepted (ExchangesFrames T.contents T.remaining) count (scene self.old said.old stream.old) name.now (scene self.new said.new stream.new)) }
+        ensures stays { StaysWhole self.old self.new }
+        ensures err { IfErr result (λ fault. fault ≢ Stopped) }
+        ensures halts { IfErr result (λ fault. HaltsAfter (TestsSomeNamed H.digest_of V.accepted (ExchangesFrames T.contents T.remaining) name.now (scene self.old said.old stream.old)) fault self.new said.new) }
+    {
+        // Every loop of Rattle has an end: this one's is past any list.
+        for _ in 0..u64::MAX {
+            if !self.test(stream, name, said)? {
+                return Ok(());
+            }
+        }
+        Err(AskFault::NoReply)
     }
 
     /// Whether a name was watched in an earlier run, and not in this one.

@@ -1,44 +1,49 @@
 // A run: each line of the input is asked, what is told of it is written, and the state is kept.
-ghost use Rattle.std.specs.Prelude.{◌≡◌, ◌≢◌, ◌⊎◌, ◌↔◌, ◌<◌, ◌≤◌, ◌++◌, List, ℕ, [], false, Err, IfErr, IfOk, IfSome, MatchOption, None, Ok, OnErr, OnOk, Option, Some, option_map, ⊤};
+ghost use Rattle.std.specs.Prelude.{◌≡◌, ◌≢◌, ◌⊎◌, ◌↔◌, ◌<◌, ◌≤◌, ◌++◌, List, ℕ, [], false, true, Err, IfErr, IfOk, IfSome, MatchOption, None, Ok, OnErr, OnOk, Option, Some, option_map, ⊤};
 ghost use Rattle.std.specs.Io.KnownBytes.{Appends};
 ghost use Rattle.textio.specs.Lines.{lines_of};
 ghost use Rattle.textio.specs.Output.{WritesSome};
 ghost use Rattle.textio.specs.declared.program_fault.ProgramFault.{ProgramFault};
 ghost use Rattle.textio.specs.declared.program_fault.ProgramFault.TheVariants.{CannotWrite, NotACommand, OutOfMemory};
-ghost use Rattle.play.specs.Scripts.{line_of, line_seen};
+ghost use Rattle.play.specs.Scripts.{ask_seen, line_of, Ask as Asked};
 ghost use Rattle.asking.specs.AskOptions.{ask_values};
-ghost use Rattle.asking.specs.Askers.{asker_changes};
-ghost use Rattle.asking.specs.Ending.{AsksPart, AsksSomeLine, BeginsNone, DoesSome, DoesSomeNoting, end_status, EndsEarly, EndsWith, FailsWith, HoldsBack, IsNewFor, LoadsNone, NotesFirst, PreparesSome, RunsLate, TakesSomeNew};
-ghost use Rattle.asking.specs.Exchanges.{ExchangesFrames};
+ghost use Rattle.asking.specs.Asking.{HearsHead};
+ghost use Rattle.asking.specs.Catching.{CatchesSome, StopsBelow};
+ghost use Rattle.asking.specs.Ending.{AdvancesPart, AsksPart, AsksSomeLine, BeginsNone, DoesSome, end_status, EndsEarly, EndsWith, FailsWith, HoldsBack, IsNewFor, LoadsNone, LooksSome, NotesFirst, PreparesSome, RunsLate};
+ghost use Rattle.asking.specs.Exchanges.{ExchangesFrames, HoldsFrame};
+ghost use Rattle.asking.specs.Following.{IsBelow, StopsList};
 ghost use Rattle.asking.specs.Lateness.{Finds, HasNoted, HasNotedAs, IsLast, IsLimitOf, IsSameLimit};
 ghost use Rattle.asking.specs.Keeping.{AddsTo, IsSettled, KeepsUp, SavesTo};
 ghost use Rattle.asking.specs.Marking.{IsUnlooked, LeavesMarked, MarksOn, RunsMarked};
 ghost use Rattle.asking.specs.Recalled.{evidence_again};
 ghost use Rattle.asking.specs.Reports.{report_of, told_after, Report};
 ghost use Rattle.asking.specs.RunFaults.{AsksInput, CannotBeAsked, IsFaultOfSaving, IsFaultOfState, IsFaultWith, IsFirstUnasked, StopsOr};
-ghost use Rattle.asking.specs.Runs.{AsksLine, AsksLines, BeginsAsking, DoesLine, DoesLineNoting, emptied, Grows, IsSoundFor, KeepsAll, new_background, background_of, lines_asked, Prepares, TakesNew, with_word, words_line, Writes};
-ghost use Rattle.asking.specs.declared.ask_fault.AskFault.{AskFault as Fault};
-ghost use Rattle.asking.specs.declared.ask_fault.AskFault.TheVariants.{NoReply, OutOfMemory as NoMemory};
-ghost use Rattle.asking.specs.declared.ask_fault.RunFault.TheVariants.{Program};
+ghost use Rattle.asking.specs.Runs.{AdvancesOnce, AsksLine, AsksLines, BeginsAsking, CatchesUpBy, DoesLine, emptied, Grows, IsSoundFor, KeepsAll, new_background, background_of, lines_asked, Prepares, with_word, words_line, Writes};
+ghost use Rattle.asking.specs.declared.ask_fault.AskFault.{AskFault};
+ghost use Rattle.asking.specs.declared.ask_fault.AskFault.TheVariants.{OutOfMemory as NoMemory, Stopped};
+ghost use Rattle.asking.specs.declared.ask_fault.RunFault.TheVariants.{Ask as OfQuestion, Program};
 ghost use Rattle.asking.specs.declared.run.RunEnd.TheVariants.{Whole};
 ghost use Rattle.asking.specs.declared.said.TheConstants.{CAUGHT};
 ghost use Rattle.asking.specs.Scenes.{scene, Scene, StartsAtHead};
-ghost use Rattle.asking.specs.Saves.{Act, Found, LeavesTold};
+ghost use Rattle.asking.specs.Saves.{Act, Found, IsSaid, LeavesTold};
 ghost use Rattle.asking.specs.Settling.{settled_text};
-ghost use Rattle.asking.specs.Standing.{standing, AreNew, AsksAmong, DropsAlarms, HasBegun, HasFailed, HasLoaded, HasNoChanges, IsFresh, IsLeft, IsUpTo, LeavesState, RunStands, SettlesState, StateIsKept, StateIsSaved, StateStands};
+ghost use Rattle.asking.specs.Standing.{standing, AreNew, AsksAmong, DropsAlarms, Fits, HasBegun, HasFailed, HasLoaded, HasNoChanges, IsFresh, IsLeft, IsUpTo, LeavesState, RunStands, SettlesState, StateIsKept, StateIsSaved, StateStands};
 ghost use Rattle.memory.specs.Memories.{Memory};
+ghost use Rattle.asking.specs.Visiting.{TestsAll};
+ghost use Rattle.wire.specs.Frames.{Frame};
 
 use crate::ask_fault::RunFault;
+use crate::following::MAX_LISTS;
 use crate::keeper::Keeper;
 use crate::lateness::Limit;
 use crate::said::{CAUGHT, REFUSED};
 use crate::settling::tell_settled;
 use crate::state::State;
-use crate::{AskFault, AskKeys, AskOrder, Asker, Checks, Said};
+use crate::{AskFault, AskKeys, AskOrder, Asker, Checks, Reply, Said};
 use encoding::Name;
 use memory::Memory;
 use nodehash::NodeHash;
-use play::{Line, next_line, push_number, read_line};
+use play::{Ask, Line, next_line, push_number, read_line};
 use sigiface::Verifier;
 use std::alloc::{AllocError, Global};
 use std::io::{BufRead, Read, Write};
@@ -46,13 +51,13 @@ use textio::{ProgramFault, write_text};
 use vrfiface::VufCheck;
 
 /// How a run ended, with its status: 3 if evidence or an alarm is told, also one of an earlier run, or the last epoch is not
-/// as late as it is wanted; else 1 if the directory or the client refused; else 0.
+/// as late as it is wanted; else 1 if the directory or the client refused, or it did not come to all; else 0.
 #[derive(Clone, Copy, Debug, PartialEq, Eq)]
 pub enum RunEnd {
     /// All was asked.
     Whole(u8),
-    /// No reply came, new roots were refused, or a fault followed evidence or an alarm. The status is 1, or 3 after evidence
-    /// or an alarm.
+    /// No reply came, new roots were refused or too many, or a fault followed evidence or an alarm. The status is 1, or 3
+    /// after evidence or an alarm.
     Stopped(u8),
     /// A write failed, and evidence or an alarm had been found, or a last epoch that is not late enough, of which perhaps not
     /// all is told. The status is 3.
@@ -496,14 +501,122 @@ impl Run {
             ⊎ PreparesSome H.digest_of V.accepted S.verified (ExchangesFrames T.contents T.remaining) (background_of asker.old) ((self.old).state ≡ None) (scene asker.old (self.old).said stream.old) seen)
             × HasNotedAs (IsLast (asker.old).marks.items seen.client seen.monitors) (self.new).limit }
     {
-        let prepared = self.look_around(asker, stream);
+        // Without a state the chain begins at the latest root.
+        if self.state.is_none() {
+            return self.settle(asker, Ok(()), keeper, writer, errors);
+        }
+        let reply = asker.send(stream, &Ask::Head)?;
+        self.catch_up(asker, reply.epoch(), keeper, stream, writer, errors)?;
+        let prepared = self.look_around(asker, &reply, stream);
         self.settle(asker, prepared, keeper, writer, errors)
     }
 
-    /// Lets the client take the roots that are new, and tests the promises that are due, which is said.
+    /// Takes the roots up to an epoch. What is told of a list that does not get there is written, and the state kept, before
+    /// the next one is asked for. After 1,024 lists that do not get there it stops.
+    fn catch_up<K, T, W, E, H, V, S>(
+        &mut self,
+        asker: &mut Asker<H, V, S>,
+        epoch: u64,
+        keeper: &mut K,
+        stream: &mut T,
+        writer: &mut W,
+        errors: &mut E,
+    ) -> Result<(), RunFault>
+    where
+        K: Keeper,
+        T: Read + Write,
+        W: Write,
+        E: Write,
+        H: NodeHash + Drop,
+        V: VufCheck + Drop,
+        S: Verifier + Drop,
+        ensures catches { OnOk result (CatchesUpBy H.digest_of V.accepted S.verified (ExchangesFrames T.contents T.remaining) (background_of asker.old) epoch (scene asker.old (self.old).said stream.old) (W.contents writer.old) (W.contents writer.new) (scene asker.new (self.new).said stream.new)) }
+        ensures stops { result ≡ Err (OfQuestion Stopped) → (reached : Scene T) × StopsBelow H.digest_of V.accepted S.verified (ExchangesFrames T.contents T.remaining) epoch (scene asker.old (self.old).said stream.old) reached
+            × HoldsBack ⊥ (W.contents writer.new) (self.new).said reached.told (W.contents writer.old) }
+        ensures part { OnErr result ((reached : Scene T) × (CatchesSome H.digest_of V.accepted S.verified (ExchangesFrames T.contents T.remaining) epoch (scene asker.old (self.old).said stream.old) reached ⊎ StopsBelow H.digest_of V.accepted S.verified (ExchangesFrames T.contents T.remaining) epoch (scene asker.old (self.old).said stream.old) reached)
+            × HoldsBack (result ≡ Err (Program CannotWrite)) (W.contents writer.new) (self.new).said reached.told (W.contents writer.old)) }
+        ensures stands { (lines : Option (List (List ℕ))) (start : Found) (old : List ℕ) (acts : List Act) → RunStands H.digest_of V.accepted S.verified lines start old (λ done. K.has keeper.old (done ++ acts)) asker.old (self.old).said.text.items (self.old).state (W.contents writer.old)
+            → StateIsKept H.digest_of V.accepted S.verified lines (asker.old).key start old (λ done. K.has keeper.new (done ++ acts)) (self.new).state (W.contents writer.new)
+            × OnOk result (RunStands H.digest_of V.accepted S.verified lines start old (λ done. K.has keeper.new (done ++ acts)) asker.new (self.new).said.text.items (self.new).state (W.contents writer.new)) }
+        ensures marks { OnOk result ((lines : Option (List (List ℕ))) (start : Found) (old : List ℕ) (acts : List Act) → RunStands H.digest_of V.accepted S.verified lines start old (λ done. K.has keeper.old (done ++ acts)) asker.old (self.old).said.text.items (self.old).state (W.contents writer.old)
+            → MarksOn (self.old).state asker.old.monitors.items (self.new).state asker.new.monitors.items) }
+        ensures stays { background_of asker.new ≡ background_of asker.old }
+        ensures changes { asker.new.changes ≡ asker.old.changes }
+        ensures faults { IfErr result (StopsOr IsFaultOfSaving) }
+        ensures grows { Grows (W.contents writer.old) (W.contents writer.new) }
+        ensures rises { (self.old).said.status ≤ (self.new).said.status }
+        ensures limit { IsSameLimit (self.old).limit (self.new).limit }
+        ensures none { OnOk result ((self.old).state ≡ None → (self.new).state ≡ None) }
+        ensures low { OnOk result ((lines : Option (List (List ℕ))) (start : Found) (old : List ℕ) (acts : List Act) → RunStands H.digest_of V.accepted S.verified lines start old (λ done. K.has keeper.old (done ++ acts)) asker.old (self.old).said.text.items (self.old).state (W.contents writer.old)
+            → (low : ℕ) → IsUpTo asker.old.client low → epoch ≤ low → IfSome (self.new).state (λ state. Fits low state.memory)) }
+        ensures noted { HasNoted asker.old (self.old).limit → (seen : Scene T) × ((seen ≡ scene asker.old (self.old).said stream.old)
+            ⊎ (CatchesSome H.digest_of V.accepted S.verified (ExchangesFrames T.contents T.remaining) epoch (scene asker.old (self.old).said stream.old) seen ⊎ StopsBelow H.digest_of V.accepted S.verified (ExchangesFrames T.contents T.remaining) epoch (scene asker.old (self.old).said stream.old) seen))
+            × HasNotedAs (IsLast (asker.old).marks.items seen.client seen.monitors) (self.new).limit }
+    {
+        for _list in 0..MAX_LISTS {
+            if !self.advance(asker, epoch, keeper, stream, writer, errors)? {
+                return Ok(());
+            }
+        }
+        self.settle(asker, Err(AskFault::Stopped), keeper, writer, errors)
+    }
+
+    /// Takes the next list of roots on the way to an epoch. If one more is needed behind it, what is told is written, and the
+    /// state kept. Returns whether that was done.
+    fn advance<K, T, W, E, H, V, S>(
+        &mut self,
+        asker: &mut Asker<H, V, S>,
+        epoch: u64,
+        keeper: &mut K,
+        stream: &mut T,
+        writer: &mut W,
+        errors: &mut E,
+    ) -> Result<bool, RunFault>
+    where
+        K: Keeper,
+        T: Read + Write,
+        W: Write,
+        E: Write,
+        H: NodeHash + Drop,
+        V: VufCheck + Drop,
+        S: Verifier + Drop,
+        ensures advances { IfOk result (λ goes. AdvancesOnce H.digest_of V.accepted S.verified (ExchangesFrames T.contents T.remaining) (background_of asker.old) epoch (scene asker.old (self.old).said stream.old) (W.contents writer.old) goes (W.contents writer.new) (scene asker.new (self.new).said stream.new)) }
+        ensures part { OnErr result ((reached : Scene T) × AdvancesPart H.digest_of V.accepted S.verified (ExchangesFrames T.contents T.remaining) (background_of asker.old) epoch (scene asker.old (self.old).said stream.old) reached
+            × HoldsBack (result ≡ Err (Program CannotWrite)) (W.contents writer.new) (self.new).said reached.told (W.contents writer.old)) }
+        ensures stops { result ≡ Err (OfQuestion Stopped) → (reached : Scene T) × IsBelow epoch asker.old.client × StopsList H.digest_of S.verified (ExchangesFrames T.contents T.remaining) (scene asker.old (self.old).said stream.old) reached
+            × HoldsBack ⊥ (W.contents writer.new) (self.new).said reached.told (W.contents writer.old) }
+        ensures waits { result ≡ Ok false → (self.new).state ≡ (self.old).state }
+        ensures none { OnOk result ((self.old).state ≡ None → (self.new).state ≡ None) }
+        ensures keeps { result ≡ Ok true → (told : List ℕ) × Appends (W.contents writer.old) (W.contents writer.new) told × KeepsUp asker.new told (self.old).state (self.new).state }
+        ensures stands { (lines : Option (List (List ℕ))) (start : Found) (old : List ℕ) (acts : List Act) → RunStands H.digest_of V.accepted S.verified lines start old (λ done. K.has keeper.old (done ++ acts)) asker.old (self.old).said.text.items (self.old).state (W.contents writer.old)
+            → StateIsKept H.digest_of V.accepted S.verified lines (asker.old).key start old (λ done. K.has keeper.new (done ++ acts)) (self.new).state (W.contents writer.new)
+            × OnOk result (RunStands H.digest_of V.accepted S.verified lines start old (λ done. K.has keeper.new (done ++ acts)) asker.new (self.new).said.text.items (self.new).state (W.contents writer.new)) }
+        ensures marks { OnOk result ((lines : Option (List (List ℕ))) (start : Found) (old : List ℕ) (acts : List Act) → RunStands H.digest_of V.accepted S.verified lines start old (λ done. K.has keeper.old (done ++ acts)) asker.old (self.old).said.text.items (self.old).state (W.contents writer.old)
+            → MarksOn (self.old).state asker.old.monitors.items (self.new).state asker.new.monitors.items) }
+        ensures stays { background_of asker.new ≡ background_of asker.old }
+        ensures changes { asker.new.changes ≡ asker.old.changes }
+        ensures faults { IfErr result (StopsOr IsFaultOfSaving) }
+        ensures grows { Grows (W.contents writer.old) (W.contents writer.new) }
+        ensures rises { (self.old).said.status ≤ (self.new).said.status }
+        ensures limit { IsSameLimit (self.old).limit (self.new).limit }
+        ensures notes { result ≡ Ok true → HasNoted asker.new (self.new).limit }
+        ensures noted { HasNoted asker.old (self.old).limit → (seen : Scene T) × ((seen ≡ scene asker.old (self.old).said stream.old)
+            ⊎ AdvancesPart H.digest_of V.accepted S.verified (ExchangesFrames T.contents T.remaining) (background_of asker.old) epoch (scene asker.old (self.old).said stream.old) seen)
+            × HasNotedAs (IsLast (asker.old).marks.items seen.client seen.monitors) (self.new).limit }
+    {
+        let advanced = asker.advance(stream, epoch, &mut self.said);
+        if advanced == Ok(false) {
+            return Ok(false);
+        }
+        self.settle(asker, answered(advanced), keeper, writer, errors)?;
+        Ok(true)
+    }
+
+    /// Hears the latest root, and tests the promises that are due, which is said.
     fn look_around<T, H, V, S>(
         &mut self,
         asker: &mut Asker<H, V, S>,
+        reply: &Reply,
         stream: &mut T,
     ) -> Result<(), AskFault>
     where
@@ -511,47 +624,18 @@ impl Run {
         H: NodeHash + Drop,
         V: VufCheck + Drop,
         S: Verifier + Drop,
-        ensures prepares { OnOk result (Prepares H.digest_of V.accepted S.verified (ExchangesFrames T.contents T.remaining) (background_of asker.old) ((self.old).state ≡ None) (scene asker.old (self.old).said stream.old) (scene asker.new (self.new).said stream.new)) }
-        ensures reaches { (reached : Scene T) × PreparesSome H.digest_of V.accepted S.verified (ExchangesFrames T.contents T.remaining) (background_of asker.old) ((self.old).state ≡ None) (scene asker.old (self.old).said stream.old) reached × (report_of (self.new).said ≡ reached.told) }
-        ensures stands { result ≢ Err NoMemory → (reached : Scene T) × PreparesSome H.digest_of V.accepted S.verified (ExchangesFrames T.contents T.remaining) (background_of asker.old) ((self.old).state ≡ None) (scene asker.old (self.old).said stream.old) reached
+        ensures looks { (frame : Frame) → HoldsFrame reply.now.bytes.items frame → OnOk result ((middle : Scene T) × HearsHead H.digest_of V.accepted S.verified (ExchangesFrames T.contents T.remaining) reply.now.held frame (scene asker.old (self.old).said stream.old) middle
+            × TestsAll H.digest_of V.accepted (ExchangesFrames T.contents T.remaining) (asker.old).marks.items middle (scene asker.new (self.new).said stream.new)) }
+        ensures reaches { (frame : Frame) → HoldsFrame reply.now.bytes.items frame → (reached : Scene T) × LooksSome H.digest_of V.accepted S.verified (ExchangesFrames T.contents T.remaining) (background_of asker.old) reply.now.held frame (scene asker.old (self.old).said stream.old) reached × (report_of (self.new).said ≡ reached.told) }
+        ensures stands { result ≢ Err NoMemory → (frame : Frame) → HoldsFrame reply.now.bytes.items frame → (reached : Scene T) × LooksSome H.digest_of V.accepted S.verified (ExchangesFrames T.contents T.remaining) (background_of asker.old) reply.now.held frame (scene asker.old (self.old).said stream.old) reached
             × (report_of (self.new).said ≡ reached.told) × (asker.new.client ≡ reached.client) × (asker.new.monitors.items ≡ reached.monitors) }
         ensures stays { background_of asker.new ≡ background_of asker.old }
         ensures still { (self.new).state ≡ (self.old).state }
         ensures changes { asker.new.changes ≡ asker.old.changes }
-        ensures rises { (self.old).said.status ≤ (self.new).said.status }
         ensures limit { (self.new).limit ≡ (self.old).limit }
     {
-        self.take_new(asker, stream)?;
+        asker.hear_head(reply, &mut self.said)?;
         asker.test_promises(stream, &mut self.said)
-    }
-
-    /// Lets the client take the roots that are new. Where there is a state, it first asks for the latest one, and
-    /// takes those up to it: so a directory that went back, or shows another history, is seen.
-    fn take_new<T, H, V, S>(
-        &mut self,
-        asker: &mut Asker<H, V, S>,
-        stream: &mut T,
-    ) -> Result<(), AskFault>
-    where
-        T: Read + Write,
-        H: NodeHash + Drop,
-        V: VufCheck + Drop,
-        S: Verifier + Drop,
-        ensures takes { OnOk result (TakesNew H.digest_of V.accepted S.verified (ExchangesFrames T.contents T.remaining) (background_of asker.old) ((self.old).state ≡ None) (scene asker.old (self.old).said stream.old) (scene asker.new (self.new).said stream.new)) }
-        ensures part { OnErr result ((reached : Scene T) × TakesSomeNew H.digest_of V.accepted S.verified (ExchangesFrames T.contents T.remaining) (background_of asker.old) ((self.old).state ≡ None) (scene asker.old (self.old).said stream.old) reached × (report_of (self.new).said ≡ reached.told)) }
-        ensures stands { result ≢ Err NoMemory → (reached : Scene T) × (TakesSomeNew H.digest_of V.accepted S.verified (ExchangesFrames T.contents T.remaining) (background_of asker.old) ((self.old).state ≡ None) (scene asker.old (self.old).said stream.old) reached
-            ⊎ TakesNew H.digest_of V.accepted S.verified (ExchangesFrames T.contents T.remaining) (background_of asker.old) ((self.old).state ≡ None) (scene asker.old (self.old).said stream.old) reached)
-            × (report_of (self.new).said ≡ reached.told) × (asker.new.client ≡ reached.client) × (asker.new.monitors.items ≡ reached.monitors) }
-        ensures stays { background_of asker.new ≡ background_of asker.old }
-        ensures still { (self.new).state ≡ (self.old).state }
-        ensures changes { asker.new.changes ≡ asker.old.changes }
-        ensures rises { (self.old).said.status ≤ (self.new).said.status }
-        ensures limit { (self.new).limit ≡ (self.old).limit }
-    {
-        if self.state.is_none() {
-            return asker.follow(stream, &mut self.said);
-        }
-        asker.check_head(stream, &mut self.said)
     }
 
     /// Asks each line of the input.
@@ -642,10 +726,58 @@ impl Run {
         let Some(line) = read_line(self.alloc, line)? else {
             return not_a_command;
         };
-        let Some(asked) = ask_said(asker, stream, &line, &mut self.said) else {
-            return not_a_command;
-        };
-        self.settle(asker, asked, keeper, writer, errors)
+        match &line {
+            Line::Pass => self.settle(asker, Ok(()), keeper, writer, errors),
+            Line::Ask(ask) => self.ask_directory(asker, keeper, stream, ask, writer, errors),
+            Line::Watch { name, key } => {
+                let watched = asker.watch(stream, name, key.as_ref(), &mut self.said);
+                self.settle(asker, watched, keeper, writer, errors)
+            }
+            Line::Piece { .. } => not_a_command,
+            Line::End { .. } => not_a_command,
+        }
+    }
+
+    /// Asks the directory something. The roots up to its reply are taken before that is heard.
+    fn ask_directory<K, T, W, E, H, V, S>(
+        &mut self,
+        asker: &mut Asker<H, V, S>,
+        keeper: &mut K,
+        stream: &mut T,
+        ask: &Ask,
+        writer: &mut W,
+        errors: &mut E,
+    ) -> Result<(), RunFault>
+    where
+        K: Keeper,
+        T: Read + Write,
+        W: Write,
+        E: Write,
+        H: NodeHash + Drop,
+        V: VufCheck + Drop,
+        S: Verifier + Drop,
+        ensures asks { OnOk result (Writes (DoesLine H.digest_of V.accepted S.verified (ExchangesFrames T.contents T.remaining) (background_of asker.old) (Asked (ask_seen ask.now)))
+            (scene asker.old (self.old).said stream.old) (W.contents writer.old) (W.contents writer.new) (scene asker.new (self.new).said stream.new)) }
+        ensures part { (reached : Scene T) × DoesSome H.digest_of V.accepted S.verified (ExchangesFrames T.contents T.remaining) (background_of asker.old) (Asked (ask_seen ask.now)) (scene asker.old (self.old).said stream.old) reached
+            × HoldsBack (result ≡ Err (Program CannotWrite)) (W.contents writer.new) (self.new).said reached.told (W.contents writer.old) }
+        ensures stands { (lines : Option (List (List ℕ))) (start : Found) (old : List ℕ) (acts : List Act) → IsSaid lines (Asked (ask_seen ask.now)) → RunStands H.digest_of V.accepted S.verified lines start old (λ done. K.has keeper.old (done ++ acts)) asker.old (self.old).said.text.items (self.old).state (W.contents writer.old)
+            → StateIsKept H.digest_of V.accepted S.verified lines (asker.old).key start old (λ done. K.has keeper.new (done ++ acts)) (self.new).state (W.contents writer.new)
+            × OnOk result (RunStands H.digest_of V.accepted S.verified lines start old (λ done. K.has keeper.new (done ++ acts)) asker.new (self.new).said.text.items (self.new).state (W.contents writer.new)) }
+        ensures marks { OnOk result ((lines : Option (List (List ℕ))) (start : Found) (old : List ℕ) (acts : List Act) → IsSaid lines (Asked (ask_seen ask.now)) → RunStands H.digest_of V.accepted S.verified lines start old (λ done. K.has keeper.old (done ++ acts)) asker.old (self.old).said.text.items (self.old).state (W.contents writer.old)
+            → MarksOn (self.old).state asker.old.monitors.items (self.new).state asker.new.monitors.items) }
+        ensures stays { background_of asker.new ≡ background_of asker.old }
+        ensures faults { IfErr result (StopsOr IsFaultOfSaving) }
+        ensures grows { Grows (W.contents writer.old) (W.contents writer.new) }
+        ensures rises { (self.old).said.status ≤ (self.new).said.status }
+        ensures limit { IsSameLimit (self.old).limit (self.new).limit }
+        ensures notes { OnOk result (HasNoted asker.new (self.new).limit) }
+        ensures noted { HasNoted asker.old (self.old).limit → (seen : Scene T) × DoesSome H.digest_of V.accepted S.verified (ExchangesFrames T.contents T.remaining) (background_of asker.old) (Asked (ask_seen ask.now)) (scene asker.old (self.old).said stream.old) seen
+            × HasNotedAs (IsLast (asker.old).marks.items seen.client seen.monitors) (self.new).limit }
+    {
+        let reply = asker.send(stream, ask)?;
+        self.catch_up(asker, reply.epoch(), keeper, stream, writer, errors)?;
+        let heard = asker.hear(stream, ask, &reply, &mut self.said);
+        self.settle(asker, heard, keeper, writer, errors)
     }
 
     /// Keeps the roots, promises and evidence that are new, and from where names are watched, writes what is said, and then
@@ -667,6 +799,7 @@ impl Run {
         V: VufCheck + Drop,
         S: Verifier + Drop,
         ensures asked { OnOk result (asked ≡ Ok tt) }
+        ensures gives { (fault : AskFault) → result ≡ Err (OfQuestion fault) → asked ≡ Err fault }
         ensures writes { OnOk result (Appends (W.contents writer.old) (W.contents writer.new) (self.old).said.text.items × (report_of (self.new).said ≡ emptied (self.old).said.status)) }
         ensures leaves { HoldsBack (result ≡ Err (Program CannotWrite)) (W.contents writer.new) (self.new).said (report_of (self.old).said) (W.contents writer.old) }
         ensures keeps { IsSettled result → KeepsUp asker.now (self.old).said.text.items (self.old).state (self.new).state }
@@ -895,35 +1028,14 @@ fn evidence_said(alloc: Global, known: &Memory) -> Result<Said, AllocError>
     Ok(said)
 }
 
-/// Asks what a line says, or nothing if that asks nothing of a directory.
-fn ask_said<T, H, V, S>(
-    asker: &mut Asker<H, V, S>,
-    stream: &mut T,
-    line: &Line,
-    said: &mut Said,
-) -> Option<Result<(), AskFault>>
-where
-    T: Read + Write,
-    H: NodeHash + Drop,
-    V: VufCheck + Drop,
-    S: Verifier + Drop,
-    ensures does { IfSome result (λ asked. OnOk asked (DoesLine H.digest_of V.accepted S.verified (ExchangesFrames T.contents T.remaining) (background_of asker.old) (line_seen line.now) (scene asker.old said.old stream.old) (scene asker.new said.new stream.new))) }
-    ensures whole { IfSome result (λ asked. OnOk asked (DoesLineNoting H.digest_of V.accepted S.verified (ExchangesFrames T.contents T.remaining) (background_of asker.old) (line_seen line.now) (asker_changes asker.old) (asker_changes asker.new) (scene asker.old said.old stream.old) (scene asker.new said.new stream.new))) }
-    ensures reaches { (reached : Scene T) × DoesSome H.digest_of V.accepted S.verified (ExchangesFrames T.contents T.remaining) (background_of asker.old) (line_seen line.now) (scene asker.old said.old stream.old) reached × (report_of said.new ≡ reached.told) }
-    ensures stands { IfSome result (λ asked. asked ≢ Err NoMemory → (reached : Scene T) × DoesSomeNoting H.digest_of V.accepted S.verified (ExchangesFrames T.contents T.remaining) (background_of asker.old) NoReply (line_seen line.now) (asker_changes asker.old) (asker_changes asker.new)
-        (scene asker.old said.old stream.old) reached × (report_of said.new ≡ reached.told) × (asker.new.client ≡ reached.client) × (asker.new.monitors.items ≡ reached.monitors)) }
-    ensures notes { IfSome result (λ asked. (fault : Fault) × (reached : Scene T) × DoesSomeNoting H.digest_of V.accepted S.verified (ExchangesFrames T.contents T.remaining) (background_of asker.old) fault (line_seen line.now) (asker_changes asker.old) (asker_changes asker.new)
-        (scene asker.old said.old stream.old) reached) }
-    ensures stays { background_of asker.new ≡ background_of asker.old }
-    ensures none { MatchOption result (CannotBeAsked (Some (line_seen line.now))) (λ asked. ⊤) }
-    ensures rises { said.old.status ≤ said.new.status }
+/// The fault of a question, if it had one.
+fn answered(asked: Result<bool, AskFault>) -> Result<(), AskFault>
+    ensures ok { OnOk asked (result ≡ Ok tt) }
+    ensures err { IfErr asked (λ fault. result ≡ Err fault) }
 {
-    match line {
-        Line::Pass => Some(Ok(())),
-        Line::Ask(ask) => Some(asker.ask(stream, ask, said)),
-        Line::Watch { name, key } => Some(asker.watch(stream, name, key.as_ref(), said)),
-        Line::Piece { .. } => None,
-        Line::End { .. } => None,
+    match asked {
+        Ok(_) => Ok(()),
+        Err(fault) => Err(fault),
     }
 }
 

@@ -4,7 +4,7 @@ ghost use Rattle.std.specs.Io.KnownBytes.{Appends, Keeps};
 ghost use Rattle.textio.specs.Output.{WritesSome};
 ghost use Rattle.textio.specs.declared.program_fault.ProgramFault.TheVariants.{BadHex};
 ghost use Rattle.asking.specs.AskOptions.{ask_keys_of, ask_values};
-ghost use Rattle.asking.specs.Ending.{AsksAs, AsksOverSocket, FailsAs, FailsLate, FailsOverSocket, IsNewFor, IsUnknown, RunsAs};
+ghost use Rattle.asking.specs.Ending.{AsksAs, AsksOverSocket, FailsAs, FailsLate, FailsOverSocket, IsNewFor, IsUnknown, RunsAs, TellsFault};
 ghost use Rattle.asking.specs.Lateness.{stale_line, IsSameLimit};
 ghost use Rattle.asking.specs.Exchanges.{ExchangesFrames};
 ghost use Rattle.asking.specs.Marking.{LeavesMarked};
@@ -40,7 +40,7 @@ const NO_CONNECTION: &[u8] = b"cannot connect\n";
 /// Asks what the words of an order ask, or the lines of the input, over a connection to its address, and
 /// writes the line of each answer. The words of refusals go to the errors. Words that settle a name ask nothing. Returns
 /// the status: 3 if evidence or an alarm is told, also one of an earlier run, or the last epoch is not as late as it is
-/// wanted; else 1 if the directory or the client refused, or no reply came; else 0.
+/// wanted; else 1 if the directory or the client refused, no reply came, or too many roots are new; else 0.
 ///
 /// # Errors
 ///
@@ -300,6 +300,7 @@ fn tell_late<W: Write, E: Write>(
     ensures stale { IfSome stale (λ epoch. ((result ≡ Ok (Stale epoch)) × Appends (W.contents writer.old) (W.contents writer.new) (stale_line epoch))
         ⊎ ((result ≡ Ok Unwritten) × WritesSome (W.contents writer.old) (W.contents writer.new) (stale_line epoch))) }
     ensures err { IfErr result (λ fault. ended ≡ Err fault) }
+    ensures tells { (epoch : ℕ) → result ≡ Ok (Stale epoch) → TellsFault ended (E.contents errors.old) (E.contents errors.new) }
     ensures grows { Grows (W.contents writer.old) (W.contents writer.new) }
 {
     let Some(epoch) = stale else {

@@ -1,6 +1,6 @@
 // The state of a run: what is remembered, and what of it was handed on to be kept. Each line is handed on before more is
 // told.
-ghost use Rattle.std.specs.Prelude.{◌≡◌, ◌⊎◌, ◌+◌, ◌<◌, ◌≤◌, ◌++◌, ◌∷◌, ℕ, [], false, true, List, None, Option, Some, Contains, drop, length, IfErr, IfOk, OnErr, OnOk};
+ghost use Rattle.std.specs.Prelude.{◌≡◌, ◌⊎◌, ◌+◌, ◌<◌, ◌≤◌, ◌++◌, ◌∷◌, ◌||◌, ℕ, [], false, true, if◌then◌else◌, List, None, Option, Some, Contains, drop, length, slice_index_or, IfErr, IfOk, IsTrue, OnErr, OnOk};
 ghost use Rattle.std.specs.List.{AllByRecursion};
 ghost use Rattle.rootchain.specs.Promises.{IsSignedPromise};
 ghost use Rattle.rootchain.specs.declared.signed_promise.SignedPromise.{SignedPromise as Signed};
@@ -10,7 +10,7 @@ ghost use Rattle.memory.specs.Memories.{nothing, Memory as Known};
 ghost use Rattle.memory.specs.Texts.{items_text, memory_text, TakesAll};
 ghost use Rattle.memory.specs.declared.item.Item.{Item as Remembered};
 ghost use Rattle.monitor.specs.Monitors.{Monitor as Watcher};
-ghost use Rattle.asking.specs.Keeping.{AreTested, LearnsAfter, LearnsBefore, LearnsPromises, MayMove};
+ghost use Rattle.asking.specs.Keeping.{AreTested, IsNewHead, LearnsAfter, LearnsBefore, LearnsPromises, MayMove};
 ghost use Rattle.asking.specs.Remembering.{AreWithin};
 ghost use Rattle.asking.specs.Reports.{report_of};
 ghost use Rattle.asking.specs.RunFaults.{IsFaultOfSaving, IsFaultOfState};
@@ -27,6 +27,7 @@ use rootchain::SignedPromise;
 use sigiface::Verifier;
 use std::alloc::{AllocError, Global};
 use std::io::Write;
+use std::mem;
 use textio::ProgramFault;
 use vrfiface::VufCheck;
 
@@ -52,6 +53,8 @@ pub(crate) struct State {
     count: usize,
     head: u64,
     monitors: usize,
+    /// Whether the head was new then.
+    was_new: bool,
 }
 
 /// What stands behind so many elements.
@@ -69,6 +72,48 @@ fn keep_also(kept: &mut Vec<SignedPromise>, promises: &[SignedPromise]) -> Resul
         kept.push(signed.copied())?;
     }
     Ok(())
+}
+
+/// Whether a promise is at a place of a list.
+fn is_at(promises: &[SignedPromise], place: usize, signed: &SignedPromise) -> bool
+    ensures { IsTrue result → (place < length promises.now) × ((d : Signed) → slice_index_or promises.now place d ≡ signed.now) }
+{
+    if place < promises.len() && promises[place] == *signed {
+        return true;
+    }
+    false
+}
+
+/// Keeps of some promises those that are the next of others. Returns whether these are all of the others.
+fn keep_next(
+    alloc: Global,
+    kept: &mut Vec<SignedPromise>,
+    promises: &[SignedPromise],
+) -> Result<bool, AllocError>
+    ensures { IfOk result (λ is_all. is_all ≡ true → kept.new.items ≡ promises.now) }
+{
+    let before = mem::replace(kept, Vec::new(alloc));
+    for signed in before {
+        if is_at(promises, kept.len(), &signed) {
+            kept.push(signed)?;
+        }
+    }
+    Ok(kept.len() == promises.len())
+}
+
+/// Makes some promises the same as others. Those that are there already are not copied.
+fn keep_same(
+    alloc: Global,
+    kept: &mut Vec<SignedPromise>,
+    promises: &[SignedPromise],
+) -> Result<(), AllocError>
+    ensures { OnOk result (kept.new.items ≡ promises.now) }
+{
+    if keep_next(alloc, kept, promises)? {
+        return Ok(());
+    }
+    kept.clear();
+    keep_also(kept, promises)
 }
 
 impl State {
@@ -89,6 +134,7 @@ impl State {
             count: 0,
             head: 0,
             monitors: 0,
+            was_new: false,
         }
     }
 
@@ -168,7 +214,7 @@ impl State {
         S: Verifier + Drop,
         ensures err { IfErr result IsFaultOfSaving }
         ensures learns { OnOk result (LearnsBefore (drop (self.old).changes asker.now.changes.items) asker.now.client.promises told.now (drop (self.old).monitors asker.now.monitors.items) (self.old).memory (self.new).memory) }
-        ensures looked { ((self.new).head ≡ (self.old).head) × ((self.new).monitors ≡ (self.old).monitors) }
+        ensures looked { ((self.new).head ≡ (self.old).head) × ((self.new).monitors ≡ (self.old).monitors) × ((self.new).was_new ≡ (self.old).was_new) }
         ensures changes { OnOk result ((self.new).changes ≡ length asker.now.changes.items) }
         ensures up_to { OnOk result (IsUpTo asker.now.client (self.new).epoch) }
         ensures kept { (lines : Option (List (List ℕ))) (key : List ℕ) (start : Found) (old : List ℕ) (acts : List Act) → AreAsked lines start.known asker.now.changes.items × AreLate (self.old).memory (drop (self.old).changes asker.now.changes.items) → IsKept H.digest_of V.accepted S.verified lines key start old (λ done. K.has keeper.old (done ++ acts)) (self.old).epoch (self.old).memory [] (W.contents writer.now)
@@ -210,9 +256,9 @@ impl State {
         V: VufCheck + Drop,
         S: Verifier + Drop,
         ensures err { IfErr result IsFaultOfSaving }
-        ensures learns { OnOk result ((some : List Watcher) × MayMove asker.now.client.chain (self.old).head (self.old).monitors asker.now.monitors.items some
+        ensures learns { OnOk result ((some : List Watcher) × MayMove asker.now.client.chain (self.old).head (self.old).was_new (self.old).monitors asker.now.monitors.items some
             × LearnsAfter told.now asker.now.monitors.items some (self.old).memory (self.new).memory) }
-        ensures looked { OnOk result (((self.new).monitors ≡ length asker.now.monitors.items) × IsHeadEpoch asker.now.client.chain (self.new).head) }
+        ensures looked { OnOk result (((self.new).monitors ≡ length asker.now.monitors.items) × IsHeadEpoch asker.now.client.chain (self.new).head × IsNewHead asker.now.client.chain (self.old).head (self.new).was_new) }
         ensures changes { (self.new).changes ≡ (self.old).changes }
         ensures kept { (lines : Option (List (List ℕ))) (key : List ℕ) (start : Found) (old : List ℕ) (acts : List Act) → IsUpTo asker.now.client (self.old).epoch
             → Stands H.digest_of V.accepted S.verified lines key start old (λ done. K.has keeper.old (done ++ acts)) (self.old).epoch (self.old).memory [] (W.contents writer.now) asker.now.changes.items (standing asker.now.client asker.now.monitors.items [])
@@ -243,7 +289,7 @@ impl State {
         V: VufCheck + Drop,
         S: Verifier + Drop,
         ensures err { IfErr result IsFaultOfSaving }
-        ensures same { ((self.new).memory ≡ (self.old).memory) × ((self.new).changes ≡ (self.old).changes) × ((self.new).head ≡ (self.old).head) × ((self.new).monitors ≡ (self.old).monitors) }
+        ensures same { ((self.new).memory ≡ (self.old).memory) × ((self.new).changes ≡ (self.old).changes) × ((self.new).head ≡ (self.old).head) × ((self.new).monitors ≡ (self.old).monitors) × ((self.new).was_new ≡ (self.old).was_new) }
         ensures hands { (acts : List Act) → K.has keeper.old acts → K.has keeper.new (AddsRoots (roots_above (self.old).epoch asker.now.client.chain.roots) (W.contents writer.now) ∷ acts) }
         ensures rises { (self.old).epoch ≤ (self.new).epoch }
         ensures exact { ((self.new).epoch ≡ (self.old).epoch) ⊎ IsHeadEpoch asker.now.client.chain (self.new).epoch }
@@ -258,13 +304,12 @@ impl State {
     fn note_tested(&mut self, promises: &[SignedPromise]) -> Result<(), AllocError>
         ensures tested { OnOk result (((length promises.now ≡ (self.old).count) × ((self.new).has_tested ≡ (self.old).has_tested) × ((self.new).kept ≡ (self.old).kept))
             ⊎ (((self.new).has_tested ≡ true) × ((self.new).kept.items ≡ promises.now))) }
-        ensures same { ((self.new).memory ≡ (self.old).memory) × ((self.new).epoch ≡ (self.old).epoch) × ((self.new).changes ≡ (self.old).changes) × ((self.new).head ≡ (self.old).head) × ((self.new).monitors ≡ (self.old).monitors) }
+        ensures same { ((self.new).memory ≡ (self.old).memory) × ((self.new).epoch ≡ (self.old).epoch) × ((self.new).changes ≡ (self.old).changes) × ((self.new).head ≡ (self.old).head) × ((self.new).monitors ≡ (self.old).monitors) × ((self.new).was_new ≡ (self.old).was_new) }
     {
         if promises.len() != self.count {
             // Where memory runs out, none counts as tested.
             self.has_tested = false;
-            self.kept.clear();
-            keep_also(&mut self.kept, promises)?;
+            keep_same(self.alloc, &mut self.kept, promises)?;
             self.has_tested = true;
             self.count = promises.len();
         }
@@ -303,7 +348,7 @@ impl State {
         ensures some { OnErr result (KeepsMarks (self.old).memory (self.new).memory) }
         ensures own { AddsOwn (drop (self.old).changes asker.now.changes.items) (self.old).memory (self.new).memory }
         ensures changes { OnOk result ((self.new).changes ≡ length asker.now.changes.items) }
-        ensures same { ((self.new).epoch ≡ (self.old).epoch) × ((self.new).head ≡ (self.old).head) × ((self.new).monitors ≡ (self.old).monitors) }
+        ensures same { ((self.new).epoch ≡ (self.old).epoch) × ((self.new).head ≡ (self.old).head) × ((self.new).monitors ≡ (self.old).monitors) × ((self.new).was_new ≡ (self.old).was_new) }
     {
         let fresh = self.memory.fresh(asker.client.promises());
         keep_also(&mut self.kept, fresh)?;
@@ -313,6 +358,27 @@ impl State {
         self.changes = asker.changes.len();
         self.count = self.count.saturating_add(fresh.len());
         Ok(())
+    }
+
+    /// Whether the head is another one than when it was last looked.
+    fn has_new_head<H, V, S>(&self, asker: &Asker<H, V, S>) -> bool
+    where
+        H: NodeHash + Drop,
+        V: VufCheck + Drop,
+        S: Verifier + Drop,
+        ensures { IsNewHead asker.now.client.chain (self.now).head result }
+    {
+        asker.head() != self.head
+    }
+
+    /// How many monitors need not be looked at again. Behind new roots all do once more: one that was held up may go on.
+    fn looked_at(&self, is_new: bool) -> usize
+        ensures { result ≡ (if is_new || (self.now).was_new then 0 else (self.now).monitors) }
+    {
+        if is_new || self.was_new {
+            return 0;
+        }
+        self.monitors
     }
 
     /// Learns how far names were watched, and appends the lines of what is new. While no root is new, the marks of new
@@ -326,23 +392,21 @@ impl State {
         H: NodeHash + Drop,
         V: VufCheck + Drop,
         S: Verifier + Drop,
-        ensures learns { OnOk result ((some : List Watcher) × (news : List Remembered) × MayMove asker.now.client.chain (self.old).head (self.old).monitors asker.now.monitors.items some
+        ensures learns { OnOk result ((some : List Watcher) × (news : List Remembered) × MayMove asker.now.client.chain (self.old).head (self.old).was_new (self.old).monitors asker.now.monitors.items some
             × Each (MarksOne asker.now.monitors.items) some (self.old).memory news (self.new).memory × (lines.new.items ≡ lines.old.items ++ items_text news)) }
         ensures takes { OnOk result ((news : List Remembered) × TakesAll news (self.old).memory (self.new).memory × (lines.new.items ≡ lines.old.items ++ items_text news)) }
         ensures taken { OnErr result ((news : List Remembered) × TakesAll news (self.old).memory (self.new).memory) }
         ensures some { OnErr result ((done : List Watcher) × (news : List Remembered) × AllByRecursion (Contains asker.now.monitors.items) done × Each (MarksOne asker.now.monitors.items) done (self.old).memory news (self.new).memory) }
-        ensures looked { OnOk result (((self.new).monitors ≡ length asker.now.monitors.items) × IsHeadEpoch asker.now.client.chain (self.new).head) }
+        ensures looked { OnOk result (((self.new).monitors ≡ length asker.now.monitors.items) × IsHeadEpoch asker.now.client.chain (self.new).head × IsNewHead asker.now.client.chain (self.old).head (self.new).was_new) }
         ensures same { ((self.new).epoch ≡ (self.old).epoch) × ((self.new).changes ≡ (self.old).changes) }
     {
         let monitors = &asker.monitors;
-        let known = if asker.head() == self.head {
-            self.monitors
-        } else {
-            0
-        };
+        let is_new = self.has_new_head(asker);
+        let known = self.looked_at(is_new);
         self.memory
             .mark_watched(monitors, behind(monitors, known), lines)?;
         self.head = asker.head();
+        self.was_new = is_new;
         self.monitors = monitors.len();
         Ok(())
     }
@@ -403,7 +467,7 @@ impl State {
         lines: &[u8],
     ) -> Result<(), ProgramFault>
         ensures err { IfErr result IsFaultOfSaving }
-        ensures same { ((self.new).memory ≡ (self.old).memory) × ((self.new).epoch ≡ (self.old).epoch) × ((self.new).changes ≡ (self.old).changes) × ((self.new).head ≡ (self.old).head) × ((self.new).monitors ≡ (self.old).monitors) }
+        ensures same { ((self.new).memory ≡ (self.old).memory) × ((self.new).epoch ≡ (self.old).epoch) × ((self.new).changes ≡ (self.old).changes) × ((self.new).head ≡ (self.old).head) × ((self.new).monitors ≡ (self.old).monitors) × ((self.new).was_new ≡ (self.old).was_new) }
         ensures hands { (acts : List Act) → K.has keeper.old acts → ((lines.now ≡ []) × K.has keeper.new acts) ⊎ K.has keeper.new (AddsLines lines.now (W.contents writer.now) ∷ acts) }
     {
         if !lines.is_empty() {

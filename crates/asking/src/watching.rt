@@ -11,7 +11,7 @@ ghost use Rattle.asking.specs.Exchanges.{ExchangesFrames};
 ghost use Rattle.asking.specs.Refused.{client_refuses};
 ghost use Rattle.asking.specs.Scenes.{scene, GivesBody, HaltsAfter, HaltsIn, Remains, StaysWhole};
 ghost use Rattle.asking.specs.Reports.{report_of, silent, Report, Tells};
-ghost use Rattle.asking.specs.Watching.{step_told, GoesOn, GoesSome, StepsOnce, StepsSome, StepsThrough, WatchesAt, WatchesEpoch};
+ghost use Rattle.asking.specs.Watching.{step_told, AllStep, GoesOn, GoesSome, SomeStep, StepsOnce, StepsSome, StepsThrough, WatchesAt, WatchesEpoch};
 ghost use Rattle.asking.specs.declared.ask_fault.AskFault.TheVariants.{Stopped};
 
 use crate::answering::ask_for;
@@ -49,10 +49,25 @@ where
         ensures err { IfErr result (λ fault. fault ≢ Stopped) }
         ensures halts { IfErr result (λ fault. HaltsAfter (GoesSome H.digest_of V.accepted (ExchangesFrames T.contents T.remaining) (asker_marks self.old) (scene self.old said.old stream.old)) fault self.new said.new) }
     {
+        self.step_all(stream, said)?;
+        self.test_promises(stream, said)
+    }
+
+    /// Lets each monitor watch the epochs that are new, up to one whose proof is refused.
+    pub(crate) fn step_all<T: Read + Write>(
+        &mut self,
+        stream: &mut T,
+        said: &mut Said,
+    ) -> Result<(), AskFault>
+        ensures steps { OnOk result (AllStep H.digest_of V.accepted (ExchangesFrames T.contents T.remaining) (length (self.old).monitors.items) (scene self.old said.old stream.old) 0 (scene self.new said.new stream.new)) }
+        ensures stays { StaysWhole self.old self.new }
+        ensures err { IfErr result (λ fault. fault ≢ Stopped) }
+        ensures halts { IfErr result (λ fault. HaltsAfter (SomeStep H.digest_of V.accepted (ExchangesFrames T.contents T.remaining) (length (self.old).monitors.items) (scene self.old said.old stream.old) 0) fault self.new said.new) }
+    {
         for place in 0..self.monitors.len() {
             self.step_through(stream, place, said)?;
         }
-        self.test_promises(stream, said)
+        Ok(())
     }
 
     /// Notes the last promise that the client kept, of which these are the bytes, as one for a change of its own,

@@ -3,14 +3,17 @@
 #![tactic(auto)]
 
 use anyhow::{Context, Result, bail, ensure};
-use asking::{AskFault, Asker, Checks, Said};
+use asking::{AskFault, Asker, Checks, MAX_LISTS, Said};
 use commands::Verb;
 use encoding::{Hash32, KeyData, Name};
+use nodehash::NodeHash;
 use play::Ask;
+use sigiface::Verifier;
 use std::net::TcpStream;
 use std::time::Duration;
 use std::{env, str, thread};
 use textio::option_hex32;
+use vrfiface::VufCheck;
 
 fn main(rt: HostRuntime) -> Result<()> {
     let alloc = rt.alloc();
@@ -33,7 +36,7 @@ fn main(rt: HostRuntime) -> Result<()> {
     let mut asker = tell(&rt, begun, said)?;
     // Look the name up, and watch it from the latest epoch on. If it has a key, that has to be the owner's.
     let name = Vec::from_slice(alloc, owned.bytes())?;
-    let asked = asker.ask(stream, &Ask::Lookup { name, epoch: 0 }, said);
+    let asked = ask(&mut asker, stream, &Ask::Lookup { name, epoch: 0 }, said);
     let is_bound = said.text.starts_with(b"present");
     tell(&rt, asked, said)?;
     let expected = if is_bound { Some(&expected) } else { None };
@@ -42,16 +45,69 @@ fn main(rt: HostRuntime) -> Result<()> {
         // The client keeps the promise, and the monitor expects the key from the next epoch on.
         let verb = Verb::Register;
         let name = Vec::from_slice(alloc, owned.bytes())?;
-        let asked = asker.ask(stream, &Ask::Put { verb, name, key }, said);
+        let asked = ask(&mut asker, stream, &Ask::Put { verb, name, key }, said);
         tell(&rt, asked, said)?;
     }
     // Follow the chain. At each new root, the monitor looks the name up, and the promise is tested if it is due.
     for _ in 0..seconds {
         thread::sleep(&rt, Duration::from_secs(1));
-        tell(&rt, asker.follow(stream, said), said)?;
-        tell(&rt, asker.go_on(stream, said), said)?;
+        tell(&rt, follow(&mut asker, stream, said), said)?;
     }
     Ok(())
+}
+
+/// Takes the roots up to an epoch, list by list. A real client stores them behind each.
+fn catch_up<H, V, S>(
+    asker: &mut Asker<H, V, S>,
+    stream: &mut TcpStream,
+    epoch: u64,
+    said: &mut Said,
+) -> Result<(), AskFault>
+where
+    H: NodeHash + Drop,
+    V: VufCheck + Drop,
+    S: Verifier + Drop,
+{
+    for _ in 0..MAX_LISTS {
+        if !asker.advance(stream, epoch, said)? {
+            return Ok(());
+        }
+    }
+    Err(AskFault::Stopped)
+}
+
+/// Asks something, and hears the reply.
+fn ask<H, V, S>(
+    asker: &mut Asker<H, V, S>,
+    stream: &mut TcpStream,
+    ask: &Ask,
+    said: &mut Said,
+) -> Result<(), AskFault>
+where
+    H: NodeHash + Drop,
+    V: VufCheck + Drop,
+    S: Verifier + Drop,
+{
+    let reply = asker.send(stream, ask)?;
+    catch_up(asker, stream, reply.epoch(), said)?;
+    asker.hear(stream, ask, &reply, said)
+}
+
+/// Takes the roots that are new, looks the name up in each, and tests promises.
+fn follow<H, V, S>(
+    asker: &mut Asker<H, V, S>,
+    stream: &mut TcpStream,
+    said: &mut Said,
+) -> Result<(), AskFault>
+where
+    H: NodeHash + Drop,
+    V: VufCheck + Drop,
+    S: Verifier + Drop,
+{
+    let reply = asker.send(stream, &Ask::Head)?;
+    catch_up(asker, stream, reply.epoch(), said)?;
+    asker.hear_head(&reply, said)?;
+    asker.go_on(stream, said)
 }
 
 /// Prints what was said, and fails if something was refused or no reply came. An alarm is no failure.

@@ -291,8 +291,8 @@ impl Memory {
     }
 }
 
-/// Behind which epoch the watching of a name begins that this monitor watches.
-fn begins_behind<H, V, S>(monitor: &Monitor<H, V, S>) -> u64
+/// Behind which epoch the watching of a name begins that this monitor watches: the one before the first root of its chain.
+pub fn begins_behind<H, V, S>(monitor: &Monitor<H, V, S>) -> u64
 where
     H: NodeHash,
     V: VufCheck,

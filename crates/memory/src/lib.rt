@@ -35,6 +35,7 @@ pub use laws::{
     changed_memory_is_spelled, line_is_one_item, lines_extend_memory, memory_stays_sound,
     memory_text_is_whole_lines, spelled_memory_is_sound, text_is_one_memory, text_spells_memory,
 };
+pub use learning::begins_behind;
 pub use mark::Mark;
 pub use memory::Memory;
 pub use promised::Promised;

@@ -135,12 +135,12 @@ directory's latest root. Evidence and alarms of earlier runs are told again; the
 alarms of a name from FILE.kept, and ask ADDR nothing.
 
 With --after EPOCH the words `watch NAME KEY` and `head` end with the line `stale E` and status 3 if E, the last
-epoch that was watched of the name, or the head's, is not above EPOCH. Before any was watched, E is the epoch
-before the first to watch, or 0.
+epoch that was watched of the name, or the head's, is not above EPOCH. Before any was watched, E is 0.
 
 Status 3: the provider was caught, by evidence or a promise that was not kept, a name is not as expected, or an
 epoch is stale.
-Status 1: nothing can be said today, since something was refused, or no reply came.
+Status 1: nothing can be said today, since something was refused, no reply came, or more roots are new than a run
+takes.
 
 Example: directoryd ask --provider provider.txt --state roots.txt --text 127.0.0.1:7000 lookup alice 0";
 

@@ -1,6 +1,6 @@
 use Rattle.asking.specs.Saves.{IsAsked, IsAskedChange, IsOwnPromise}
 use Rattle.asking.proofs.MarkedRuns.{watched-over-runs}
-use Rattle.asking.proofs.StateRuns.{marks-over-runs, own-over-runs, roots-over-runs, spelled-over-runs, told-over-runs}
+use Rattle.asking.proofs.StateRuns.{awaited-over-runs, marks-over-runs, own-over-runs, roots-over-runs, spelled-over-runs, told-over-runs}
 use Rattle.asking.proofs.laws.stored_marks_are_told.Goals as goal
 
 pub returns-clause-loads : goal.returns-clause-loads
@@ -11,6 +11,9 @@ returns-clause-told g c = λ key. told-over-runs g.H.NodeHash.digest_of g.V.VufC
 
 pub returns-clause-stay : goal.returns-clause-stay
 returns-clause-stay g c = λ key. marks-over-runs g.H.NodeHash.digest_of g.V.VufCheck.accepted IsAsked (IsOwnPromise g.S.Verifier.verified key) IsAskedChange
+
+pub returns-clause-awaits : goal.returns-clause-awaits
+returns-clause-awaits g c = λ key. awaited-over-runs g.H.NodeHash.digest_of g.V.VufCheck.accepted IsAsked (IsOwnPromise g.S.Verifier.verified key) IsAskedChange
 
 pub returns-clause-own : goal.returns-clause-own
 returns-clause-own g c = λ key. own-over-runs g.H.NodeHash.digest_of g.V.VufCheck.accepted IsAsked (IsOwnPromise g.S.Verifier.verified key) IsAskedChange

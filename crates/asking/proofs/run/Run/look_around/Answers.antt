@@ -1,53 +1,56 @@
-use Rattle.std.proofs.Common.{◌≡◌, Err, None, ap, inl, inr, refl, rules, subst}
+use Rattle.std.proofs.Common.{◌≡◌, ◌∙◌, Err, Global, Vec, ap, inl, refl, rules, subst}
+use Rattle.memory.specs.declared.mark.Mark.{Mark}
 use Rattle.asking.specs.Exchanges.{ExchangesFrames}
-use Rattle.asking.specs.Runs.{background_of, Background}
+use Rattle.asking.specs.Runs.{background_of}
 use Rattle.asking.specs.Scenes.{scene}
 use Rattle.asking.specs.Visiting.{TestsAll}
-use Rattle.asking.proofs.Ended.{tested_reaches}
+use Rattle.asking.specs.declared.ask_fault.AskFault.{AskFault}
+use Rattle.asking.proofs.Ended.{looked_reaches}
 use Rattle.asking.proofs.Ran.{ok_then}
-use Rattle.asking.proofs.Rising.{rises_on, test_rises}
-use Rattle.asking.proofs.Standing.{passed-enough, taken_stands, tested_stands}
+use Rattle.asking.proofs.Standing.{looked_stands}
 use Rattle.asking.proofs.run.Run.look_around.Goals as goal
 
-pub returns-clause-prepares : goal.returns-clause-prepares
-returns-clause-prepares g c =
-    let middle = scene c.take_new.new.asker c.take_new.new.self.said c.take_new.new.stream in
+pub returns-clause-looks : goal.returns-clause-looks
+returns-clause-looks g c =
+    let middle = scene c.hear_head.new.self c.hear_head.new.said c.args.stream.now in
+    λ frame holds.
+    let (told, hears, tells) = c.in_ok-hear_head.ensures.finds frame holds in
     ok_then c.test_promises.result c.test_promises.ensures.tests (λ tests. (
       middle,
-      c.in_ok-take_new.ensures.takes,
-      subst (λ (b : Background). TestsAll g.H.NodeHash.digest_of g.V.VufCheck.accepted (ExchangesFrames g.T.Write.contents g.T.Read.remaining) b.marks middle (scene c.test_promises.new.self c.test_promises.new.said c.test_promises.new.stream)) c.in_ok-take_new.ensures.stays tests,
+      record { told = told; hears = hears; tells = tells; same = (c.in_ok-hear_head.ensures.monitors, refl) },
+      subst (λ (all : Vec Mark Global). TestsAll g.H.NodeHash.digest_of g.V.VufCheck.accepted (ExchangesFrames g.T.Write.contents g.T.Read.remaining) all.items middle (scene c.test_promises.new.self c.test_promises.new.said c.test_promises.new.stream)) c.in_ok-hear_head.ensures.stays.2 tests,
     ))
 
 pub returns-clause-reaches : goal.returns-clause-reaches
 returns-clause-reaches g c =
-    tested_reaches g.H.NodeHash.digest_of g.V.VufCheck.accepted g.S.Verifier.verified (ExchangesFrames g.T.Write.contents g.T.Read.remaining) (background_of c.args.asker.now) (c.args.self.now.state ≡ None) c.take_new.new.asker.marks.items c.test_promises.result
-    (scene c.args.asker.now c.args.self.now.said c.args.stream.now) (scene c.take_new.new.asker c.take_new.new.self.said c.take_new.new.stream)
+    λ frame holds.
+    let (told, hears, tells) = c.in_ok-hear_head.ensures.finds frame holds in
+    looked_reaches g.H.NodeHash.digest_of g.V.VufCheck.accepted g.S.Verifier.verified (ExchangesFrames g.T.Write.contents g.T.Read.remaining) (background_of c.args.asker.now) c.args.reply.now.held frame c.hear_head.new.self.marks.items c.test_promises.result
+    (scene c.args.asker.now c.args.self.now.said c.args.stream.now) (scene c.hear_head.new.self c.hear_head.new.said c.args.stream.now)
     (scene c.test_promises.new.self c.test_promises.new.said c.test_promises.new.stream) c.test_promises.new.self c.test_promises.new.said refl
-    (ap (λ (b : Background). b.marks) c.in_ok-take_new.ensures.stays) c.in_ok-take_new.ensures.takes c.test_promises.ensures.tests c.test_promises.ensures.halts
+    (ap (λ (all : Vec Mark Global). all.items) c.in_ok-hear_head.ensures.stays.2) (record { told = told; hears = hears; tells = tells; same = (c.in_ok-hear_head.ensures.monitors, refl) })
+    c.test_promises.ensures.tests c.test_promises.ensures.halts
 
-pub returns-in_err-take_new-clause-reaches : goal.returns-in_err-take_new-clause-reaches
-returns-in_err-take_new-clause-reaches g c =
-    let (reached, takes, same) = c.in_err-take_new.ensures.part in
-    (reached, inr (inl takes), same)
-
-pub returns-clause-rises : goal.returns-clause-rises
-returns-clause-rises g c =
-    let middle = scene c.take_new.new.asker c.take_new.new.self.said c.take_new.new.stream in
-    rises_on c.args.self.now.said.status c.take_new.new.self.said.status c.test_promises.new.said.status c.take_new.ensures.rises
-    (test_rises g.H.NodeHash.digest_of g.V.VufCheck.accepted g.S.Verifier.verified (ExchangesFrames g.T.Write.contents g.T.Read.remaining) c.take_new.new.asker.marks.items c.test_promises.result
-    middle (scene c.test_promises.new.self c.test_promises.new.said c.test_promises.new.stream) c.test_promises.new.self c.test_promises.new.said refl
-    c.test_promises.ensures.tests c.test_promises.ensures.err c.test_promises.ensures.halts)
+pub returns-in_err-hear_head-clause-reaches : goal.returns-in_err-hear_head-clause-reaches
+returns-in_err-hear_head-clause-reaches g c = λ frame holds. (scene c.args.asker.now c.args.self.now.said c.args.stream.now, inl refl, c.in_err-hear_head.ensures.untold)
 
 pub returns-clause-stands : goal.returns-clause-stands
 returns-clause-stands g c =
-    tested_stands g.H.NodeHash.digest_of g.V.VufCheck.accepted g.S.Verifier.verified (ExchangesFrames g.T.Write.contents g.T.Read.remaining) (background_of c.args.asker.now) (c.args.self.now.state ≡ None) c.take_new.new.asker.marks.items c.test_promises.result
-    (scene c.args.asker.now c.args.self.now.said c.args.stream.now) (scene c.take_new.new.asker c.take_new.new.self.said c.take_new.new.stream)
+    λ enough frame holds.
+    let (told, hears, tells) = c.in_ok-hear_head.ensures.finds frame holds in
+    looked_stands g.H.NodeHash.digest_of g.V.VufCheck.accepted g.S.Verifier.verified (ExchangesFrames g.T.Write.contents g.T.Read.remaining) (background_of c.args.asker.now) c.args.reply.now.held frame c.hear_head.new.self.marks.items c.test_promises.result
+    (scene c.args.asker.now c.args.self.now.said c.args.stream.now) (scene c.hear_head.new.self c.hear_head.new.said c.args.stream.now)
     c.test_promises.new.self c.test_promises.new.said c.test_promises.new.stream
-    (ap (λ (b : Background). b.marks) c.in_ok-take_new.ensures.stays) c.in_ok-take_new.ensures.takes c.test_promises.ensures.tests c.test_promises.ensures.err c.test_promises.ensures.halts
+    (ap (λ (all : Vec Mark Global). all.items) c.in_ok-hear_head.ensures.stays.2) (record { told = told; hears = hears; tells = tells; same = (c.in_ok-hear_head.ensures.monitors, refl) })
+    c.test_promises.ensures.tests c.test_promises.ensures.err c.test_promises.ensures.halts enough
 
-pub returns-in_err-take_new-clause-stands : goal.returns-in_err-take_new-clause-stands
-returns-in_err-take_new-clause-stands g c =
-    let passed : c.from_residual.result ≡ Err c.in_err-take_new.field-0.0 = search rules in
-    λ enough. taken_stands g.H.NodeHash.digest_of g.V.VufCheck.accepted g.S.Verifier.verified (ExchangesFrames g.T.Write.contents g.T.Read.remaining) (background_of c.args.asker.now) (c.args.self.now.state ≡ None)
-    (scene c.args.asker.now c.args.self.now.said c.args.stream.now) c.take_new.new.asker c.take_new.new.self.said
-    (c.take_new.ensures.stands (passed-enough c.take_new.result c.from_residual.result c.in_err-take_new.field-0.0 (search rules) passed enough))
+pub returns-in_err-hear_head-clause-stands : goal.returns-in_err-hear_head-clause-stands
+returns-in_err-hear_head-clause-stands g c =
+    let passed : c.from_residual.result ≡ Err c.in_err-hear_head.field-0.0 = search rules in
+    λ enough frame holds. (
+      scene c.args.asker.now c.args.self.now.said c.args.stream.now,
+      inl refl,
+      c.in_err-hear_head.ensures.untold,
+      c.in_err-hear_head.ensures.still (λ same. enough (passed ∙ ap (λ (f : AskFault). Err f) same)),
+      c.hear_head.ensures.monitors,
+    )

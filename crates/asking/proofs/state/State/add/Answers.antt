@@ -21,8 +21,8 @@ returns-clause-learns g c =
     let (shown, shows, grown) = c.in_ok-learn_told.ensures.ok in
     let (promised, learns, longer) = c.in_ok-learn_promises.ensures.learns in
     let (marked, marks, longest) = c.in_ok-mark_begun.ensures.ok in
-    let (memory, changes, head, known) = c.hand_roots.ensures.same in
-    let (epoch', head', known') = c.learn_promises.ensures.same in
+    let (memory, changes, head, known, was) = c.hand_roots.ensures.same in
+    let (epoch', head', known', was') = c.learn_promises.ensures.same in
     let all = c.args.asker.now.monitors.items in
     let own = ap (λ (count : ℕ). drop count c.args.asker.now.changes.items) changes in
     let begun = c.behind-begun.ensures ∙ ap (λ (ms : List Monitor). drop c.learn_promises.new.self.monitors ms) c.deref.ensures.value ∙ ap (λ (count : ℕ). drop count all) (known' ∙ known) in
@@ -33,10 +33,10 @@ returns-clause-learns g c =
 
 pub returns-clause-looked : goal.returns-clause-looked
 returns-clause-looked g c =
-    let (memory, changes, head, known) = c.hand_roots.ensures.same in
-    let (epoch', head', known') = c.learn_promises.ensures.same in
-    let (last, epoch'', changes'', head'', known'') = c.hand_on.ensures.same in
-    (head'' ∙ head' ∙ head, known'' ∙ known' ∙ known)
+    let (memory, changes, head, known, was) = c.hand_roots.ensures.same in
+    let (epoch', head', known', was') = c.learn_promises.ensures.same in
+    let (last, epoch'', changes'', head'', known'', was'') = c.hand_on.ensures.same in
+    (head'' ∙ head' ∙ head, known'' ∙ known' ∙ known, was'' ∙ was' ∙ was)
 
 pub returns-in_err-learn_told-clause-kept : goal.returns-in_err-learn_told-clause-kept
 returns-in_err-learn_told-clause-kept g c = λ lines key start old acts (asked, late) kept.

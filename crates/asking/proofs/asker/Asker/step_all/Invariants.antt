@@ -2,7 +2,7 @@ use Rattle.std.proofs.Common.{◌≡◌, ◌-◌, length}
 use Rattle.asking.specs.Exchanges.{ExchangesFrames}
 use Rattle.asking.specs.Scenes.{scene, Scene, StaysWhole}
 use Rattle.asking.specs.Watching.{AllStep, SomeStep}
-use Rattle.asking.proofs.asker.Asker.go_on.Given as goal
+use Rattle.asking.proofs.asker.Asker.step_all.Given as goal
 
 -- whatever the monitors from this place on do completes what those before it did
 abbrev pub invariant-loop-place : goal.invariant-loop-place
