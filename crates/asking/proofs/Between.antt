@@ -144,21 +144,20 @@ module _ (hash : List ℕ → List ℕ) (accepted verified : List ℕ → List �
       (count, shifted (first_told text) here, by, inr (few, advances_some-shift hash accepted verified exchanged background.marks (first_told text) epoch here reached some)),
     )
 
-    module _ (old now : Option (List ℕ)) (lists : AdvancesLists hash accepted verified exchanged background epoch count before old now here) (Is : Client → List Monitor → Report → Type 0) where
+    module _ (old now : Option (List ℕ)) (lists : AdvancesLists hash accepted verified exchanged background epoch count before old now here) (Is : Client → List Monitor → Type 0) where
       -- what is so of client and monitors behind these lists, is so in a scene of them
-      pub here_seen : count ≤ MAX_LISTS → ((text : List ℕ) → Appends old now text → Is here.client here.monitors (told_after (first_told text) here.told))
-          → (seen : Scene T) × ((seen ≡ before) ⊎ (CatchesSome hash accepted verified exchanged epoch before seen ⊎ StopsBelow hash accepted verified exchanged epoch before seen)) × Is seen.client seen.monitors seen.told
-      here_seen few is = let (text, appends, by) = lists_by count before here old now lists in at text count by few (is text appends)
+      pub here_seen : count ≤ MAX_LISTS → Is here.client here.monitors → (seen : Scene T) × ((seen ≡ before) ⊎ (CatchesSome hash accepted verified exchanged epoch before seen ⊎ StopsBelow hash accepted verified exchanged epoch before seen)) × Is seen.client seen.monitors
+      here_seen few is = let (text, appends, by) = lists_by count before here old now lists in at text count by few
         where
-          at : (text : List ℕ) (many : ℕ) → AdvancesBy hash accepted verified exchanged epoch many before (shifted (first_told text) here) → many ≤ MAX_LISTS → Is here.client here.monitors (told_after (first_told text) here.told)
-              → (seen : Scene T) × ((seen ≡ before) ⊎ (CatchesSome hash accepted verified exchanged epoch before seen ⊎ StopsBelow hash accepted verified exchanged epoch before seen)) × Is seen.client seen.monitors seen.told
-          at text zero by few is = (shifted (first_told text) here, inl by, is)
-          at text (suc many) (next, advances, more) few is = (shifted (first_told text) here, inr (inl (advances.0, (suc many, shifted (first_told text) here, (next, advances, more), inl (few, refl)))), is)
+          at : (text : List ℕ) (many : ℕ) → AdvancesBy hash accepted verified exchanged epoch many before (shifted (first_told text) here) → many ≤ MAX_LISTS
+              → (seen : Scene T) × ((seen ≡ before) ⊎ (CatchesSome hash accepted verified exchanged epoch before seen ⊎ StopsBelow hash accepted verified exchanged epoch before seen)) × Is seen.client seen.monitors
+          at text zero by few = (shifted (first_told text) here, inl by, is)
+          at text (suc many) (next, advances, more) few = (shifted (first_told text) here, inr (inl (advances.0, (suc many, shifted (first_told text) here, (next, advances, more), inl (few, refl)))), is)
 
-      pub seen_behind : count < MAX_LISTS → (seen : Scene T) × ((seen ≡ here) ⊎ AdvancesPart hash accepted verified exchanged background epoch here seen) × ((text : List ℕ) → Appends old now text → Is seen.client seen.monitors (told_after (first_told text) seen.told))
-          → (seen : Scene T) × ((seen ≡ before) ⊎ (CatchesSome hash accepted verified exchanged epoch before seen ⊎ StopsBelow hash accepted verified exchanged epoch before seen)) × Is seen.client seen.monitors seen.told
-      seen_behind few (seen, inl same, is) = here_seen (omega (arith, few)) (subst (λ (s : Scene T). (text : List ℕ) → Appends old now text → Is s.client s.monitors (told_after (first_told text) s.told)) same is)
-      seen_behind few (seen, inr part, is) = let (text, appends, by) = lists_by count before here old now lists in (shifted (first_told text) seen, inr (there_behind text by few seen part), is text appends)
+      pub seen_behind : count < MAX_LISTS → (seen : Scene T) × ((seen ≡ here) ⊎ AdvancesPart hash accepted verified exchanged background epoch here seen) × Is seen.client seen.monitors
+          → (seen : Scene T) × ((seen ≡ before) ⊎ (CatchesSome hash accepted verified exchanged epoch before seen ⊎ StopsBelow hash accepted verified exchanged epoch before seen)) × Is seen.client seen.monitors
+      seen_behind few (seen, inl same, is) = here_seen (omega (arith, few)) (subst (λ (s : Scene T). Is s.client s.monitors) same is)
+      seen_behind few (seen, inr part, is) = let (text, appends, by) = lists_by count before here old now lists in (shifted (first_told text) seen, inr (there_behind text by few seen part), is)
 
   module _ (Failed : Type 0) (count : ℕ) (before here : Scene T) (old now new : Option (List ℕ)) (said : Said) (lists : AdvancesLists hash accepted verified exchanged background epoch count before old now here) where
     -- it ends at the next list

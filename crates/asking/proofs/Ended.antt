@@ -1,8 +1,7 @@
 -- How a run ends before all is asked.
-use Rattle.std.proofs.Common.{◌≡◌, ◌≢◌, ◌⊎◌, ◌∙◌, ◌<◌, ◌≤◌, ℕ, Bool, true, false, List, [], ◌∷◌, ◌++◌, Bor, Option, None, Some, Result, Ok, Err, ap, option_map, append-nil, append_assoc, arith, inl, inr, refl, rules, subst, sym}
-use Rattle.std.specs.Prelude.{IfErr, IfOk, IfSome, OnErr, OnOk, nat_lt, ⊤}
+use Rattle.std.proofs.Common.{◌≡◌, ◌≢◌, ◌⊎◌, ◌∙◌, ◌<◌, ◌≤◌, ℕ, Bool, true, false, List, [], ◌∷◌, ◌++◌, Bor, Option, None, Some, Result, Ok, Err, ap, option_map, append-nil, append_assoc, inl, inr, refl, rules, subst, sym}
+use Rattle.std.specs.Prelude.{IfErr, IfOk, IfSome, OnErr, OnOk}
 use Rattle.std.proofs.KnownBytes.{Appends-nil, Appends-trans, Keeps-refl}
-use Rattle.std.proofs.lemmas.Bool.{ltb-true}
 use Rattle.nodehash.specs.Sha256.{sha256}
 use Rattle.vrfiface.specs.StandIns.{KeyedAccepts}
 use Rattle.sigiface.specs.StandIn.{KeyedVerifies}
@@ -33,17 +32,15 @@ use Rattle.asking.specs.RunFaults.{IsFaultOfSaving, IsFaultOfState}
 use Rattle.asking.specs.declared.lateness.Limit.{Limit}
 use Rattle.asking.specs.declared.lateness.Subject.{Subject}
 use Rattle.asking.specs.declared.connecting.Connection.{Connection}
-use Rattle.asking.specs.Ending.{AdvancesPart, AsksAs, AsksNext, AsksOverSocket, AsksPart, AsksSomeLine, BeginsNone, DoesSome, end_status, EndsEarly, EndsStale, EndsWith, FailsAs, FailsLate, FailsOverSocket, FailsWith, HasFirst, HasLast, HoldsBack, IsLastBy, IsUnknown, LoadsNone, LooksSome, PreparesSome, RunEndsAt, RunsAs, RunsLate, Sees, stopped_status, WritesUnless}
+use Rattle.asking.specs.Ending.{AdvancesPart, AsksAs, AsksNext, AsksOverSocket, AsksPart, AsksSomeLine, BeginsNone, DoesSome, end_status, EndsEarly, EndsStale, EndsWith, FailsAs, FailsLate, FailsOverSocket, FailsWith, HasFirst, HasLast, HoldsBack, IsUnknown, LoadsNone, LooksSome, PreparesSome, RunEndsAt, RunsAs, RunsLate, Sees, stopped_status, WritesUnless}
 use Rattle.asking.specs.Catching.{Advances, AdvancesSome}
 use Rattle.asking.specs.Exchanges.{ExchangesFrames}
 use Rattle.asking.specs.Following.{IsBelow, StopsList}
 use Rattle.asking.specs.Joining.{own_for, BeginsSome, BeginsWatch}
-use Rattle.asking.specs.Keeping.{IsStopped}
 use Rattle.asking.specs.Reports.{Report, report_of}
-use Rattle.asking.specs.Runs.{AsksLines, BeginsAsking, StartsRun, emptied, Background, lines_asked, Prepares, RunsWhole, words_line, Writes}
+use Rattle.asking.specs.Runs.{AsksLines, BeginsAsking, StartsRun, emptied, Background, lines_asked, Prepares, RunsWhole, Writes}
 use Rattle.asking.specs.Scenes.{HaltsAfter, Scene, StopsAtHead}
 use Rattle.asking.specs.Visiting.{TestsAll, TestsSome}
-use Rattle.asking.proofs.Keeping.{stopped_or, stopped_well}
 use Rattle.asking.proofs.Ran.{LeadsOn, none_before}
 use Rattle.asking.proofs.Standing.{HearsAny}
 
@@ -54,10 +51,6 @@ same-fault one other e = cc
 epoch-held : (options : AskOptions) (Is : Subject → ℕ → Type 0) (Holds Holds' : ℕ → ℕ → Type 0)
     → ((after epoch : ℕ) (about : Subject) → options.after ≡ Some after → subject_in options.words ≡ Some about → Holds after epoch → Holds' after epoch) → HasEpoch options Is Holds → HasEpoch options Is Holds'
 epoch-held options Is Holds Holds' more at = λ after given about words. let (epoch, is, holds) = at after given about words in (epoch, is, more after epoch about given words holds)
-
--- and of the same last epoch, known in another way
-epoch-known : (options : AskOptions) (Is Is' : Subject → ℕ → Type 0) (Holds : ℕ → ℕ → Type 0) → ((about : Subject) (epoch : ℕ) → Is about epoch → Is' about epoch) → HasEpoch options Is Holds → HasEpoch options Is' Holds
-epoch-known options Is Is' Holds more at = λ after given about words. let (epoch, is, holds) = at after given about words in (epoch, more about epoch is, holds)
 
 no-reply : fault.NoReply ≢ fault.Stopped
 no-reply same = search (rules, same)
@@ -117,10 +110,6 @@ leaves_cut Failed old new said said' told failed same (rest, (front, parts, appe
 pub leaves_with : (Failed Failed' : Type 0) (new : Option (List ℕ)) (said : Said) (told : Report) (old : Option (List ℕ)) → (Failed → Failed') → HoldsBack Failed new said told old → HoldsBack Failed' new said told old
 leaves_with Failed Failed' new said told old leads (status, text, rest, is, appends, inl all) = (status, text, rest, is, appends, inl all)
 leaves_with Failed Failed' new said told old leads (status, text, rest, is, appends, inr failed) = (status, text, rest, is, appends, inr (leads failed))
-
--- no write failed where the directory stopped it
-pub leaves_stopped : {A : Type 0} (result : Result A RunFault) (new : Option (List ℕ)) (said : Said) (told : Report) (old : Option (List ℕ)) → HoldsBack (result ≡ Err (Program CannotWrite)) new said told old → IsStopped result → HoldsBack ⊥ new said told old
-leaves_stopped result new said told old leaves stopped = leaves_with (result ≡ Err (Program CannotWrite)) ⊥ new said told old (λ failed. stopped_well result CannotWrite failed stopped) leaves
 
 -- what is still said is written, or a beginning of it
 written_then : (Failed : Type 0) (old now new : Option (List ℕ)) (said : Said) (told : Report) → HoldsBack Failed now said told old → WritesSome now new said.text.items → WritesSome old new told.lines
@@ -263,13 +252,16 @@ module _ (hash : List ℕ → List ℕ) (accepted verified : List ℕ → List �
           leaves,
         )
 
-  -- a run that begins follows nothing yet
-  pub prepares_here : {A : Type 0} (background : Background) (state : Option A) (start : Scene T) → PreparesSome hash accepted verified exchanged background (state ≡ None) start start
-  prepares_here background None start = inl (inl (refl, refl))
-  prepares_here background (Some one) start = inr (some-not-none one, inl (inl refl))
-    where
-      some-not-none : {A : Type 0} (one : A) → ◌≡◌ {A = Option A} (Some one) None → ⊥
-      some-not-none one same = cc
+    -- some of one line, which is all that is asked
+    pub part_once : (Failed : Type 0) (line : List ℕ) (ready : Scene T) (now new : Option (List ℕ)) (said : Said)
+        → (reached : Scene T) × AsksSomeLine hash accepted verified exchanged background line ready reached × HoldsBack Failed new said reached.told now
+        → (told : Report) × (next : Option (List ℕ)) × AsksPart hash accepted verified exchanged background (line ∷ []) ready told now next × HoldsBack Failed new said told next
+    part_once Failed line ready now new said (reached, some, leaves) = (
+      reached.told,
+      now,
+      record { done = []; left = line ∷ []; parts = refl; here = ready; asks = (Appends-nil now, refl); reached = reached; next = some; tells = refl },
+      leaves,
+    )
 
   -- what stays is known under another name
   pub line_known : (Failed : Type 0) (background background' : Background) (line : List ℕ) (before : Scene T) (old new : Option (List ℕ)) (said : Said) → background' ≡ background
@@ -281,102 +273,48 @@ module _ (hash : List ℕ → List ℕ) (accepted verified : List ℕ → List �
 
   module _ (key token : List ℕ) (options : AskOptions) (HasNoState : Type 0) (stream : T) (input old : Option (List ℕ)) where
     -- it does not begin
-    pub early_none : (Failed : Type 0) (Holds : ℕ → ℕ → Type 0) (Unknown IsCut : Type 0) (first : Report) (said : Said) → BeginsNone verified exchanged key stream first (report_of said)
+    pub early_none : (Failed : Type 0) (Holds : ℕ → ℕ → Type 0) (Unknown : Type 0) (first : Report) (said : Said) → BeginsNone verified exchanged key stream first (report_of said)
         → Unknown ⊎ HasFirst hash accepted verified exchanged key options HasNoState Holds → first ≡ emptied 0
-        → EndsEarly hash accepted verified exchanged key token options HasNoState stream input old Holds Unknown IsCut (HoldsBack Failed old said)
-    early_none Failed Holds Unknown IsCut first said begins known none =
+        → EndsEarly hash accepted verified exchanged key token options HasNoState stream input old Holds Unknown (HoldsBack Failed old said)
+    early_none Failed Holds Unknown first said begins known none =
         (report_of said, old, leaves_same Failed old said (report_of said) refl, inl (subst (λ (r : Report). BeginsNone verified exchanged key stream r (report_of said)) none begins, refl, known))
 
-    -- the last epoch of another scene may be known in more cases
-    by-cut : (background : Background) (start : Scene T) (told : Report) (IsCut IsCut' : Type 0) → (IsCut → IsCut') → (about : Subject) (epoch : ℕ)
-        → IsLastBy hash accepted verified exchanged background options HasNoState start told IsCut about epoch → IsLastBy hash accepted verified exchanged background options HasNoState start told IsCut' about epoch
-    by-cut background start told IsCut IsCut' cuts about epoch (seen, sees, inl same, last) = (seen, sees, inl same, last)
-    by-cut background start told IsCut IsCut' cuts about epoch (seen, sees, inr cut, last) = (seen, sees, inr (cuts cut), last)
-
     -- what is so of the last epoch is so in other words
-    pub early_held : (Holds Holds' : ℕ → ℕ → Type 0) (Unknown Unknown' IsCut IsCut' : Type 0) (Then : Report → Option (List ℕ) → Type 0)
-        → ((after epoch : ℕ) (about : Subject) → options.after ≡ Some after → subject_in options.words ≡ Some about → Holds after epoch → Holds' after epoch) → (Unknown → Unknown') → (IsCut → IsCut')
-        → EndsEarly hash accepted verified exchanged key token options HasNoState stream input old Holds Unknown IsCut Then → EndsEarly hash accepted verified exchanged key token options HasNoState stream input old Holds' Unknown' IsCut' Then
-    early_held Holds Holds' Unknown Unknown' IsCut IsCut' Then more leads cuts (told, now, holds, inl (none, same, inl unknown)) = (told, now, holds, inl (none, same, inl (leads unknown)))
-    early_held Holds Holds' Unknown Unknown' IsCut IsCut' Then more leads cuts (told, now, holds, inl (none, same, inr (inl at))) =
+    pub early_held : (Holds Holds' : ℕ → ℕ → Type 0) (Unknown Unknown' : Type 0) (Then : Report → Option (List ℕ) → Type 0)
+        → ((after epoch : ℕ) (about : Subject) → options.after ≡ Some after → subject_in options.words ≡ Some about → Holds after epoch → Holds' after epoch) → (Unknown → Unknown')
+        → EndsEarly hash accepted verified exchanged key token options HasNoState stream input old Holds Unknown Then → EndsEarly hash accepted verified exchanged key token options HasNoState stream input old Holds' Unknown' Then
+    early_held Holds Holds' Unknown Unknown' Then more leads (told, now, holds, inl (none, same, inl unknown)) = (told, now, holds, inl (none, same, inl (leads unknown)))
+    early_held Holds Holds' Unknown Unknown' Then more leads (told, now, holds, inl (none, same, inr (inl at))) =
         (told, now, holds, inl (none, same, inr (inl (epoch-held options (λ about epoch. epoch ≡ 0) Holds Holds' more at))))
-    early_held Holds Holds' Unknown Unknown' IsCut IsCut' Then more leads cuts (told, now, holds, inl (none, same, inr (inr (some, (marks, client, sound, at))))) =
+    early_held Holds Holds' Unknown Unknown' Then more leads (told, now, holds, inl (none, same, inr (inr (some, (marks, client, sound, at))))) =
         (told, now, holds, inl (none, same, inr (inr (some, (marks, client, sound, epoch-held options (IsLast marks client []) Holds Holds' more at)))))
-    early_held Holds Holds' Unknown Unknown' IsCut IsCut' Then more leads cuts (told, now, holds, inr (background, start, begun, at, last)) = (
-      told,
-      now,
-      holds,
-      inr (
-        background,
-        start,
-        begun,
-        at,
-        epoch-known options (IsLastBy hash accepted verified exchanged background options HasNoState start told IsCut) (IsLastBy hash accepted verified exchanged background options HasNoState start told IsCut') Holds'
-            (by-cut background start told IsCut IsCut' cuts)
-            (epoch-held options (IsLastBy hash accepted verified exchanged background options HasNoState start told IsCut) Holds Holds' more last),
-      ),
-    )
+    early_held Holds Holds' Unknown Unknown' Then more leads (told, now, holds, inr (background, start, begun, at, (seen, sees, last))) =
+        (told, now, holds, inr (background, start, begun, at, (seen, sees, epoch-held options (IsLast background.marks seen.client seen.monitors) Holds Holds' more last)))
 
     -- it ends with another fault than its questions did
-    pub part_left : (Failed Failed' Limited : Type 0) (Holds : ℕ → ℕ → Type 0) (Unknown Unknown' IsCut IsCut' : Type 0) (left : Result (Unit {0}) RunFault) (new : Option (List ℕ)) (said : Said) (first : Report) → OnErr left (Failed → Failed') → OnErr left (Unknown → Unknown') → (IsCut → IsCut')
-        → (first ≡ emptied 0 → Limited → EndsEarly hash accepted verified exchanged key token options HasNoState stream input old Holds Unknown IsCut (HoldsBack Failed new said))
-        → OnErr left (first ≡ emptied 0 → Limited → EndsEarly hash accepted verified exchanged key token options HasNoState stream input old Holds Unknown' IsCut' (HoldsBack Failed' new said))
-    part_left Failed Failed' Limited Holds Unknown Unknown' IsCut IsCut' (Ok done) new said first leads unknown cuts part = tt
-    part_left Failed Failed' Limited Holds Unknown Unknown' IsCut IsCut' (Err why) new said first leads unknown cuts part = λ none limited.
-        let (told, now, leaves, at) = early_held Holds Holds Unknown Unknown' IsCut IsCut' (HoldsBack Failed new said) (λ after epoch about given words holds. holds) unknown cuts (part none limited) in
+    pub part_left : (Failed Failed' Limited : Type 0) (Holds : ℕ → ℕ → Type 0) (Unknown Unknown' : Type 0) (left : Result (Unit {0}) RunFault) (new : Option (List ℕ)) (said : Said) (first : Report) → OnErr left (Failed → Failed') → OnErr left (Unknown → Unknown')
+        → (first ≡ emptied 0 → Limited → EndsEarly hash accepted verified exchanged key token options HasNoState stream input old Holds Unknown (HoldsBack Failed new said))
+        → OnErr left (first ≡ emptied 0 → Limited → EndsEarly hash accepted verified exchanged key token options HasNoState stream input old Holds Unknown' (HoldsBack Failed' new said))
+    part_left Failed Failed' Limited Holds Unknown Unknown' (Ok done) new said first leads unknown part = tt
+    part_left Failed Failed' Limited Holds Unknown Unknown' (Err why) new said first leads unknown part = λ none limited.
+        let (told, now, leaves, at) = early_held Holds Holds Unknown Unknown' (HoldsBack Failed new said) (λ after epoch about given words holds. holds) unknown (part none limited) in
         (told, now, leaves_with Failed Failed' new said told now leads leaves, at)
 
     module _ (background : Background) (start : Scene T) (new : Option (List ℕ)) (said : Said) (first : Report) (begun : first ≡ emptied 0 → StartsRun hash accepted verified exchanged key token HasNoState stream background start) where
-      module _ (Failed : Type 0) (Holds : ℕ → ℕ → Type 0) (Unknown : Type 0) (result : Result (Unit {0}) RunFault) where
-        -- the last epoch of a scene, in which all was told or not
-        last-by : (seen : Scene T) (told : Report) → Sees hash accepted verified exchanged background options HasNoState start seen → (told ≡ seen.told) ⊎ (¬ IsStopped result) → HasLast hash accepted verified exchanged options background.marks seen Holds
-            → HasEpoch options (IsLastBy hash accepted verified exchanged background options HasNoState start told (¬ IsStopped result)) Holds
-        last-by seen told sees by last = epoch-known options (IsLast background.marks seen.client seen.monitors) (IsLastBy hash accepted verified exchanged background options HasNoState start told (¬ IsStopped result)) Holds (λ about epoch is. (seen, sees, by, is)) last
+      -- it ends while what is new is followed
+      pub early_preparing : (Failed : Type 0) (Holds : ℕ → ℕ → Type 0) (Unknown : Type 0) → (reached : Scene T) × PreparesSome hash accepted verified exchanged background HasNoState start reached × HoldsBack Failed new said reached.told old
+          → (seen : Scene T) × Sees hash accepted verified exchanged background options HasNoState start seen × HasLast hash accepted verified exchanged options background.marks seen Holds
+          → first ≡ emptied 0 → EndsEarly hash accepted verified exchanged key token options HasNoState stream input old Holds Unknown (HoldsBack Failed new said)
+      early_preparing Failed Holds Unknown (reached, some, leaves) late none = (reached.told, old, leaves, inr (background, start, begun none, inl (reached, some, refl, refl), late))
 
-        -- it ends while what is new is followed
-        pub early_preparing : (reached : Scene T) × PreparesSome hash accepted verified exchanged background HasNoState start reached × HoldsBack Failed new said reached.told old
-            → (seen : Scene T) × PreparesSome hash accepted verified exchanged background HasNoState start seen × (IsStopped result → HoldsBack ⊥ new said seen.told old) × HasLast hash accepted verified exchanged options background.marks seen Holds
-            → first ≡ emptied 0 → EndsEarly hash accepted verified exchanged key token options HasNoState stream input old Holds Unknown (¬ IsStopped result) (HoldsBack Failed new said)
-        early_preparing (reached, some, leaves) (seen, sees, all, last) none = elim (stopped_or result) [
-          | inl stopped ↦ (
-            seen.told,
-            old,
-            leaves_with ⊥ Failed new said seen.told old (λ no. absurd no) (all stopped),
-            inr (background, start, begun none, inl (seen, sees, refl, refl), last-by seen seen.told (inr (inl sees)) (inl refl) last),
-          )
-          | inr not ↦ (reached.told, old, leaves, inr (background, start, begun none, inl (reached, some, refl, refl), last-by seen reached.told (inr (inl sees)) (inr not) last))
-        ]
-
-        -- it ends at the line of its words
-        pub early_words : (ready : Scene T) (now : Option (List ℕ)) → Writes (Prepares hash accepted verified exchanged background HasNoState) start old now ready → lines_asked options.words input ≡ Some (words_line options.words ∷ [])
-            → (reached : Scene T) × AsksSomeLine hash accepted verified exchanged background (words_line options.words) ready reached × HoldsBack Failed new said reached.told now
-            → (seen : Scene T) × AsksSomeLine hash accepted verified exchanged background (words_line options.words) ready seen × (IsStopped result → HoldsBack ⊥ new said seen.told now) × HasLast hash accepted verified exchanged options background.marks seen Holds
-            → first ≡ emptied 0 → EndsEarly hash accepted verified exchanged key token options HasNoState stream input old Holds Unknown (¬ IsStopped result) (HoldsBack Failed new said)
-        early_words ready now (done, prepares, appends, left) asked (reached, some, leaves) (seen, asks, all, last) none = elim (stopped_or result) [
-          | inl stopped ↦ (seen.told, now, leaves_with ⊥ Failed new said seen.told now (λ no. absurd no) (all stopped), inr (background, start, begun none, inr (ends seen asks), last-by seen seen.told sees (inl refl) last))
-          | inr not ↦ (reached.told, now, leaves, inr (background, start, begun none, inr (ends reached some), last-by seen reached.told sees (inr not) last))
-        ]
-          where
-            sees : Sees hash accepted verified exchanged background options HasNoState start seen
-            sees = inr (inr (done, prepares, subst (λ (r : Scene T). AsksSomeLine hash accepted verified exchanged background (words_line options.words) r seen) left asks))
-            ends : (there : Scene T) → AsksSomeLine hash accepted verified exchanged background (words_line options.words) ready there
-                → (ready : Scene T) × (next : Option (List ℕ)) × Writes (Prepares hash accepted verified exchanged background HasNoState) start old next ready × IfSome (lines_asked options.words input) (λ lines. AsksPart hash accepted verified exchanged background lines ready there.told next now)
-            ends there part = (
-              ready,
-              now,
-              (done, prepares, appends, left),
-              subst (λ (all : Option (List (List ℕ))). IfSome all (λ lines. AsksPart hash accepted verified exchanged background lines ready there.told now now)) (sym asked)
-                  (record { done = []; left = words_line options.words ∷ []; parts = refl; here = ready; asks = (Appends-nil now, refl); reached = there; next = part; tells = refl }),
-            )
-
-      -- it ends at a line of its input
-      pub early_asking : (Failed : Type 0) (Holds : ℕ → ℕ → Type 0) (Unknown IsCut : Type 0) (background' : Background) (ready : Scene T) (now : Option (List ℕ)) → Writes (Prepares hash accepted verified exchanged background HasNoState) start old now ready → background' ≡ background
+      -- it ends at a line
+      pub early_asking : (Failed : Type 0) (Holds : ℕ → ℕ → Type 0) (Unknown : Type 0) (background' : Background) (ready : Scene T) (now : Option (List ℕ)) → Writes (Prepares hash accepted verified exchanged background HasNoState) start old now ready → background' ≡ background
           → IfSome (lines_asked options.words input) (λ lines. (told : Report) × (next : Option (List ℕ)) × AsksPart hash accepted verified exchanged background' lines ready told now next × HoldsBack Failed new said told next)
-          → ((told : Report) → HasEpoch options (IsLastBy hash accepted verified exchanged background options HasNoState start told IsCut) Holds)
-          → first ≡ emptied 0 → EndsEarly hash accepted verified exchanged key token options HasNoState stream input old Holds Unknown IsCut (HoldsBack Failed new said)
-      early_asking Failed Holds Unknown IsCut background' ready now prepares same part late none =
+          → (seen : Scene T) × Sees hash accepted verified exchanged background options HasNoState start seen × HasLast hash accepted verified exchanged options background.marks seen Holds
+          → first ≡ emptied 0 → EndsEarly hash accepted verified exchanged key token options HasNoState stream input old Holds Unknown (HoldsBack Failed new said)
+      early_asking Failed Holds Unknown background' ready now prepares same part late none =
           let (told, next, leaves, at) = by (lines_asked options.words input) part in
-          (told, next, leaves, inr (background, start, begun none, inr (ready, now, prepares, subst (λ (k : Background). IfSome (lines_asked options.words input) (λ lines. AsksPart hash accepted verified exchanged k lines ready told now next)) same at), late told))
+          (told, next, leaves, inr (background, start, begun none, inr (ready, now, prepares, subst (λ (k : Background). IfSome (lines_asked options.words input) (λ lines. AsksPart hash accepted verified exchanged k lines ready told now next)) same at), late))
         where
           by : (asked : Option (List (List ℕ)))
               → IfSome asked (λ lines. (told : Report) × (next : Option (List ℕ)) × AsksPart hash accepted verified exchanged background' lines ready told now next × HoldsBack Failed new said told next)
@@ -431,29 +369,13 @@ module _ (hash : List ℕ → List ℕ) (accepted verified : List ℕ → List �
     sees-with background start seen (inr (inl some)) = inr (inl (some_prepares_with background start seen some))
     sees-with background start seen (inr (inr (done, prepares, asks))) = inr (inr (done, prepares-with background start done prepares, asks))
 
-    by-with : (background : Background) (start : Scene T) (told : Report) (IsCut IsCut' : Type 0) → (IsCut → IsCut') → (about : Subject) (epoch : ℕ)
-        → IsLastBy hash accepted verified exchanged background options NoState start told IsCut about epoch → IsLastBy hash accepted verified exchanged background options None' start told IsCut' about epoch
-    by-with background start told IsCut IsCut' cuts about epoch (seen, sees, inl same, last) = (seen, sees-with background start seen sees, inl same, last)
-    by-with background start told IsCut IsCut' cuts about epoch (seen, sees, inr cut, last) = (seen, sees-with background start seen sees, inr (cuts cut), last)
-
-    early-with : (Before After : Report → Option (List ℕ) → Type 0) (Holds : ℕ → ℕ → Type 0) (Unknown Unknown' IsCut IsCut' : Type 0) (stream : T) (input old : Option (List ℕ)) → ((told : Report) (now : Option (List ℕ)) → Before told now → After told now) → (Unknown → Unknown') → (IsCut → IsCut')
-        → EndsEarly hash accepted verified exchanged key token options NoState stream input old Holds Unknown IsCut Before → EndsEarly hash accepted verified exchanged key token options None' stream input old Holds Unknown' IsCut' After
-    early-with Before After Holds Unknown Unknown' IsCut IsCut' stream input old leads more cuts (told, now, holds, inl (none, same, inl unknown)) = (told, now, leads told now holds, inl (none, same, inl (more unknown)))
-    early-with Before After Holds Unknown Unknown' IsCut IsCut' stream input old leads more cuts (told, now, holds, inl (none, same, inr (inl at))) = (told, now, leads told now holds, inl (none, same, inr (inl at)))
-    early-with Before After Holds Unknown Unknown' IsCut IsCut' stream input old leads more cuts (told, now, holds, inl (none, same, inr (inr (some, at)))) = (told, now, leads told now holds, inl (none, same, inr (inr ((λ no. some (without no)), at))))
-    early-with Before After Holds Unknown Unknown' IsCut IsCut' stream input old leads more cuts (told, now, holds, inr (background, start, begun, at, last)) = (
-      told,
-      now,
-      leads told now holds,
-      inr (
-        background,
-        start,
-        begun-with background stream start begun,
-        ends-with background input start old told now at,
-        epoch-known options (IsLastBy hash accepted verified exchanged background options NoState start told IsCut) (IsLastBy hash accepted verified exchanged background options None' start told IsCut') Holds
-            (by-with background start told IsCut IsCut' cuts) last,
-      ),
-    )
+    early-with : (Before After : Report → Option (List ℕ) → Type 0) (Holds : ℕ → ℕ → Type 0) (Unknown Unknown' : Type 0) (stream : T) (input old : Option (List ℕ)) → ((told : Report) (now : Option (List ℕ)) → Before told now → After told now) → (Unknown → Unknown')
+        → EndsEarly hash accepted verified exchanged key token options NoState stream input old Holds Unknown Before → EndsEarly hash accepted verified exchanged key token options None' stream input old Holds Unknown' After
+    early-with Before After Holds Unknown Unknown' stream input old leads more (told, now, holds, inl (none, same, inl unknown)) = (told, now, leads told now holds, inl (none, same, inl (more unknown)))
+    early-with Before After Holds Unknown Unknown' stream input old leads more (told, now, holds, inl (none, same, inr (inl at))) = (told, now, leads told now holds, inl (none, same, inr (inl at)))
+    early-with Before After Holds Unknown Unknown' stream input old leads more (told, now, holds, inl (none, same, inr (inr (some, at)))) = (told, now, leads told now holds, inl (none, same, inr (inr ((λ no. some (without no)), at))))
+    early-with Before After Holds Unknown Unknown' stream input old leads more (told, now, holds, inr (background, start, begun, at, (seen, sees, last))) =
+        (told, now, leads told now holds, inr (background, start, begun-with background stream start begun, ends-with background input start old told now at, (seen, sees-with background start seen sees, last)))
 
     unknown-with : (fault : ProgramFault) → IsUnknown NoState fault → IsUnknown None' fault
     unknown-with fault (inl memory) = inl memory
@@ -467,15 +389,15 @@ module _ (hash : List ℕ → List ℕ) (accepted verified : List ℕ → List �
         → AsksAs hash accepted verified exchanged key token options NoState stream stream' input Holds ended old new → AsksAs hash accepted verified exchanged key token options None' stream stream' input Holds ended old new
     asks-with stream stream' input old new Holds (Whole status) run = late-with stream stream' input old new Holds status run
     asks-with stream stream' input old new Holds (Stopped status) run =
-        early-with (λ told now. (status ≡ stopped_status told.status) × Appends now new told.lines) (λ told now. (status ≡ stopped_status told.status) × Appends now new told.lines) Holds ⊥ ⊥ (3 ≤ status) (3 ≤ status) stream input old (λ told now holds. holds) (λ no. no) (λ cut. cut) run
+        early-with (λ told now. (status ≡ stopped_status told.status) × Appends now new told.lines) (λ told now. (status ≡ stopped_status told.status) × Appends now new told.lines) Holds ⊥ ⊥ stream input old (λ told now holds. holds) (λ no. no) run
     asks-with stream stream' input old new Holds Unwritten run =
-        early-with (λ told now. (3 ≤ told.status) × WritesSome now new told.lines) (λ told now. (3 ≤ told.status) × WritesSome now new told.lines) Holds ⊥ ⊥ ⊤ ⊤ stream input old (λ told now holds. holds) (λ no. no) (λ cut. cut) run
+        early-with (λ told now. (3 ≤ told.status) × WritesSome now new told.lines) (λ told now. (3 ≤ told.status) × WritesSome now new told.lines) Holds ⊥ ⊥ stream input old (λ told now holds. holds) (λ no. no) run
     asks-with stream stream' input old new Holds (Stale epoch) run = absurd run
 
     fails-late-with : (stream : T) (input : Option (List ℕ)) (Holds : ℕ → ℕ → Type 0) (Unknown Unknown' : Type 0) (fault : ProgramFault) (old new : Option (List ℕ)) → (Unknown → Unknown')
         → FailsLate hash accepted verified exchanged key token options NoState stream input Holds Unknown fault old new → FailsLate hash accepted verified exchanged key token options None' stream input Holds Unknown' fault old new
     fails-late-with stream input Holds Unknown Unknown' fault old new more run =
-        early-with (λ told now. (told.status < 3) × WritesUnless (fault ≡ CannotWrite) now new told.lines) (λ told now. (told.status < 3) × WritesUnless (fault ≡ CannotWrite) now new told.lines) Holds Unknown Unknown' ⊤ ⊤ stream input old (λ told now holds. holds) more (λ cut. cut) run
+        early-with (λ told now. (told.status < 3) × WritesUnless (fault ≡ CannotWrite) now new told.lines) (λ told now. (told.status < 3) × WritesUnless (fault ≡ CannotWrite) now new told.lines) Holds Unknown Unknown' stream input old (λ told now holds. holds) more run
 
     pub fails_with : (stream : T) (input : Option (List ℕ)) (fault : ProgramFault) (old new : Option (List ℕ))
         → FailsAs hash accepted verified exchanged key token options NoState stream input fault old new → FailsAs hash accepted verified exchanged key token options None' stream input fault old new
@@ -496,38 +418,30 @@ module _ (hash : List ℕ → List ℕ) (accepted verified : List ℕ → List �
 
     -- ---- the end
 
-    -- a status that is not below that of evidence is that of evidence
-    high-status : (told : ℕ) → (told < 3 → ⊥) → 3 ≤ stopped_status told
-    high-status told high = by (nat_lt told 3) refl
-      where
-        by : (test : Bool) → nat_lt told 3 ≡ test → 3 ≤ stopped_status told
-        by true is = absurd (high (ltb-true told 3 is))
-        by false is = rw is (omega arith)
-
     module _ (outcome : Result (Unit {0}) RunFault) (result : Result RunEnd ProgramFault) (stream stream' : T) (input old new new' : Option (List ℕ)) (said : Said) (first : Report) (empty : first ≡ emptied 0) where
       pub ends_so : (Holds : ℕ → ℕ → Type 0) (before after : Limit) → OnOk outcome (first ≡ emptied 0 → RunsLate hash accepted verified exchanged key token options NoState stream stream' input Holds said.status old new)
-          → OnErr outcome (first ≡ emptied 0 → EndsEarly hash accepted verified exchanged key token options NoState stream input old Holds (LoadsNone NoState outcome before after said.status) (¬ IsStopped outcome) (HoldsBack (WriteFailed outcome) new said))
-          → OnErr outcome (¬ IsStopped outcome → said.status < 3 → IfOk result (λ ended. ⊥))
+          → OnErr outcome (first ≡ emptied 0 → EndsEarly hash accepted verified exchanged key token options NoState stream input old Holds (LoadsNone NoState outcome before after said.status) (HoldsBack (WriteFailed outcome) new said))
+          → ((fault : ProgramFault) → outcome ≡ Err (Program fault) → said.status < 3 → IfOk result (λ ended. ⊥))
           → OnOk outcome ((result ≡ Ok (Whole said.status)) × (new' ≡ new)) → OnErr outcome (IfOk result (λ ended. EndsWith (WriteFailed outcome) said new new' ended))
           → IfOk result (λ ended. AsksAs hash accepted verified exchanged key token options None' stream stream' input Holds ended old new')
       ends_so Holds before after = by outcome result
         where
           by : (outcome : Result (Unit {0}) RunFault) (result : Result RunEnd ProgramFault) → OnOk outcome (first ≡ emptied 0 → RunsLate hash accepted verified exchanged key token options NoState stream stream' input Holds said.status old new)
-              → OnErr outcome (first ≡ emptied 0 → EndsEarly hash accepted verified exchanged key token options NoState stream input old Holds (LoadsNone NoState outcome before after said.status) (¬ IsStopped outcome) (HoldsBack (WriteFailed outcome) new said))
-              → OnErr outcome (¬ IsStopped outcome → said.status < 3 → IfOk result (λ ended. ⊥))
+              → OnErr outcome (first ≡ emptied 0 → EndsEarly hash accepted verified exchanged key token options NoState stream input old Holds (LoadsNone NoState outcome before after said.status) (HoldsBack (WriteFailed outcome) new said))
+              → ((fault : ProgramFault) → outcome ≡ Err (Program fault) → said.status < 3 → IfOk result (λ ended. ⊥))
               → OnOk outcome ((result ≡ Ok (Whole said.status)) × (new' ≡ new)) → OnErr outcome (IfOk result (λ ended. EndsWith (WriteFailed outcome) said new new' ended))
               → IfOk result (λ ended. AsksAs hash accepted verified exchanged key token options None' stream stream' input Holds ended old new')
           by (Err why) (Err given) whole early fails ends stops = tt
           by (Err why) (Ok (Whole status)) whole early fails ends stops = absurd stops
           by (Err why) (Ok (Stopped status)) whole early fails ends (is, well, wrote) =
-              early-with (HoldsBack (WriteFailed (Err why)) new said) (λ told now. (status ≡ stopped_status told.status) × Appends now new' told.lines) Holds (LoadsNone {A = Unit {0}} NoState (Err why) before after said.status) ⊥ (¬ IsStopped {A = Unit {0}} (Err why)) (3 ≤ status) stream input old
+              early-with (HoldsBack (WriteFailed (Err why)) new said) (λ told now. (status ≡ stopped_status told.status) × Appends now new' told.lines) Holds (LoadsNone {A = Unit {0}} NoState (Err why) before after said.status) ⊥ stream input old
               (λ told now leaves. (is ∙ ap (λ (n : ℕ). stopped_status n) leaves.0, written_all (WriteFailed (Err why)) now new new' said told leaves well wrote))
-              (λ (fault, was, some, state, last, low). fails (λ stopped. stopped_well (Err why) fault was stopped) low) (λ cut. subst (λ (n : ℕ). 3 ≤ n) (sym is) (high-status said.status (fails cut))) (early empty)
+              (λ (fault, was, some, state, last, low). fails fault was low) (early empty)
           by (Err why) (Ok (Stale epoch)) whole early fails ends stops = absurd stops
           by (Err why) (Ok Unwritten) whole early fails ends (high, wrote) =
-              early-with (HoldsBack (WriteFailed (Err why)) new said) (λ told now. (3 ≤ told.status) × WritesSome now new' told.lines) Holds (LoadsNone {A = Unit {0}} NoState (Err why) before after said.status) ⊥ (¬ IsStopped {A = Unit {0}} (Err why)) ⊤ stream input old
+              early-with (HoldsBack (WriteFailed (Err why)) new said) (λ told now. (3 ≤ told.status) × WritesSome now new' told.lines) Holds (LoadsNone {A = Unit {0}} NoState (Err why) before after said.status) ⊥ stream input old
               (λ told now leaves. (subst (λ (n : ℕ). 3 ≤ n) leaves.0 high, written_then (WriteFailed (Err why)) now new new' said told leaves wrote))
-              (λ (fault, was, some, state, last, low). fails (λ stopped. stopped_well (Err why) fault was stopped) low) (λ cut. tt) (early empty)
+              (λ (fault, was, some, state, last, low). fails fault was low) (early empty)
           by (Ok done) result whole early fails (is, same) stops =
               subst (λ (r : Result RunEnd ProgramFault). IfOk r (λ ended. AsksAs hash accepted verified exchanged key token options None' stream stream' input Holds ended old new')) (sym is) (
               subst (λ (text : Option (List ℕ)). RunsLate hash accepted verified exchanged key token options None' stream stream' input Holds said.status old text) (sym same)
@@ -541,23 +455,23 @@ module _ (hash : List ℕ → List ℕ) (accepted verified : List ℕ → List �
       unknown-given before after why given none (inr is) (fault, was, some, state, last, low) =
           (inr ((λ no. some (without no)), subst (λ (f : ProgramFault). IsFaultOfState f) (same-fault fault given (sym was ∙ is)) state), last ∙ none)
 
-      pub fails_so : (Holds : ℕ → ℕ → Type 0) (before after : Limit) → before.last ≡ None → OnErr outcome (first ≡ emptied 0 → EndsEarly hash accepted verified exchanged key token options NoState stream input old Holds (LoadsNone NoState outcome before after said.status) (¬ IsStopped outcome) (HoldsBack (WriteFailed outcome) new said))
+      pub fails_so : (Holds : ℕ → ℕ → Type 0) (before after : Limit) → before.last ≡ None → OnErr outcome (first ≡ emptied 0 → EndsEarly hash accepted verified exchanged key token options NoState stream input old Holds (LoadsNone NoState outcome before after said.status) (HoldsBack (WriteFailed outcome) new said))
           → IfErr result (λ given. IsFaultOfSaving given ⊎ (outcome ≡ Err (Program given)))
           → OnOk outcome ((result ≡ Ok (Whole said.status)) × (new' ≡ new)) → OnErr outcome (IfErr result (λ given. FailsWith (WriteFailed outcome) said new new' given))
           → IfErr result (λ given. FailsLate hash accepted verified exchanged key token options None' stream input Holds (IsUnknown None' given × (after.last ≡ None)) given old new')
       fails_so Holds before after none = by outcome result
         where
-          by : (outcome : Result (Unit {0}) RunFault) (result : Result RunEnd ProgramFault) → OnErr outcome (first ≡ emptied 0 → EndsEarly hash accepted verified exchanged key token options NoState stream input old Holds (LoadsNone NoState outcome before after said.status) (¬ IsStopped outcome) (HoldsBack (WriteFailed outcome) new said))
+          by : (outcome : Result (Unit {0}) RunFault) (result : Result RunEnd ProgramFault) → OnErr outcome (first ≡ emptied 0 → EndsEarly hash accepted verified exchanged key token options NoState stream input old Holds (LoadsNone NoState outcome before after said.status) (HoldsBack (WriteFailed outcome) new said))
               → IfErr result (λ given. IsFaultOfSaving given ⊎ (outcome ≡ Err (Program given)))
               → OnOk outcome ((result ≡ Ok (Whole said.status)) × (new' ≡ new)) → OnErr outcome (IfErr result (λ given. FailsWith (WriteFailed outcome) said new new' given))
               → IfErr result (λ given. FailsLate hash accepted verified exchanged key token options None' stream input Holds (IsUnknown None' given × (after.last ≡ None)) given old new')
           by (Err why) (Ok ended) early gives ends fails = tt
           by (Err why) (Err given) early gives ends (low, inl (well, wrote)) =
-              early-with (HoldsBack (WriteFailed (Err why)) new said) (λ told now. (told.status < 3) × WritesUnless (given ≡ CannotWrite) now new' told.lines) Holds (LoadsNone {A = Unit {0}} NoState (Err why) before after said.status) (IsUnknown None' given × (after.last ≡ None)) (¬ IsStopped {A = Unit {0}} (Err why)) ⊤ stream input old
-              (λ told now leaves. (subst (λ (n : ℕ). n < 3) leaves.0 low, inl (written_all (WriteFailed (Err why)) now new new' said told leaves well wrote))) (unknown-given before after why given none gives) (λ cut. tt) (early empty)
+              early-with (HoldsBack (WriteFailed (Err why)) new said) (λ told now. (told.status < 3) × WritesUnless (given ≡ CannotWrite) now new' told.lines) Holds (LoadsNone {A = Unit {0}} NoState (Err why) before after said.status) (IsUnknown None' given × (after.last ≡ None)) stream input old
+              (λ told now leaves. (subst (λ (n : ℕ). n < 3) leaves.0 low, inl (written_all (WriteFailed (Err why)) now new new' said told leaves well wrote))) (unknown-given before after why given none gives) (early empty)
           by (Err why) (Err given) early gives ends (low, inr (failed, wrote)) =
-              early-with (HoldsBack (WriteFailed (Err why)) new said) (λ told now. (told.status < 3) × WritesUnless (given ≡ CannotWrite) now new' told.lines) Holds (LoadsNone {A = Unit {0}} NoState (Err why) before after said.status) (IsUnknown None' given × (after.last ≡ None)) (¬ IsStopped {A = Unit {0}} (Err why)) ⊤ stream input old
-              (λ told now leaves. (subst (λ (n : ℕ). n < 3) leaves.0 low, inr (failed, written_then (WriteFailed (Err why)) now new new' said told leaves wrote))) (unknown-given before after why given none gives) (λ cut. tt) (early empty)
+              early-with (HoldsBack (WriteFailed (Err why)) new said) (λ told now. (told.status < 3) × WritesUnless (given ≡ CannotWrite) now new' told.lines) Holds (LoadsNone {A = Unit {0}} NoState (Err why) before after said.status) (IsUnknown None' given × (after.last ≡ None)) stream input old
+              (λ told now leaves. (subst (λ (n : ℕ). n < 3) leaves.0 low, inr (failed, written_then (WriteFailed (Err why)) now new new' said told leaves wrote))) (unknown-given before after why given none gives) (early empty)
           by (Ok done) result early gives (is, same) fails = subst (λ (r : Result RunEnd ProgramFault). IfErr r (λ given. FailsLate hash accepted verified exchanged key token options None' stream input Holds (IsUnknown None' given × (after.last ≡ None)) given old new')) (sym is) tt
 
 -- ---- a socket

@@ -1,5 +1,5 @@
 -- What a run adds to what is remembered.
-use Rattle.std.proofs.Common.{◌≡◌, ◌≢◌, ◌⊎◌, ℕ, List, drop, length, Option, Some, Result, Err, Ok, inl, inr, refl, subst, sym, ◌∙◌}
+use Rattle.std.proofs.Common.{◌≡◌, ◌≢◌, ℕ, List, drop, length, Option, Some, Result, Err, Ok, refl, subst, sym, ◌∙◌}
 use Rattle.std.specs.Prelude.{OnOk}
 use Rattle.textio.specs.Lines.{lines_of}
 use Rattle.textio.specs.declared.program_fault.ProgramFault.{ProgramFault}
@@ -9,10 +9,10 @@ use Rattle.memory.specs.Learning.{BeginsOne, Each, LearnsLine, MarksOne}
 use Rattle.memory.specs.Memories.{Memory}
 use Rattle.memory.specs.declared.item.Item.{Item}
 use Rattle.memory.specs.declared.kind.Kind.TheVariants.{Alarms, EvidenceLines}
-use Rattle.asking.specs.Keeping.{AddsTo, IsNewHead, IsSettled, IsStop, IsStopped, KeepsUp, LearnsAfter, LearnsBefore, LearnsPromises, MayMove, SavesTo}
+use Rattle.asking.specs.Keeping.{AddsTo, IsNewHead, IsSettled, KeepsUp, LearnsAfter, LearnsBefore, LearnsPromises, MayMove, SavesTo}
 use Rattle.asking.specs.Saves.{IsHeadEpoch}
 use Rattle.asking.specs.declared.ask_fault.AskFault.{AskFault}
-use Rattle.asking.specs.declared.ask_fault.AskFault.TheVariants.{NoReply, OutOfMemory, Stopped}
+use Rattle.asking.specs.declared.ask_fault.AskFault.TheVariants.{OutOfMemory}
 use Rattle.asking.specs.declared.ask_fault.RunFault.{RunFault}
 use Rattle.asking.specs.declared.ask_fault.RunFault.TheVariants.{Ask, Program}
 use Rattle.asking.specs.declared.asker.Asker.{Asker}
@@ -58,36 +58,6 @@ not_settled {A} {B} asked result fault is gives settled none =
 
 pub program_not : {B : Type 0} (result : Result B RunFault) (fault : ProgramFault) → result ≡ Err (Program fault) → IsSettled result → ⊥
 program_not {B} result fault is settled = subst (λ (r : Result B RunFault). IsSettled r) is settled
-
--- what the directory stopped is settled
-stop-settles : (A : Type 0) (why : RunFault) → IsStop why → IsSettled {A = A} (Err why)
-stop-settles A (Ask NoReply) stop = tt
-stop-settles A (Ask Stopped) stop = tt
-stop-settles A (Ask OutOfMemory) stop = absurd stop
-stop-settles A (Program fault) stop = absurd stop
-
-pub stopped_settles : {A : Type 0} (result : Result A RunFault) → IsStopped result → IsSettled result
-stopped_settles {A} (Ok done) stopped = absurd stopped
-stopped_settles {A} (Err why) stopped = stop-settles A why stopped
-
--- it is no fault of the program
-pub stopped_well : {A : Type 0} (result : Result A RunFault) (fault : ProgramFault) → result ≡ Err (Program fault) → IsStopped result → ⊥
-stopped_well {A} result fault is stopped = subst (λ (r : Result A RunFault). IsStopped r) is stopped
-
--- and stays so where it is passed on
-pub stopped_first : {A B : Type 0} (first : Result A RunFault) (result : Result B RunFault) (why : RunFault) → first ≡ Err why → result ≡ Err why → IsStopped result → IsStopped first
-stopped_first {A} {B} first result why at is stopped = subst (λ (r : Result A RunFault). IsStopped r) (sym at) (subst (λ (r : Result B RunFault). IsStopped r) is stopped)
-
--- it did, or not
-stop-or : (why : RunFault) → IsStop why ⊎ (¬ IsStop why)
-stop-or (Ask NoReply) = inl tt
-stop-or (Ask Stopped) = inl tt
-stop-or (Ask OutOfMemory) = inr (λ stop. stop)
-stop-or (Program fault) = inr (λ stop. stop)
-
-pub stopped_or : {A : Type 0} (result : Result A RunFault) → IsStopped result ⊎ (¬ IsStopped result)
-stopped_or (Ok done) = inr (λ stopped. stopped)
-stopped_or (Err why) = stop-or why
 
 all_not_err : {A E : Type 0} (done : A) (fault : E) → ◌≡◌ {A = Result A E} (Ok done) (Err fault) → ⊥
 all_not_err done fault e = cc

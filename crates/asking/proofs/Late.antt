@@ -19,7 +19,7 @@ use Rattle.memory.specs.declared.mark.Mark.{Mark}
 use Rattle.wire.specs.Frames.{Frame}
 use Rattle.wire.specs.Requests.{RequestContent}
 use Rattle.asking.specs.AskOptions.{AskOptions, ask_values}
-use Rattle.asking.specs.Ending.{AsksAs, AsksSomeLine, DoesSome, DoesSomeNoting, EndsEarly, EndsStale, FailsAs, FailsLate, HasFirst, HasLast, IsLastBy, IsNewFor, IsUnknown, LoadsNone, NotesFirst, PreparesSome, RunsAs, TellsFault}
+use Rattle.asking.specs.Ending.{AsksAs, AsksSomeLine, DoesSome, DoesSomeNoting, EndsEarly, EndsStale, FailsAs, FailsLate, HasFirst, HasLast, IsNewFor, IsUnknown, LoadsNone, NotesFirst, PreparesSome, RunsAs, Sees, TellsFault}
 use Rattle.asking.specs.Lateness.{stale_line, subject_in, subject_of, wanted_of, Finds, HasEpoch, HasNoted, HasNotedAs, IsLast, IsLimitOf, IsSameLimit, IsStale}
 use Rattle.asking.specs.Scenes.{Scene, scene}
 use Rattle.asking.specs.declared.ask_fault.AskFault.{AskFault}
@@ -82,19 +82,16 @@ noted_same marks marks' client client' monitors monitors' limit same one other n
 pub noted_still : (Is : Subject → ℕ → Type 0) (before after : Limit) → after ≡ before → HasNotedAs Is before → HasNotedAs Is after
 noted_still Is before after same noted = subst (λ (l : Limit). HasNotedAs Is l) (sym same) noted
 
--- It was noted where a question settled, or is as it was: so in a scene to which some step leads. Where the directory stopped
--- it, this is the one in which all was told.
-pub settled_noted : {H V S T A : Type 0} (Leads : Scene T → Type 0) (marks : List Mark) (asker : Asker H V S) (asked : Result A AskFault) (Settled IsStopped : Type 0) (Told : Report → Type 0) (told : Report) (before after : Limit) → asker.marks.items ≡ marks
-    → (asked ≢ Err NoMemory → (reached : Scene T) × Leads reached × (told ≡ reached.told) × (asker.client ≡ reached.client) × (asker.monitors.items ≡ reached.monitors))
-    → (IsStopped → Settled) → (IsStopped → Told told)
+-- It was noted where a question settled, or is as it was: so in a scene to which some step leads.
+pub settled_noted : {H V S T A : Type 0} (Leads : Scene T → Type 0) (marks : List Mark) (asker : Asker H V S) (asked : Result A AskFault) (Settled : Type 0) (before after : Limit) → asker.marks.items ≡ marks
+    → (asked ≢ Err NoMemory → (reached : Scene T) × Leads reached × (asker.client ≡ reached.client) × (asker.monitors.items ≡ reached.monitors))
     → (seen : Scene T) × Leads seen × HasNotedAs (IsLast marks seen.client seen.monitors) before
     → ((asked ≢ Err NoMemory) × HasNoted asker after) ⊎ ((¬ Settled) × (after ≡ before))
-    → (seen : Scene T) × Leads seen × (IsStopped → Told seen.told) × HasNotedAs (IsLast marks seen.client seen.monitors) after
-settled_noted Leads marks asker asked Settled IsStopped Told told before after same stands settles tells had (inl (some, noted)) =
-    let (reached, leads, is, client, monitors) = stands some in
-    (reached, leads, λ stopped. subst Told is (tells stopped), noted_same asker.marks.items marks asker.client reached.client asker.monitors.items reached.monitors after same client monitors noted)
-settled_noted Leads marks asker asked Settled IsStopped Told told before after same stands settles tells (seen, leads, noted) (inr (not, still)) =
-    (seen, leads, λ stopped. absurd (not (settles stopped)), noted_still (IsLast marks seen.client seen.monitors) before after still noted)
+    → (seen : Scene T) × Leads seen × HasNotedAs (IsLast marks seen.client seen.monitors) after
+settled_noted Leads marks asker asked Settled before after same stands had (inl (some, noted)) =
+    let (reached, leads, client, monitors) = stands some in
+    (reached, leads, noted_same asker.marks.items marks asker.client reached.client asker.monitors.items reached.monitors after same client monitors noted)
+settled_noted Leads marks asker asked Settled before after same stands (seen, leads, noted) (inr (not, still)) = (seen, leads, noted_still (IsLast marks seen.client seen.monitors) before after still noted)
 
 -- without words nothing has a last epoch
 pub no_subject : (order : AskOrder) (about : Subject) → order.command ≡ None → subject_in (ask_values order).words ≡ Some about → ⊥
@@ -153,21 +150,23 @@ module _ (hash : List ℕ → List ℕ) (accepted verified : List ℕ → List �
 
 module _ (hash : List ℕ → List ℕ) (accepted verified : List ℕ → List ℕ → List ℕ → Type 0) {T : Type 0} (exchanged : T → RequestContent → Frame → T → Type 0) (options : AskOptions) (HasNoState : Type 0) (background : Background) (start : Scene T) (limit : Limit) where
   -- what is new was followed up to some point
-  pub late_preparing : (Holds : Report → Type 0) → PreparesSome hash accepted verified exchanged background HasNoState start start → IsLimitOf options limit
-      → (seen : Scene T) × ((seen ≡ start) ⊎ PreparesSome hash accepted verified exchanged background HasNoState start seen) × Holds seen.told × HasNotedAs (IsLast background.marks seen.client seen.monitors) limit
-      → (seen : Scene T) × PreparesSome hash accepted verified exchanged background HasNoState start seen × Holds seen.told × HasLast hash accepted verified exchanged options background.marks seen (λ after last. limit.last ≡ Some last)
-  late_preparing Holds here is (seen, inl same, holds, noted) =
-      (seen, subst (λ (s : Scene T). PreparesSome hash accepted verified exchanged background HasNoState start s) (sym same) here, holds, late_noted (IsLast background.marks seen.client seen.monitors) options limit is noted)
-  late_preparing Holds here is (seen, inr some, holds, noted) = (seen, some, holds, late_noted (IsLast background.marks seen.client seen.monitors) options limit is noted)
+  pub late_preparing : IsLimitOf options limit → (seen : Scene T) × ((seen ≡ start) ⊎ PreparesSome hash accepted verified exchanged background HasNoState start seen) × HasNotedAs (IsLast background.marks seen.client seen.monitors) limit
+      → (seen : Scene T) × Sees hash accepted verified exchanged background options HasNoState start seen × HasLast hash accepted verified exchanged options background.marks seen (λ after last. limit.last ≡ Some last)
+  late_preparing is (seen, inl same, noted) = (seen, inl same, late_noted (IsLast background.marks seen.client seen.monitors) options limit is noted)
+  late_preparing is (seen, inr some, noted) = (seen, inr (inl some), late_noted (IsLast background.marks seen.client seen.monitors) options limit is noted)
 
   -- the words were asked up to some point
-  pub late_asking : (Holds : Report → Type 0) (background' : Background) (ready : Scene T) → IsLimitOf options limit → background' ≡ background
-      → (seen : Scene T) × AsksSomeLine hash accepted verified exchanged background' (words_line options.words) ready seen × Holds seen.told × HasNotedAs (IsLast background'.marks seen.client seen.monitors) limit
-      → (seen : Scene T) × AsksSomeLine hash accepted verified exchanged background (words_line options.words) ready seen × Holds seen.told × HasLast hash accepted verified exchanged options background.marks seen (λ after last. limit.last ≡ Some last)
-  late_asking Holds background' ready is same (seen, asks, holds, noted) = (
+  pub late_asking : (background' : Background) (ready : Scene T) (old now : Option (List ℕ)) → IsLimitOf options limit → background' ≡ background → Writes (Prepares hash accepted verified exchanged background HasNoState) start old now ready
+      → (seen : Scene T) × AsksSomeLine hash accepted verified exchanged background' (words_line options.words) ready seen × HasNotedAs (IsLast background'.marks seen.client seen.monitors) limit
+      → (seen : Scene T) × Sees hash accepted verified exchanged background options HasNoState start seen × HasLast hash accepted verified exchanged options background.marks seen (λ after last. limit.last ≡ Some last)
+  late_asking background' ready old now is same (done, prepares, appends, left) (seen, asks, noted) = (
     seen,
-    subst (λ (k : Background). AsksSomeLine hash accepted verified exchanged k (words_line options.words) ready seen) same asks,
-    holds,
+    inr (inr (
+      done,
+      prepares,
+      subst (λ (r : Scene T). AsksSomeLine hash accepted verified exchanged background (words_line options.words) r seen) left
+          (subst (λ (k : Background). AsksSomeLine hash accepted verified exchanged k (words_line options.words) ready seen) same asks),
+    )),
     late_noted (IsLast background.marks seen.client seen.monitors) options limit is (subst (λ (k : Background). HasNotedAs (IsLast k.marks seen.client seen.monitors) limit) same noted),
   )
 
@@ -188,9 +187,9 @@ does_noting hash accepted verified exchanged background fault (Piece session pie
 does_noting hash accepted verified exchanged background fault (End session) noted noted' before reached (inr (inr part)) = absurd part
 
 -- without words nothing is wanted at the end of a run
-pub late_none : {T : Type 0} (hash : List ℕ → List ℕ) (accepted verified : List ℕ → List ℕ → List ℕ → Type 0) (exchanged : T → RequestContent → Frame → T → Type 0) (order : AskOrder) (HasNoState : Type 0) (background : Background) (start : Scene T) (IsCut : Type 0) (Holds : ℕ → ℕ → Type 0) → order.command ≡ None
-    → (told : Report) → HasEpoch (ask_values order) (IsLastBy hash accepted verified exchanged background (ask_values order) HasNoState start told IsCut) Holds
-late_none hash accepted verified exchanged order HasNoState background start IsCut Holds none = λ told after given about words. absurd (no_subject order about none words)
+pub late_none : {T : Type 0} (hash : List ℕ → List ℕ) (accepted verified : List ℕ → List ℕ → List ℕ → Type 0) (exchanged : T → RequestContent → Frame → T → Type 0) (order : AskOrder) (HasNoState : Type 0) (background : Background) (start : Scene T) (Holds : ℕ → ℕ → Type 0) → order.command ≡ None
+    → (seen : Scene T) × Sees hash accepted verified exchanged background (ask_values order) HasNoState start seen × HasLast hash accepted verified exchanged (ask_values order) background.marks seen Holds
+late_none hash accepted verified exchanged order HasNoState background start Holds none = (start, inl refl, λ after given about words. absurd (no_subject order about none words))
 
 -- ---- the end
 
@@ -210,32 +209,32 @@ is-late options limit after epoch about is (inr (inr (known, here, above))) give
     subst (λ (e : ℕ). after < e) (same-some epoch known limit.last last here) (subst (λ (a : ℕ). a < known) (is.1 after given) above)
 
 module _ {T : Type 0} (hash : List ℕ → List ℕ) (accepted verified : List ℕ → List ℕ → List ℕ → Type 0) (exchanged : T → RequestContent → Frame → T → Type 0) (key token : List ℕ) (options : AskOptions) (HasNoState : Type 0) (stream stream' : T) (input old : Option (List ℕ)) (limit : Limit) (is : IsLimitOf options limit) where
-  held-late : (Unknown Unknown' IsCut : Type 0) (Then : Report → Option (List ℕ) → Type 0) → Finds limit None → (Unknown → Unknown') → EndsEarly hash accepted verified exchanged key token options HasNoState stream input old (λ after last. limit.last ≡ Some last) Unknown IsCut Then
-      → EndsEarly hash accepted verified exchanged key token options HasNoState stream input old (λ after last. after < last) Unknown' IsCut Then
-  held-late Unknown Unknown' IsCut Then finds leads run =
-      early_held hash accepted verified exchanged key token options HasNoState stream input old (λ after last. limit.last ≡ Some last) (λ after last. after < last) Unknown Unknown' IsCut IsCut Then
-      (λ after epoch about given words last. is-late options limit after epoch about is finds given words last) leads (λ cut. cut) run
+  held-late : (Unknown Unknown' : Type 0) (Then : Report → Option (List ℕ) → Type 0) → Finds limit None → (Unknown → Unknown') → EndsEarly hash accepted verified exchanged key token options HasNoState stream input old (λ after last. limit.last ≡ Some last) Unknown Then
+      → EndsEarly hash accepted verified exchanged key token options HasNoState stream input old (λ after last. after < last) Unknown' Then
+  held-late Unknown Unknown' Then finds leads run =
+      early_held hash accepted verified exchanged key token options HasNoState stream input old (λ after last. limit.last ≡ Some last) (λ after last. after < last) Unknown Unknown' Then
+      (λ after epoch about given words last. is-late options limit after epoch about is finds given words last) leads run
 
-  held-stale : (Unknown IsCut : Type 0) (Then : Report → Option (List ℕ) → Type 0) (epoch : ℕ) → Finds limit (Some epoch) → (Unknown → ⊥) → EndsEarly hash accepted verified exchanged key token options HasNoState stream input old (λ after last. limit.last ≡ Some last) Unknown IsCut Then
-      → EndsEarly hash accepted verified exchanged key token options HasNoState stream input old (λ after last. last ≡ epoch) ⊥ IsCut Then
-  held-stale Unknown IsCut Then epoch (some, here, low) leads run =
-      early_held hash accepted verified exchanged key token options HasNoState stream input old (λ after last. limit.last ≡ Some last) (λ after last. last ≡ epoch) Unknown ⊥ IsCut IsCut Then
-      (λ after other about given words last. same-some epoch other limit.last here last) leads (λ cut. cut) run
+  held-stale : (Unknown : Type 0) (Then : Report → Option (List ℕ) → Type 0) (epoch : ℕ) → Finds limit (Some epoch) → (Unknown → ⊥) → EndsEarly hash accepted verified exchanged key token options HasNoState stream input old (λ after last. limit.last ≡ Some last) Unknown Then
+      → EndsEarly hash accepted verified exchanged key token options HasNoState stream input old (λ after last. last ≡ epoch) ⊥ Then
+  held-stale Unknown Then epoch (some, here, low) leads run =
+      early_held hash accepted verified exchanged key token options HasNoState stream input old (λ after last. limit.last ≡ Some last) (λ after last. last ≡ epoch) Unknown ⊥ Then
+      (λ after other about given words last. same-some epoch other limit.last here last) leads run
 
   asked-late : (ended : RunEnd) (new : Option (List ℕ)) → Finds limit None → AsksAs hash accepted verified exchanged key token options HasNoState stream stream' input (λ after last. limit.last ≡ Some last) ended old new
       → RunsAs hash accepted verified exchanged key token options HasNoState stream stream' input ended old new
   asked-late (Whole status) new finds (run, late) =
       (run, λ after given about words. let (epoch, at, last) = late after given about words in (epoch, at, is-late options limit after epoch about is finds given words last))
-  asked-late (Stopped status) new finds run = held-late ⊥ ⊥ (3 ≤ status) _ finds (λ no. no) run
-  asked-late Unwritten new finds run = inl (held-late ⊥ ⊥ ⊤ _ finds (λ no. no) run)
+  asked-late (Stopped status) new finds run = held-late ⊥ ⊥ _ finds (λ no. no) run
+  asked-late Unwritten new finds run = inl (held-late ⊥ ⊥ _ finds (λ no. no) run)
   asked-late (Stale epoch) new finds run = absurd run
 
   asked-stale : (epoch : ℕ) (ended : RunEnd) (new : Option (List ℕ)) → Finds limit (Some epoch) → AsksAs hash accepted verified exchanged key token options HasNoState stream stream' input (λ after last. limit.last ≡ Some last) ended old new
       → AsksAs hash accepted verified exchanged key token options HasNoState stream stream' input (λ after last. last ≡ epoch) ended old new
   asked-stale epoch (Whole status) new (some, here, low) (run, late) =
       (run, λ after given about words. let (last, at, is') = late after given about words in (last, at, same-some epoch last limit.last here is'))
-  asked-stale epoch (Stopped status) new finds run = held-stale ⊥ (3 ≤ status) _ epoch finds (λ no. no) run
-  asked-stale epoch Unwritten new finds run = held-stale ⊥ ⊤ _ epoch finds (λ no. no) run
+  asked-stale epoch (Stopped status) new finds run = held-stale ⊥ _ epoch finds (λ no. no) run
+  asked-stale epoch Unwritten new finds run = held-stale ⊥ _ epoch finds (λ no. no) run
   asked-stale epoch (Stale other) new finds run = absurd run
 
   ends-stale : (epoch : ℕ) (ended : Result RunEnd ProgramFault) (new : Option (List ℕ)) (Then : Option (List ℕ) → Type 0) → Finds limit (Some epoch) → Then new
@@ -244,7 +243,7 @@ module _ {T : Type 0} (hash : List ℕ → List ℕ) (accepted verified : List �
       → EndsStale hash accepted verified exchanged key token options HasNoState stream stream' input epoch old Then
   ends-stale epoch (Ok one) new Then finds holds asks fails = (is-stale options limit epoch is finds, (new, holds, inl (one, asked-stale epoch one new finds asks)))
   ends-stale epoch (Err fault) new Then finds holds asks fails =
-      (is-stale options limit epoch is finds, (new, holds, inr (fault, held-stale (IsUnknown HasNoState fault × (limit.last ≡ None)) ⊤ _ epoch finds (λ (unknown, none). some-not epoch limit.last none finds.1) fails)))
+      (is-stale options limit epoch is finds, (new, holds, inr (fault, held-stale (IsUnknown HasNoState fault × (limit.last ≡ None)) _ epoch finds (λ (unknown, none). some-not epoch limit.last none finds.1) fails)))
 
   module _ (ended result : Result RunEnd ProgramFault) (new new' : Option (List ℕ)) where
     -- a run as it ends once this is told
@@ -281,7 +280,7 @@ module _ {T : Type 0} (hash : List ℕ → List ℕ) (accepted verified : List �
         by : (one : Result RunEnd ProgramFault) → IfErr one (λ fault. FailsLate hash accepted verified exchanged key token options HasNoState stream input (λ after last. limit.last ≡ Some last) (IsUnknown HasNoState fault × (limit.last ≡ None)) fault old new)
             → IfErr one (λ fault. FailsAs hash accepted verified exchanged key token options HasNoState stream input fault old new)
         by (Ok one) run = tt
-        by (Err fault) run = held-late (IsUnknown HasNoState fault × (limit.last ≡ None)) (IsUnknown HasNoState fault) ⊤ _ finds (λ unknown. unknown.0) run
+        by (Err fault) run = held-late (IsUnknown HasNoState fault × (limit.last ≡ None)) (IsUnknown HasNoState fault) _ finds (λ unknown. unknown.0) run
     fails_late (Some epoch) finds fails same (inl (is-stale', wrote)) = subst (λ (r : Result RunEnd ProgramFault). IfErr r (λ fault. FailsAs hash accepted verified exchanged key token options HasNoState stream input fault old new')) (sym is-stale') tt
     fails_late (Some epoch) finds fails same (inr (is-part, wrote)) = subst (λ (r : Result RunEnd ProgramFault). IfErr r (λ fault. FailsAs hash accepted verified exchanged key token options HasNoState stream input fault old new')) (sym is-part) tt
 

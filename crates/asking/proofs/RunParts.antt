@@ -14,7 +14,6 @@ use Rattle.asking.specs.Catching.{Advances, AdvancesSome, CatchesSome, CatchesUp
 use Rattle.asking.specs.Ending.{AdvancesPart, DoesSome, LooksSome, PreparesSome}
 use Rattle.asking.specs.Following.{IsBelow, StopsList}
 use Rattle.asking.specs.Lateness.{HasNoted, HasNotedAs, IsLast}
-use Rattle.asking.specs.Reports.{report_of, Report}
 use Rattle.asking.specs.Runs.{Background, Prepares}
 use Rattle.asking.specs.Scenes.{scene, HaltsAfter, Scene}
 use Rattle.asking.specs.Visiting.{TestsAll}
@@ -54,10 +53,10 @@ module _ {H V S T : Type 0} (hash : List ℕ → List ℕ) (accepted verified : 
     prepares_below reached (inr stops) = inr (some, inr (inl (record { reply = gets (Query Head) sends; stops = stops })))
 
     -- what is so of client and monitors on the way to that
-    pub prepares_seen : (Is : Client → List Monitor → Report → Type 0)
-        → (seen : Scene T) × ((seen ≡ scene asker said stream') ⊎ (CatchesSome hash accepted verified exchanged reply.epoch (scene asker said stream') seen ⊎ StopsBelow hash accepted verified exchanged reply.epoch (scene asker said stream') seen)) × Is seen.client seen.monitors seen.told
-        → (seen : Scene T) × ((seen ≡ scene asker said stream) ⊎ PreparesSome hash accepted verified exchanged background HasNoState (scene asker said stream) seen) × Is seen.client seen.monitors seen.told
-    prepares_seen Is (seen, inl same, is) = (scene asker said stream, inl refl, subst (λ (s : Scene T). Is s.client s.monitors s.told) same is)
+    pub prepares_seen : (Is : Client → List Monitor → Type 0)
+        → (seen : Scene T) × ((seen ≡ scene asker said stream') ⊎ (CatchesSome hash accepted verified exchanged reply.epoch (scene asker said stream') seen ⊎ StopsBelow hash accepted verified exchanged reply.epoch (scene asker said stream') seen)) × Is seen.client seen.monitors
+        → (seen : Scene T) × ((seen ≡ scene asker said stream) ⊎ PreparesSome hash accepted verified exchanged background HasNoState (scene asker said stream) seen) × Is seen.client seen.monitors
+    prepares_seen Is (seen, inl same, is) = (scene asker said stream, inl refl, subst (λ (s : Scene T). Is s.client s.monitors) same is)
     prepares_seen Is (seen, inr below, is) = (seen, inr (prepares_below seen below), is)
 
     module _ (text : List ℕ) (ready : Scene T) (catches : CatchesUp hash accepted verified exchanged reply.epoch (scene asker said stream') (shifted (first_told text) ready)) where
@@ -103,10 +102,10 @@ module _ {H V S T : Type 0} (hash : List ℕ → List ℕ) (accepted verified : 
     asks_below reached (inr stops) = inr (inr (inl (record { reply = gets asked sends; stops = stops })))
 
     -- what is so of client and monitors on the way to it
-    pub asks_seen : (Is : Client → List Monitor → Report → Type 0)
-        → (seen : Scene T) × ((seen ≡ scene asker said stream') ⊎ (CatchesSome hash accepted verified exchanged reply.epoch (scene asker said stream') seen ⊎ StopsBelow hash accepted verified exchanged reply.epoch (scene asker said stream') seen)) × Is seen.client seen.monitors seen.told
-        → (seen : Scene T) × DoesSome hash accepted verified exchanged background (Ask asked) (scene asker said stream) seen × Is seen.client seen.monitors seen.told
-    asks_seen Is (seen, inl same, is) = (scene asker said stream, inl refl, subst (λ (s : Scene T). Is s.client s.monitors s.told) same is)
+    pub asks_seen : (Is : Client → List Monitor → Type 0)
+        → (seen : Scene T) × ((seen ≡ scene asker said stream') ⊎ (CatchesSome hash accepted verified exchanged reply.epoch (scene asker said stream') seen ⊎ StopsBelow hash accepted verified exchanged reply.epoch (scene asker said stream') seen)) × Is seen.client seen.monitors
+        → (seen : Scene T) × DoesSome hash accepted verified exchanged background (Ask asked) (scene asker said stream) seen × Is seen.client seen.monitors
+    asks_seen Is (seen, inl same, is) = (scene asker said stream, inl refl, subst (λ (s : Scene T). Is s.client s.monitors) same is)
     asks_seen Is (seen, inr below, is) = (seen, asks_below seen below, is)
 
     module _ (text : List ℕ) (ready : Scene T) (catches : CatchesUp hash accepted verified exchanged reply.epoch (scene asker said stream') (shifted (first_told text) ready)) (noted noted' : List SignedPromise) where
@@ -147,17 +146,16 @@ module _ {H V S T : Type 0} (hash : List ℕ → List ℕ) (accepted verified : 
 -- ---- the last epoch that is noted where a list was taken
 
 pub advanced_noted : {H V S T : Type 0} (hash : List ℕ → List ℕ) (accepted verified : List ℕ → List ℕ → List ℕ → Type 0) (exchanged : T → RequestContent → Frame → T → Type 0) (background : Background) (epoch : ℕ)
-    (before after : Asker H V S) (said said' : Said) (stream stream' : T) (advanced : Result Bool AskFault) (asked : Result (Unit {0}) AskFault) (Settled IsStopped : Type 0) (Told : Report → Type 0) (limit limit' : Limit)
+    (before after : Asker H V S) (said said' : Said) (stream stream' : T) (advanced : Result Bool AskFault) (asked : Result (Unit {0}) AskFault) (Settled : Type 0) (limit limit' : Limit)
     → after.marks ≡ before.marks → advanced ≢ Ok false → IfErr advanced (λ fault. asked ≡ Err fault)
     → IfOk advanced (λ goes. Advances hash accepted verified exchanged epoch (scene before said stream) goes (scene after said' stream'))
     → (advanced ≡ Err Stopped → IsBelow epoch before.client × StopsList hash verified exchanged (scene before said stream) (scene after said' stream'))
     → IfErr advanced (λ why. why ≢ Stopped → IsBelow epoch before.client × HaltsAfter (AdvancesSome hash accepted verified exchanged epoch (scene before said stream)) why after said')
-    → (IsStopped → Settled) → (IsStopped → Told (report_of said'))
     → HasNoted before limit → ((asked ≢ Err NoMemory) × HasNoted after limit') ⊎ ((¬ Settled) × (limit' ≡ limit))
-    → (seen : Scene T) × ((seen ≡ scene before said stream) ⊎ AdvancesPart hash accepted verified exchanged background epoch (scene before said stream) seen) × (IsStopped → Told seen.told) × HasNotedAs (IsLast before.marks.items seen.client seen.monitors) limit'
-advanced_noted {H} {V} {S} {T} hash accepted verified exchanged background epoch before after said said' stream stream' advanced asked Settled IsStopped Told limit limit' still goes fails advances stops halts settles told had noted =
-    settled_noted (λ (seen : Scene T). (seen ≡ scene before said stream) ⊎ AdvancesPart hash accepted verified exchanged background epoch (scene before said stream) seen) before.marks.items after asked Settled IsStopped Told (report_of said') limit limit' (ap (λ (ms : Vec Mark Global). ms.items) still)
+    → (seen : Scene T) × ((seen ≡ scene before said stream) ⊎ AdvancesPart hash accepted verified exchanged background epoch (scene before said stream) seen) × HasNotedAs (IsLast before.marks.items seen.client seen.monitors) limit'
+advanced_noted {H} {V} {S} {T} hash accepted verified exchanged background epoch before after said said' stream stream' advanced asked Settled limit limit' still goes fails advances stops halts had noted =
+    settled_noted (λ (seen : Scene T). (seen ≡ scene before said stream) ⊎ AdvancesPart hash accepted verified exchanged background epoch (scene before said stream) seen) before.marks.items after asked Settled limit limit' (ap (λ (ms : Vec Mark Global). ms.items) still)
     (λ some.
-    let (reached, part, same, client, monitors) = advanced_part hash accepted verified exchanged background epoch advanced (scene before said stream) after said' stream' goes advances stops halts (answered_enough advanced asked fails some) in
-    (reached, inr part, same, client, monitors))
-    settles told (scene before said stream, inl refl, had) noted
+    let (reached, part, told, client, monitors) = advanced_part hash accepted verified exchanged background epoch advanced (scene before said stream) after said' stream' goes advances stops halts (answered_enough advanced asked fails some) in
+    (reached, inr part, client, monitors))
+    (scene before said stream, inl refl, had) noted

@@ -1,5 +1,5 @@
 -- How a run ends: whole, stopped, or with a fault.
-use Rattle.std.specs.Prelude.{◌≡◌, ◌⊎◌, ◌↔◌, ◌<◌, ◌≤◌, ℕ, List, [], ◌∷◌, ◌++◌, nat_lt, if◌then◌else◌, Option, Some, None, Result, Ok, Err, IfSome, true, ⊤}
+use Rattle.std.specs.Prelude.{◌≡◌, ◌⊎◌, ◌↔◌, ◌<◌, ◌≤◌, ℕ, List, [], ◌∷◌, ◌++◌, nat_lt, if◌then◌else◌, Option, Some, None, Result, Ok, Err, IfSome, true}
 use Rattle.std.specs.Io.KnownBytes.{Appends, Keeps}
 use Rattle.nodehash.specs.Sha256.{sha256}
 use Rattle.vrfiface.specs.StandIns.{KeyedAccepts}
@@ -34,7 +34,6 @@ use Rattle.asking.specs.declared.ask_fault.RunFault.{RunFault}
 use Rattle.asking.specs.declared.ask_fault.RunFault.TheVariants.{Program}
 use Rattle.asking.specs.declared.connecting.Connection.{Connection}
 use Rattle.asking.specs.declared.lateness.Limit.{Limit}
-use Rattle.asking.specs.declared.lateness.Subject.{Subject}
 use Rattle.asking.specs.declared.run.Run.{Run}
 use Rattle.memory.specs.declared.mark.Mark.{Mark}
 use Rattle.asking.specs.declared.run.RunEnd.{RunEnd}
@@ -177,12 +176,6 @@ module _ (hash : List ℕ → List ℕ) (accepted verified : List ℕ → List �
     Sees options HasNoState start seen = (seen ≡ start) ⊎ (PreparesSome HasNoState start seen
         ⊎ ((done : Scene T) × Prepares hash accepted verified exchanged background HasNoState start done × AsksSomeLine (words_line options.words) (written done) seen))
 
-    -- the last epoch where such a run ended early, with this told behind what was written before: that of the scene in which it was
-    -- told, or perhaps that of another one, where not the directory stopped the run
-    abbrev pub IsLastBy : AskOptions → Type 0 → Scene T → Report → Type 0 → Subject → ℕ → Type 0
-    IsLastBy options HasNoState start told IsCut about epoch =
-        (seen : Scene T) × Sees options HasNoState start seen × ((told ≡ seen.told) ⊎ IsCut) × IsLast background.marks seen.client seen.monitors about epoch
-
   -- the last epoch, where it is wanted, in a scene, and this holds of what it has to be above and of it
   abbrev pub HasLast : AskOptions → List Mark → Scene T → (ℕ → ℕ → Type 0) → Type 0
   HasLast options marks last Holds = HasEpoch options (IsLast marks last.client last.monitors) Holds
@@ -193,13 +186,12 @@ module _ (hash : List ℕ → List ℕ) (accepted verified : List ℕ → List �
       ⊎ ((¬ HasNoState) × ((marks : List Mark) × (client : Client) × IsSoundFor hash accepted verified key client × HasEpoch options (IsLast marks client []) Holds))
 
   -- A run that ends before all is asked: no client starts, or it ends at such a place. Then this holds of what
-  -- was told and is not yet written, and of the output before that. The last epoch is that of the scene in which this was told, unless
-  -- the run was cut short so; or it is not known.
-  abbrev pub EndsEarly : List ℕ → List ℕ → AskOptions → Type 0 → T → Option (List ℕ) → Option (List ℕ) → (ℕ → ℕ → Type 0) → Type 0 → Type 0 → (Report → Option (List ℕ) → Type 0) → Type 0
-  EndsEarly key token options HasNoState stream input old Holds Unknown IsCut Then = (told : Report) × (now : Option (List ℕ)) × Then told now
+  -- was told and is not yet written, and of the output before that. The last epoch is that of a scene of the run, or not known.
+  abbrev pub EndsEarly : List ℕ → List ℕ → AskOptions → Type 0 → T → Option (List ℕ) → Option (List ℕ) → (ℕ → ℕ → Type 0) → Type 0 → (Report → Option (List ℕ) → Type 0) → Type 0
+  EndsEarly key token options HasNoState stream input old Holds Unknown Then = (told : Report) × (now : Option (List ℕ)) × Then told now
       × ((BeginsNone verified exchanged key stream (emptied 0) told × (now ≡ old) × (Unknown ⊎ HasFirst key options HasNoState Holds))
       ⊎ ((background : Background) × (start : Scene T) × StartsRun hash accepted verified exchanged key token HasNoState stream background start × RunEndsAt background options HasNoState input start old told now
-      × HasEpoch options (IsLastBy background options HasNoState start told IsCut) Holds))
+      × ((seen : Scene T) × Sees background options HasNoState start seen × HasLast options background.marks seen Holds)))
 
   -- a whole run, with such a last epoch at its end
   abbrev pub RunsLate : List ℕ → List ℕ → AskOptions → Type 0 → T → T → Option (List ℕ) → (ℕ → ℕ → Type 0) → ℕ → Option (List ℕ) → Option (List ℕ) → Type 0
@@ -207,20 +199,19 @@ module _ (hash : List ℕ → List ℕ) (accepted verified : List ℕ → List �
       (run : RunsWhole hash accepted verified exchanged key token options HasNoState stream stream' input status old new) × HasLast options run.background.marks run.last Holds
 
   -- All was asked, or this was stopped: all that was told is then written, and the status is that of evidence or an alarm
-  -- exactly where some was told; behind such, memory may have run out. Or a write failed, and some was told: a beginning is
-  -- written. This holds of the last epoch.
+  -- exactly where some was told. Or a write failed, and some was told: a beginning is written. This holds of the last epoch.
   abbrev pub AsksAs : List ℕ → List ℕ → AskOptions → Type 0 → T → T → Option (List ℕ) → (ℕ → ℕ → Type 0) → RunEnd → Option (List ℕ) → Option (List ℕ) → Type 0
   AsksAs key token options HasNoState stream stream' input Holds (Whole status) old new = RunsLate key token options HasNoState stream stream' input Holds status old new
   AsksAs key token options HasNoState stream stream' input Holds (Stopped status) old new =
-      EndsEarly key token options HasNoState stream input old Holds ⊥ (CAUGHT ≤ status) (λ told now. (status ≡ stopped_status told.status) × Appends now new told.lines)
+      EndsEarly key token options HasNoState stream input old Holds ⊥ (λ told now. (status ≡ stopped_status told.status) × Appends now new told.lines)
   AsksAs key token options HasNoState stream stream' input Holds Unwritten old new =
-      EndsEarly key token options HasNoState stream input old Holds ⊥ ⊤ (λ told now. (CAUGHT ≤ told.status) × WritesSome now new told.lines)
+      EndsEarly key token options HasNoState stream input old Holds ⊥ (λ told now. (CAUGHT ≤ told.status) × WritesSome now new told.lines)
   AsksAs key token options HasNoState stream stream' input Holds (Stale epoch) old new = ⊥
 
   -- a run that ends with a fault: neither evidence nor an alarm was told, and all that was told is written unless a write failed
   abbrev pub FailsLate : List ℕ → List ℕ → AskOptions → Type 0 → T → Option (List ℕ) → (ℕ → ℕ → Type 0) → Type 0 → ProgramFault → Option (List ℕ) → Option (List ℕ) → Type 0
   FailsLate key token options HasNoState stream input Holds Unknown fault old new =
-      EndsEarly key token options HasNoState stream input old Holds Unknown ⊤ (λ told now. (told.status < CAUGHT) × WritesUnless (fault ≡ CannotWrite) now new told.lines)
+      EndsEarly key token options HasNoState stream input old Holds Unknown (λ told now. (told.status < CAUGHT) × WritesUnless (fault ≡ CannotWrite) now new told.lines)
 
   -- the same, where the last epoch is above what the order says, or may be unknown
   abbrev pub FailsAs : List ℕ → List ℕ → AskOptions → Type 0 → T → Option (List ℕ) → ProgramFault → Option (List ℕ) → Option (List ℕ) → Type 0

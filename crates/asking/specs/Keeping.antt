@@ -54,17 +54,6 @@ IsSettled (Err (run.Ask Stopped)) = ⊤
 IsSettled (Err (run.Ask OutOfMemory)) = ⊥
 IsSettled (Err (run.Program fault)) = ⊥
 
--- the directory stopped it: no reply came, or no root was taken
-abbrev pub IsStop : RunFault → Type 0
-IsStop (run.Ask NoReply) = ⊤
-IsStop (run.Ask Stopped) = ⊤
-IsStop (run.Ask OutOfMemory) = ⊥
-IsStop (run.Program fault) = ⊥
-
-abbrev pub IsStopped : {A : Type 0} → Result A RunFault → Type 0
-IsStopped (Ok done) = ⊥
-IsStopped (Err fault) = IsStop fault
-
 -- what a state learns before this is told, and how far it looked; where there is none, nothing is kept
 abbrev pub AddsTo : {H V S : Type 0} → Asker H V S → List ℕ → Option State → Option State → Type 0
 AddsTo asker told None after = after ≡ None

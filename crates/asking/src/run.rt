@@ -13,7 +13,7 @@ ghost use Rattle.asking.specs.Ending.{AdvancesPart, AsksPart, AsksSomeLine, Begi
 ghost use Rattle.asking.specs.Exchanges.{ExchangesFrames, HoldsFrame};
 ghost use Rattle.asking.specs.Following.{IsBelow, StopsList};
 ghost use Rattle.asking.specs.Lateness.{Finds, HasNoted, HasNotedAs, IsLast, IsLimitOf, IsSameLimit};
-ghost use Rattle.asking.specs.Keeping.{AddsTo, IsSettled, IsStop, IsStopped, KeepsUp, SavesTo};
+ghost use Rattle.asking.specs.Keeping.{AddsTo, IsSettled, KeepsUp, SavesTo};
 ghost use Rattle.asking.specs.Marking.{IsUnlooked, LeavesMarked, MarksOn, RunsMarked};
 ghost use Rattle.asking.specs.Recalled.{evidence_again};
 ghost use Rattle.asking.specs.Reports.{report_of, told_after, Report};
@@ -168,7 +168,7 @@ impl Run {
         ensures stopped { OnErr outcome (IfOk result (EndsWith (outcome ≡ Err (Program CannotWrite)) (self.old).said (W.contents writer.old) (W.contents writer.new))) }
         ensures failed { OnErr outcome (IfErr result (FailsWith (outcome ≡ Err (Program CannotWrite)) (self.old).said (W.contents writer.old) (W.contents writer.new))) }
         ensures gives { IfErr result (λ given. IsFaultOfSaving given ⊎ (outcome ≡ Err (Program given))) }
-        ensures fails { OnErr outcome (¬ IsStopped outcome → (self.old).said.status < CAUGHT → IfOk result (λ ended. ⊥)) }
+        ensures fails { (fault : ProgramFault) → outcome ≡ Err (Program fault) → (self.old).said.status < CAUGHT → IfOk result (λ ended. ⊥) }
         ensures grows { Grows (W.contents writer.old) (W.contents writer.new) }
         ensures limit { (self.new).limit ≡ (self.old).limit }
     {
@@ -202,7 +202,7 @@ impl Run {
         ensures written { OnOk result ((fault ≢ Program CannotWrite) × Appends (W.contents writer.old) (W.contents writer.new) (self.old).said.text.items) }
         ensures unwritten { IfErr result (λ given. ((fault ≢ Program CannotWrite) × Appends (W.contents writer.old) (W.contents writer.new) (self.old).said.text.items) ⊎ (given ≡ CannotWrite)) }
         ensures gives { IfErr result (λ given. IsFaultOfSaving given ⊎ (fault ≡ Program given)) }
-        ensures fails { OnOk result (IsStop fault) }
+        ensures fails { OnOk result ((given : ProgramFault) → fault ≢ Program given) }
         ensures grows { Grows (W.contents writer.old) (W.contents writer.new) }
         ensures limit { (self.new).limit ≡ (self.old).limit }
     {
@@ -253,7 +253,7 @@ impl Run {
             (λ number. IfSome (lines_asked (ask_values order.entry).words (R.remaining reader.old)) (λ lines. IsFirstUnasked 1 lines number)))) }
         ensures part { OnErr result (report_of (self.old).said ≡ emptied 0 → IsLimitOf (ask_values order.entry) (self.old).limit → EndsEarly H.digest_of V.accepted S.verified (ExchangesFrames T.contents T.remaining) keys.now.signing_key keys.now.token (ask_values order.entry)
             ((self.old).state ≡ None) stream.old (R.remaining reader.old) (W.contents writer.old) (λ after last. (self.new).limit.last ≡ Some last)
-            (LoadsNone ((self.old).state ≡ None) result (self.old).limit (self.new).limit (self.new).said.status) (¬ IsStopped result) (HoldsBack (result ≡ Err (Program CannotWrite)) (W.contents writer.new) (self.new).said)) }
+            (LoadsNone ((self.old).state ≡ None) result (self.old).limit (self.new).limit (self.new).said.status) (HoldsBack (result ≡ Err (Program CannotWrite)) (W.contents writer.new) (self.new).said)) }
         ensures kept { IsFresh (self.old).state → (old : List ℕ) (acts : List Act) → W.contents writer.old ≡ Some old → K.has keeper.old acts
             → LeavesTold H.digest_of V.accepted S.verified (lines_asked (ask_values order.entry).words (R.remaining reader.old)) keys.now.signing_key old (λ done. K.has keeper.new (done ++ acts)) }
         ensures marks { OnOk result (IsFresh (self.old).state → IsUnlooked (self.old).state → report_of (self.old).said ≡ emptied 0 → (old : List ℕ) (acts : List Act) → W.contents writer.old ≡ Some old → K.has keeper.old acts
@@ -295,7 +295,7 @@ impl Run {
             (λ number. IfSome (lines_asked (ask_values order.entry).words (R.remaining reader.old)) (λ lines. IsFirstUnasked 1 lines number)))) }
         ensures part { report_of (self.old).said ≡ emptied 0 → IsLimitOf (ask_values order.entry) (self.old).limit → EndsEarly H.digest_of V.accepted S.verified (ExchangesFrames T.contents T.remaining) keys.now.signing_key keys.now.token (ask_values order.entry)
             ((self.old).state ≡ None) stream.old (R.remaining reader.old) (W.contents writer.old) (λ after last. (self.new).limit.last ≡ Some last)
-            (LoadsNone ((self.old).state ≡ None) result (self.old).limit (self.new).limit (self.new).said.status) (¬ IsStopped result) (HoldsBack (result ≡ Err (Program CannotWrite)) (W.contents writer.new) (self.new).said) }
+            (LoadsNone ((self.old).state ≡ None) result (self.old).limit (self.new).limit (self.new).said.status) (HoldsBack (result ≡ Err (Program CannotWrite)) (W.contents writer.new) (self.new).said) }
         ensures kept { IsFresh (self.old).state → (old : List ℕ) (acts : List Act) → W.contents writer.old ≡ Some old → K.has keeper.old acts
             → IsLeft H.digest_of V.accepted S.verified (lines_asked (ask_values order.entry).words (R.remaining reader.old)) keys.now.signing_key old (λ done. K.has keeper.new (done ++ acts)) (self.new).state (W.contents writer.new) }
         ensures marks { OnOk result (IsFresh (self.old).state → IsUnlooked (self.old).state → report_of (self.old).said ≡ emptied 0 → (old : List ℕ) (acts : List Act) → W.contents writer.old ≡ Some old → K.has keeper.old acts
@@ -327,7 +327,6 @@ impl Run {
     ) -> Result<(), RunFault>
         ensures ok { OnOk result (asked ≡ Ok tt) }
         ensures err { IfErr result (λ fault. (asked ≡ Err fault) ⊎ ((asked ≡ Ok tt) × StopsOr IsFaultOfSaving fault)) }
-        ensures stopped { IsStopped result → IsStopped asked }
         ensures said { (self.new).said ≡ (self.old).said }
         ensures hands { (acts : List Act) → K.has keeper.old acts → LeavesState (K.has keeper.new) acts (self.old).state (W.contents writer.now) }
         ensures limit { (self.new).limit ≡ (self.old).limit }
@@ -500,7 +499,7 @@ impl Run {
         ensures notes { OnOk result (HasNoted asker.new (self.new).limit) }
         ensures noted { HasNoted asker.old (self.old).limit → (seen : Scene T) × ((seen ≡ scene asker.old (self.old).said stream.old)
             ⊎ PreparesSome H.digest_of V.accepted S.verified (ExchangesFrames T.contents T.remaining) (background_of asker.old) ((self.old).state ≡ None) (scene asker.old (self.old).said stream.old) seen)
-            × (IsStopped result → HoldsBack ⊥ (W.contents writer.new) (self.new).said seen.told (W.contents writer.old)) × HasNotedAs (IsLast (asker.old).marks.items seen.client seen.monitors) (self.new).limit }
+            × HasNotedAs (IsLast (asker.old).marks.items seen.client seen.monitors) (self.new).limit }
     {
         // Without a state the chain begins at the latest root.
         if self.state.is_none() {
@@ -552,7 +551,7 @@ impl Run {
             → (low : ℕ) → IsUpTo asker.old.client low → epoch ≤ low → IfSome (self.new).state (λ state. Fits low state.memory)) }
         ensures noted { HasNoted asker.old (self.old).limit → (seen : Scene T) × ((seen ≡ scene asker.old (self.old).said stream.old)
             ⊎ (CatchesSome H.digest_of V.accepted S.verified (ExchangesFrames T.contents T.remaining) epoch (scene asker.old (self.old).said stream.old) seen ⊎ StopsBelow H.digest_of V.accepted S.verified (ExchangesFrames T.contents T.remaining) epoch (scene asker.old (self.old).said stream.old) seen))
-            × (IsStopped result → HoldsBack ⊥ (W.contents writer.new) (self.new).said seen.told (W.contents writer.old)) × HasNotedAs (IsLast (asker.old).marks.items seen.client seen.monitors) (self.new).limit }
+            × HasNotedAs (IsLast (asker.old).marks.items seen.client seen.monitors) (self.new).limit }
     {
         for _list in 0..MAX_LISTS {
             if !self.advance(asker, epoch, keeper, stream, writer, errors)? {
@@ -603,7 +602,7 @@ impl Run {
         ensures notes { result ≡ Ok true → HasNoted asker.new (self.new).limit }
         ensures noted { HasNoted asker.old (self.old).limit → (seen : Scene T) × ((seen ≡ scene asker.old (self.old).said stream.old)
             ⊎ AdvancesPart H.digest_of V.accepted S.verified (ExchangesFrames T.contents T.remaining) (background_of asker.old) epoch (scene asker.old (self.old).said stream.old) seen)
-            × (IsStopped result → HoldsBack ⊥ (W.contents writer.new) (self.new).said seen.told (W.contents writer.old)) × HasNotedAs (IsLast (asker.old).marks.items seen.client seen.monitors) (self.new).limit }
+            × HasNotedAs (IsLast (asker.old).marks.items seen.client seen.monitors) (self.new).limit }
     {
         let advanced = asker.advance(stream, epoch, &mut self.said);
         if advanced == Ok(false) {
@@ -721,7 +720,7 @@ impl Run {
         ensures limit { IsSameLimit (self.old).limit (self.new).limit }
         ensures notes { OnOk result (HasNoted asker.new (self.new).limit) }
         ensures noted { HasNoted asker.old (self.old).limit → (seen : Scene T) × AsksSomeLine H.digest_of V.accepted S.verified (ExchangesFrames T.contents T.remaining) (background_of asker.old) line.now (scene asker.old (self.old).said stream.old) seen
-            × (IsStopped result → HoldsBack ⊥ (W.contents writer.new) (self.new).said seen.told (W.contents writer.old)) × HasNotedAs (IsLast (asker.old).marks.items seen.client seen.monitors) (self.new).limit }
+            × HasNotedAs (IsLast (asker.old).marks.items seen.client seen.monitors) (self.new).limit }
     {
         let not_a_command = Err(RunFault::Program(ProgramFault::NotACommand(number)));
         let Some(line) = read_line(self.alloc, line)? else {
@@ -773,7 +772,7 @@ impl Run {
         ensures limit { IsSameLimit (self.old).limit (self.new).limit }
         ensures notes { OnOk result (HasNoted asker.new (self.new).limit) }
         ensures noted { HasNoted asker.old (self.old).limit → (seen : Scene T) × DoesSome H.digest_of V.accepted S.verified (ExchangesFrames T.contents T.remaining) (background_of asker.old) (Asked (ask_seen ask.now)) (scene asker.old (self.old).said stream.old) seen
-            × (IsStopped result → HoldsBack ⊥ (W.contents writer.new) (self.new).said seen.told (W.contents writer.old)) × HasNotedAs (IsLast (asker.old).marks.items seen.client seen.monitors) (self.new).limit }
+            × HasNotedAs (IsLast (asker.old).marks.items seen.client seen.monitors) (self.new).limit }
     {
         let reply = asker.send(stream, ask)?;
         self.catch_up(asker, reply.epoch(), keeper, stream, writer, errors)?;

@@ -3,21 +3,20 @@ use Rattle.textio.specs.declared.program_fault.ProgramFault.TheVariants.{CannotW
 use Rattle.std.specs.Prelude.{IfOk}
 use Rattle.asking.specs.Catching.{Advances}
 use Rattle.asking.specs.declared.ask_fault.AskFault.{AskFault}
-use Rattle.asking.specs.Ending.{AdvancesPart, HoldsBack}
+use Rattle.asking.specs.Ending.{AdvancesPart}
 use Rattle.asking.specs.Exchanges.{ExchangesFrames}
-use Rattle.asking.specs.Keeping.{IsStopped}
-use Rattle.asking.specs.Reports.{report_of, Report}
+use Rattle.asking.specs.Reports.{report_of}
 use Rattle.asking.specs.Runs.{background_of, emptied, Background}
 use Rattle.asking.specs.Saves.{Act}
 use Rattle.asking.specs.Scenes.{scene}
 use Rattle.asking.specs.Standing.{standing, StateStands}
 use Rattle.asking.specs.declared.ask_fault.AskFault.TheVariants.{OutOfMemory as NoMemory, Stopped}
 use Rattle.asking.specs.declared.ask_fault.RunFault.TheVariants.{Ask, Program}
-use Rattle.asking.proofs.Ended.{advanced_reaches, err_passed, err_so, leaves_stopped, leaves_with, reaches_whole}
+use Rattle.asking.proofs.Ended.{advanced_reaches, err_passed, err_so, leaves_with, reaches_whole}
 use Rattle.asking.proofs.Joined.{scene_of}
 use Rattle.asking.proofs.Ran.{ok_then}
 use Rattle.asking.proofs.Rising.{advance_rises, rises_on}
-use Rattle.asking.proofs.Keeping.{stopped_first, stopped_settles, was_asked}
+use Rattle.asking.proofs.Keeping.{was_asked}
 use Rattle.asking.proofs.RunParts.{advanced_noted}
 use Rattle.asking.proofs.RunSteps.{advanced-marks, advanced-ready, advanced-stands, advanced-step, answered_enough, has_stopped, here-stands, keeps-none, ok_have, prepared-asked, same_background, settled-run, told-so, waiting-marks, waiting-step, went_on}
 use Rattle.asking.proofs.Standing.{advanced_stands}
@@ -186,22 +185,18 @@ pub returns-clause-noted : goal.returns-clause-noted
 returns-clause-noted g c = λ had.
     let goes : c.advance-advanced.result ≢ Ok false = search rules in
     advanced_noted g.H.NodeHash.digest_of g.V.VufCheck.accepted g.S.Verifier.verified (ExchangesFrames g.T.Write.contents g.T.Read.remaining) (background_of c.args.asker.now) c.args.epoch c.args.asker.now c.advance-advanced.new.self c.args.self.now.said c.advance-advanced.new.said c.args.stream.now c.advance-advanced.new.stream
-    c.advance-advanced.result c.answered.result _ ⊥ (λ (told : Report). HoldsBack ⊥ (g.W.Write.contents c.settle.new.writer) c.settle.new.self.said told (g.W.Write.contents c.args.writer.now)) c.args.self.now.limit c.settle.new.self.limit c.advance-advanced.ensures.stays.2 goes c.answered.ensures.err
-    c.advance-advanced.ensures.advances c.advance-advanced.ensures.stops c.advance-advanced.ensures.halts (λ no. absurd no) (λ no. absurd no) had c.settle.ensures.noted
+    c.advance-advanced.result c.answered.result _ c.args.self.now.limit c.settle.new.self.limit c.advance-advanced.ensures.stays.2 goes c.answered.ensures.err
+    c.advance-advanced.ensures.advances c.advance-advanced.ensures.stops c.advance-advanced.ensures.halts had c.settle.ensures.noted
 
 pub returns-in_err-settle-clause-noted : goal.returns-in_err-settle-clause-noted
 returns-in_err-settle-clause-noted g c = λ had.
     let goes : c.advance-advanced.result ≢ Ok false = search rules in
-    let passed : c.from_residual.result ≡ Err c.in_err-settle.field-0.0 = search rules in
-    let was : c.settle.result ≡ Err c.in_err-settle.field-0.0 = search rules in
-    let first = stopped_first c.settle.result c.from_residual.result c.in_err-settle.field-0.0 was passed in
     advanced_noted g.H.NodeHash.digest_of g.V.VufCheck.accepted g.S.Verifier.verified (ExchangesFrames g.T.Write.contents g.T.Read.remaining) (background_of c.args.asker.now) c.args.epoch c.args.asker.now c.advance-advanced.new.self c.args.self.now.said c.advance-advanced.new.said c.args.stream.now c.advance-advanced.new.stream
-    c.advance-advanced.result c.answered.result _ (IsStopped c.from_residual.result) (λ (told : Report). HoldsBack ⊥ (g.W.Write.contents c.settle.new.writer) c.settle.new.self.said told (g.W.Write.contents c.args.writer.now)) c.args.self.now.limit c.settle.new.self.limit c.advance-advanced.ensures.stays.2 goes c.answered.ensures.err
-    c.advance-advanced.ensures.advances c.advance-advanced.ensures.stops c.advance-advanced.ensures.halts (λ stopped. stopped_settles c.settle.result (first stopped))
-    (λ stopped. leaves_stopped c.settle.result (g.W.Write.contents c.settle.new.writer) c.settle.new.self.said (report_of c.advance-advanced.new.said) (g.W.Write.contents c.args.writer.now) c.settle.ensures.leaves (first stopped)) had c.settle.ensures.noted
+    c.advance-advanced.result c.answered.result _ c.args.self.now.limit c.settle.new.self.limit c.advance-advanced.ensures.stays.2 goes c.answered.ensures.err
+    c.advance-advanced.ensures.advances c.advance-advanced.ensures.stops c.advance-advanced.ensures.halts had c.settle.ensures.noted
 
 pub returns-then-eq-clause-noted : goal.returns-then-eq-clause-noted
-returns-then-eq-clause-noted g c = λ had. (scene c.args.asker.now c.args.self.now.said c.args.stream.now, inl refl, λ no. absurd no, had)
+returns-then-eq-clause-noted g c = λ had. (scene c.args.asker.now c.args.self.now.said c.args.stream.now, inl refl, had)
 
 pub returns-clause-none : goal.returns-clause-none
 returns-clause-none g c = λ had. keeps-none c.advance-advanced.new.self c.advance-advanced.new.said.text.items c.args.self.now.state c.settle.new.self.state had (c.in_ok-settle.ensures.keeps tt)

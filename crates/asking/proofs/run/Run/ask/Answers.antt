@@ -8,7 +8,6 @@ use Rattle.asking.specs.Reports.{report_of}
 use Rattle.textio.specs.declared.program_fault.ProgramFault.TheVariants.{CannotWrite}
 use Rattle.asking.specs.declared.ask_fault.RunFault.TheVariants.{Program}
 use Rattle.asking.specs.Ending.{LoadsNone}
-use Rattle.asking.specs.Keeping.{IsStopped}
 use Rattle.asking.specs.Lateness.{IsLimitOf}
 use Rattle.asking.proofs.Ended.{part_left}
 use Rattle.asking.proofs.Faulty.{saving_with}
@@ -31,9 +30,9 @@ returns-clause-part g c =
     part_left g.H.NodeHash.digest_of g.V.VufCheck.accepted g.S.Verifier.verified (ExchangesFrames g.T.Write.contents g.T.Read.remaining) c.args.keys.now.signing_key c.args.keys.now.token (ask_values c.args.order) (c.args.self.now.state ≡ None) c.args.stream.now
     (g.R.Read.remaining c.args.reader.now) (g.W.Write.contents c.args.writer.now) (c.ask_all-asked.result ≡ Err (Program CannotWrite)) (c.leave.result ≡ Err (Program CannotWrite)) (IsLimitOf (ask_values c.args.order) c.args.self.now.limit)
     (λ after last. c.leave.new.self.limit.last ≡ Some last) (LoadsNone (c.args.self.now.state ≡ None) c.ask_all-asked.result c.args.self.now.limit c.leave.new.self.limit c.leave.new.self.said.status)
-    (LoadsNone (c.args.self.now.state ≡ None) c.leave.result c.args.self.now.limit c.leave.new.self.limit c.leave.new.self.said.status) (¬ IsStopped c.ask_all-asked.result) (¬ IsStopped c.leave.result) c.leave.result (g.W.Write.contents c.ask_all-asked.new.writer) c.leave.new.self.said
+    (LoadsNone (c.args.self.now.state ≡ None) c.leave.result c.args.self.now.limit c.leave.new.self.limit c.leave.new.self.said.status) c.leave.result (g.W.Write.contents c.ask_all-asked.new.writer) c.leave.new.self.said
     (report_of c.args.self.now.said) (failed_left c.ask_all-asked.result c.leave.result c.leave.ensures.err)
-    (loads_left (c.args.self.now.state ≡ None) c.ask_all-asked.result c.leave.result c.args.self.now.limit c.leave.new.self.limit c.leave.new.self.said.status c.leave.ensures.err) (λ not stopped. not (c.leave.ensures.stopped stopped)) part
+    (loads_left (c.args.self.now.state ≡ None) c.ask_all-asked.result c.leave.result c.args.self.now.limit c.leave.new.self.limit c.leave.new.self.said.status c.leave.ensures.err) part
 
 pub returns-clause-kept : goal.returns-clause-kept
 returns-clause-kept g c = λ fresh old acts is has.

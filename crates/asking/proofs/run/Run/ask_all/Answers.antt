@@ -3,15 +3,13 @@ use Rattle.std.specs.Prelude.{List, ℕ, IfSome, Ok, Option, Some}
 use Rattle.textio.specs.declared.program_fault.ProgramFault.TheVariants.{CannotWrite, OutOfMemory}
 use Rattle.asking.specs.AskOptions.{ask_values}
 use Rattle.asking.specs.Ending.{AsksPart, HoldsBack, LoadsNone}
-use Rattle.asking.specs.Keeping.{IsStopped}
 use Rattle.asking.specs.Exchanges.{ExchangesFrames}
 use Rattle.asking.specs.Reports.{report_of, Report}
 use Rattle.asking.specs.RunFaults.{AsksInput, IsFaultOfSaving, IsFaultOfState, IsFaultWith, IsFirstUnasked}
 use Rattle.asking.specs.Runs.{AsksLines, background_of, lines_asked, words_line}
 use Rattle.asking.specs.Scenes.{scene}
 use Rattle.asking.specs.declared.ask_fault.RunFault.{RunFault}
-use Rattle.asking.proofs.Ended.{early_asking, early_none, early_preparing, early_words, leaves_same, leaves_with, line_known, line_not, prepares_here, some_prepares_with, writes_with}
-use Rattle.asking.proofs.Keeping.{stopped_first}
+use Rattle.asking.proofs.Ended.{early_asking, early_none, early_preparing, leaves_with, line_not, part_once, some_prepares_with, writes_with}
 use Rattle.asking.proofs.Faulty.{beginning_with, grows_not, grows_on, input_fault, reads_input, saving_with, stops_more, words_fault}
 use Rattle.asking.specs.Lateness.{IsLimitOf}
 use Rattle.asking.proofs.Late.{err_again, late_asking, late_first, late_lines, late_none, late_preparing, late_words, limit_trans, same_limit}
@@ -106,53 +104,51 @@ returns-in_err-asker-clause-grows g c = grows_not (g.W.Write.contents c.args.wri
 pub returns-in_err-asker-clause-part : goal.returns-in_err-asker-clause-part
 returns-in_err-asker-clause-part g c = λ none limited.
     let passed : c.from_residual.result ≡ Err c.in_err-asker.field-0.0 = search rules in
-    early_none g.H.NodeHash.digest_of g.V.VufCheck.accepted g.S.Verifier.verified (ExchangesFrames g.T.Write.contents g.T.Read.remaining) c.args.keys.now.signing_key c.args.keys.now.token (ask_values c.args.order) (c.args.self.now.state ≡ None) c.args.stream.now (g.R.Read.remaining c.args.reader.now) (g.W.Write.contents c.args.writer.now) _ (λ after last. c.begin.new.self.limit.last ≡ Some last) (LoadsNone (c.args.self.now.state ≡ None) c.from_residual.result c.args.self.now.limit c.begin.new.self.limit c.begin.new.self.said.status) (¬ IsStopped c.from_residual.result) (report_of c.args.self.now.said) c.begin.new.self.said c.in_err-asker.ensures.none
+    early_none g.H.NodeHash.digest_of g.V.VufCheck.accepted g.S.Verifier.verified (ExchangesFrames g.T.Write.contents g.T.Read.remaining) c.args.keys.now.signing_key c.args.keys.now.token (ask_values c.args.order) (c.args.self.now.state ≡ None) c.args.stream.now (g.R.Read.remaining c.args.reader.now) (g.W.Write.contents c.args.writer.now) _ (λ after last. c.begin.new.self.limit.last ≡ Some last) (LoadsNone (c.args.self.now.state ≡ None) c.from_residual.result c.args.self.now.limit c.begin.new.self.limit c.begin.new.self.said.status) (report_of c.args.self.now.said) c.begin.new.self.said c.in_err-asker.ensures.none
     (late_first g.H.NodeHash.digest_of g.V.VufCheck.accepted g.S.Verifier.verified c.args.keys.now.signing_key (ask_values c.args.order) (c.args.self.now.state ≡ None) c.begin.new.self.limit (same_limit (ask_values c.args.order) c.args.self.now.limit c.begin.new.self.limit c.begin.ensures.limit limited) (ExchangesFrames g.T.Write.contents g.T.Read.remaining) (Err c.in_err-asker.field-0.0) c.from_residual.result c.args.self.now.limit c.begin.new.self.said.status
     (λ fault was. passed ∙ err_again c.in_err-asker.field-0.0 (Program fault) was) (c.in_err-asker.ensures.first none)) none
 
 pub returns-in_err-prepare-clause-part : goal.returns-in_err-prepare-clause-part
 returns-in_err-prepare-clause-part g c = λ none limited.
     let passed : c.from_residual-in_err-prepare.result ≡ Err c.in_err-prepare.field-0.0 = search rules in
-    let was : c.prepare.result ≡ Err c.in_err-prepare.field-0.0 = search rules in
     let start = scene c.in_ok-asker.asker c.begin.new.self.said c.begin.new.stream in
-    let (reached, some, leaves) = c.in_err-prepare.ensures.part in
-    let (seen, at, all, noted) = c.prepare.ensures.noted c.in_ok-asker.ensures.notes in
-    let within = some_prepares_with g.H.NodeHash.digest_of g.V.VufCheck.accepted g.S.Verifier.verified (ExchangesFrames g.T.Write.contents g.T.Read.remaining) c.args.keys.now.signing_key c.args.keys.now.token (ask_values c.args.order)
-    (c.begin.new.self.state ≡ None) (c.args.self.now.state ≡ None) c.begin.ensures.still.1 c.begin.ensures.still.0 (background_of c.in_ok-asker.asker) start in
     early_preparing g.H.NodeHash.digest_of g.V.VufCheck.accepted g.S.Verifier.verified (ExchangesFrames g.T.Write.contents g.T.Read.remaining) c.args.keys.now.signing_key c.args.keys.now.token (ask_values c.args.order) (c.args.self.now.state ≡ None) c.args.stream.now (g.R.Read.remaining c.args.reader.now) (g.W.Write.contents c.args.writer.now) (background_of c.in_ok-asker.asker) start (g.W.Write.contents c.prepare.new.writer) c.prepare.new.self.said
     (report_of c.args.self.now.said) (begins_run g.H.NodeHash.digest_of g.V.VufCheck.accepted g.S.Verifier.verified (ExchangesFrames g.T.Write.contents g.T.Read.remaining) c.args.keys.now.signing_key c.args.keys.now.token (c.args.self.now.state ≡ None) (background_of c.in_ok-asker.asker) c.args.stream.now start (report_of c.args.self.now.said)
-    c.in_ok-asker.ensures.said c.in_ok-asker.ensures.begins c.in_ok-asker.ensures.knows)
-    (c.from_residual-in_err-prepare.result ≡ Err (Program CannotWrite)) (λ after last. c.prepare.new.self.limit.last ≡ Some last) (LoadsNone (c.args.self.now.state ≡ None) c.from_residual-in_err-prepare.result c.args.self.now.limit c.prepare.new.self.limit c.prepare.new.self.said.status) c.from_residual-in_err-prepare.result
-    (reached, within reached some, leaves_with _ (c.from_residual-in_err-prepare.result ≡ Err (Program CannotWrite)) (g.W.Write.contents c.prepare.new.writer) c.prepare.new.self.said reached.told (g.W.Write.contents c.args.writer.now) (λ failed. passed ∙ failed) leaves)
-    (late_preparing g.H.NodeHash.digest_of g.V.VufCheck.accepted g.S.Verifier.verified (ExchangesFrames g.T.Write.contents g.T.Read.remaining) (ask_values c.args.order) (c.args.self.now.state ≡ None) (background_of c.in_ok-asker.asker) start c.prepare.new.self.limit
-    (λ told. IsStopped c.from_residual-in_err-prepare.result → HoldsBack ⊥ (g.W.Write.contents c.prepare.new.writer) c.prepare.new.self.said told (g.W.Write.contents c.args.writer.now))
-    (prepares_here g.H.NodeHash.digest_of g.V.VufCheck.accepted g.S.Verifier.verified (ExchangesFrames g.T.Write.contents g.T.Read.remaining) (background_of c.in_ok-asker.asker) c.args.self.now.state start)
-    (same_limit (ask_values c.args.order) c.args.self.now.limit c.prepare.new.self.limit (limit_trans c.args.self.now.limit c.begin.new.self.limit c.prepare.new.self.limit c.begin.ensures.limit c.prepare.ensures.limit) limited)
-    (
+    c.in_ok-asker.ensures.said c.in_ok-asker.ensures.begins c.in_ok-asker.ensures.knows) (c.from_residual-in_err-prepare.result ≡ Err (Program CannotWrite)) (λ after last. c.prepare.new.self.limit.last ≡ Some last) (LoadsNone (c.args.self.now.state ≡ None) c.from_residual-in_err-prepare.result c.args.self.now.limit c.prepare.new.self.limit c.prepare.new.self.said.status)
+    (let (reached, some, leaves) = c.in_err-prepare.ensures.part in (
+      reached,
+      some_prepares_with g.H.NodeHash.digest_of g.V.VufCheck.accepted g.S.Verifier.verified (ExchangesFrames g.T.Write.contents g.T.Read.remaining) c.args.keys.now.signing_key c.args.keys.now.token (ask_values c.args.order)
+          (c.begin.new.self.state ≡ None) (c.args.self.now.state ≡ None) c.begin.ensures.still.1 c.begin.ensures.still.0 (background_of c.in_ok-asker.asker) start reached some,
+      leaves_with _ (c.from_residual-in_err-prepare.result ≡ Err (Program CannotWrite)) (g.W.Write.contents c.prepare.new.writer) c.prepare.new.self.said reached.told (g.W.Write.contents c.args.writer.now)
+          (λ failed. passed ∙ failed) leaves,
+    ))
+    (late_preparing g.H.NodeHash.digest_of g.V.VufCheck.accepted g.S.Verifier.verified (ExchangesFrames g.T.Write.contents g.T.Read.remaining) (ask_values c.args.order) (c.args.self.now.state ≡ None) (background_of c.in_ok-asker.asker) start c.prepare.new.self.limit (same_limit (ask_values c.args.order) c.args.self.now.limit c.prepare.new.self.limit (limit_trans c.args.self.now.limit c.begin.new.self.limit c.prepare.new.self.limit c.begin.ensures.limit c.prepare.ensures.limit) limited)
+    (let (seen, at, noted) = c.prepare.ensures.noted c.in_ok-asker.ensures.notes in (
       seen,
       elim at [
         | inl same ↦ inl same
-        | inr more ↦ inr (within seen more)
+        | inr some ↦ inr (some_prepares_with g.H.NodeHash.digest_of g.V.VufCheck.accepted g.S.Verifier.verified (ExchangesFrames g.T.Write.contents g.T.Read.remaining) c.args.keys.now.signing_key c.args.keys.now.token (ask_values c.args.order) (c.begin.new.self.state ≡ None) (c.args.self.now.state ≡ None) c.begin.ensures.still.1 c.begin.ensures.still.0 (background_of c.in_ok-asker.asker) start seen some)
       ],
-      λ stopped. all (stopped_first c.prepare.result c.from_residual-in_err-prepare.result c.in_err-prepare.field-0.0 was passed stopped),
       noted,
-    )) none
+    ))) none
 
 pub returns-in_err-line-in-Some-clause-part : goal.returns-in_err-line-in-Some-clause-part
 returns-in_err-line-in-Some-clause-part g c = λ none limited.
     let start = scene c.in_ok-asker.asker c.begin.new.self.said c.begin.new.stream in
     let ready = scene c.prepare.new.asker c.prepare.new.self.said c.prepare.new.stream in
-    early_words g.H.NodeHash.digest_of g.V.VufCheck.accepted g.S.Verifier.verified (ExchangesFrames g.T.Write.contents g.T.Read.remaining) c.args.keys.now.signing_key c.args.keys.now.token (ask_values c.args.order) (c.args.self.now.state ≡ None) c.args.stream.now (g.R.Read.remaining c.args.reader.now) (g.W.Write.contents c.args.writer.now) (background_of c.in_ok-asker.asker) start (g.W.Write.contents c.prepare.new.writer) c.prepare.new.self.said
+    early_asking g.H.NodeHash.digest_of g.V.VufCheck.accepted g.S.Verifier.verified (ExchangesFrames g.T.Write.contents g.T.Read.remaining) c.args.keys.now.signing_key c.args.keys.now.token (ask_values c.args.order) (c.args.self.now.state ≡ None) c.args.stream.now (g.R.Read.remaining c.args.reader.now) (g.W.Write.contents c.args.writer.now) (background_of c.in_ok-asker.asker) start (g.W.Write.contents c.prepare.new.writer) c.prepare.new.self.said
     (report_of c.args.self.now.said) (begins_run g.H.NodeHash.digest_of g.V.VufCheck.accepted g.S.Verifier.verified (ExchangesFrames g.T.Write.contents g.T.Read.remaining) c.args.keys.now.signing_key c.args.keys.now.token (c.args.self.now.state ≡ None) (background_of c.in_ok-asker.asker) c.args.stream.now start (report_of c.args.self.now.said)
-    c.in_ok-asker.ensures.said c.in_ok-asker.ensures.begins c.in_ok-asker.ensures.knows)
-    (c.from_residual-in_err-line-in-Some.result ≡ Err (Program CannotWrite)) (λ after last. c.prepare.new.self.limit.last ≡ Some last) (LoadsNone (c.args.self.now.state ≡ None) c.from_residual-in_err-line-in-Some.result c.args.self.now.limit c.prepare.new.self.limit c.prepare.new.self.said.status) c.from_residual-in_err-line-in-Some.result ready (g.W.Write.contents c.prepare.new.writer)
-    (writes_with g.H.NodeHash.digest_of g.V.VufCheck.accepted g.S.Verifier.verified (ExchangesFrames g.T.Write.contents g.T.Read.remaining) c.args.keys.now.signing_key c.args.keys.now.token (ask_values c.args.order)
-    (c.begin.new.self.state ≡ None) (c.args.self.now.state ≡ None) c.begin.ensures.still.1 c.begin.ensures.still.0 (background_of c.in_ok-asker.asker) start
-    (g.W.Write.contents c.args.writer.now) (g.W.Write.contents c.prepare.new.writer) ready c.in_ok-prepare.ensures.prepares) (words_asked (g.R.Read.remaining c.args.reader.now) c.args.order c.in-Some.field-0 c.in-Some.is)
-    (line_known g.H.NodeHash.digest_of g.V.VufCheck.accepted g.S.Verifier.verified (ExchangesFrames g.T.Write.contents g.T.Read.remaining) (c.from_residual-in_err-line-in-Some.result ≡ Err (Program CannotWrite)) (background_of c.in_ok-asker.asker) (background_of c.prepare.new.asker) (words_line (ask_values c.args.order).words) ready (g.W.Write.contents c.prepare.new.writer) (g.W.Write.contents c.prepare.new.writer) c.prepare.new.self.said c.in_ok-prepare.ensures.stays (line_not g.H.NodeHash.digest_of g.V.VufCheck.accepted g.S.Verifier.verified (ExchangesFrames g.T.Write.contents g.T.Read.remaining) (background_of c.prepare.new.asker) (c.from_residual-in_err-line-in-Some.result ≡ Err (Program CannotWrite)) (words_line (ask_values c.args.order).words) ready (g.W.Write.contents c.prepare.new.writer) c.prepare.new.self.said refl))
-    (late_asking g.H.NodeHash.digest_of g.V.VufCheck.accepted g.S.Verifier.verified (ExchangesFrames g.T.Write.contents g.T.Read.remaining) (ask_values c.args.order) (c.args.self.now.state ≡ None) (background_of c.in_ok-asker.asker) start c.prepare.new.self.limit
-    (λ told. IsStopped c.from_residual-in_err-line-in-Some.result → HoldsBack ⊥ (g.W.Write.contents c.prepare.new.writer) c.prepare.new.self.said told (g.W.Write.contents c.prepare.new.writer)) (background_of c.prepare.new.asker) ready
-    (same_limit (ask_values c.args.order) c.args.self.now.limit c.prepare.new.self.limit (limit_trans c.args.self.now.limit c.begin.new.self.limit c.prepare.new.self.limit c.begin.ensures.limit c.prepare.ensures.limit) limited) c.in_ok-prepare.ensures.stays (ready, inl refl, λ stopped. leaves_same ⊥ (g.W.Write.contents c.prepare.new.writer) c.prepare.new.self.said (report_of c.prepare.new.self.said) refl, c.in_ok-prepare.ensures.notes)) none
+    c.in_ok-asker.ensures.said c.in_ok-asker.ensures.begins c.in_ok-asker.ensures.knows) (c.from_residual-in_err-line-in-Some.result ≡ Err (Program CannotWrite)) (λ after last. c.prepare.new.self.limit.last ≡ Some last) (LoadsNone (c.args.self.now.state ≡ None) c.from_residual-in_err-line-in-Some.result c.args.self.now.limit c.prepare.new.self.limit c.prepare.new.self.said.status) (background_of c.prepare.new.asker) ready (g.W.Write.contents c.prepare.new.writer) (writes_with g.H.NodeHash.digest_of g.V.VufCheck.accepted g.S.Verifier.verified (ExchangesFrames g.T.Write.contents g.T.Read.remaining) c.args.keys.now.signing_key c.args.keys.now.token (ask_values c.args.order)
+    (c.begin.new.self.state ≡ None) (c.args.self.now.state ≡ None) c.begin.ensures.still.1 c.begin.ensures.still.0 (background_of c.in_ok-asker.asker) (scene c.in_ok-asker.asker c.begin.new.self.said c.begin.new.stream)
+    (g.W.Write.contents c.args.writer.now) (g.W.Write.contents c.prepare.new.writer) (scene c.prepare.new.asker c.prepare.new.self.said c.prepare.new.stream) c.in_ok-prepare.ensures.prepares) c.in_ok-prepare.ensures.stays
+    (asks_words {E = RunFault} (λ lines. (told : Report) × (next : Option (List ℕ)) × AsksPart g.H.NodeHash.digest_of g.V.VufCheck.accepted g.S.Verifier.verified (ExchangesFrames g.T.Write.contents g.T.Read.remaining) (background_of c.prepare.new.asker) lines ready told (g.W.Write.contents c.prepare.new.writer) next
+    × HoldsBack (c.from_residual-in_err-line-in-Some.result ≡ Err (Program CannotWrite)) (g.W.Write.contents c.prepare.new.writer) c.prepare.new.self.said told next) (Ok tt) (g.R.Read.remaining c.args.reader.now) c.args.order c.in-Some.field-0 c.in-Some.is
+    (part_once g.H.NodeHash.digest_of g.V.VufCheck.accepted g.S.Verifier.verified (ExchangesFrames g.T.Write.contents g.T.Read.remaining) (background_of c.prepare.new.asker) (c.from_residual-in_err-line-in-Some.result ≡ Err (Program CannotWrite)) (words_line (ask_values c.args.order).words) ready (g.W.Write.contents c.prepare.new.writer) (g.W.Write.contents c.prepare.new.writer) c.prepare.new.self.said (line_not g.H.NodeHash.digest_of g.V.VufCheck.accepted g.S.Verifier.verified (ExchangesFrames g.T.Write.contents g.T.Read.remaining) (background_of c.prepare.new.asker) (c.from_residual-in_err-line-in-Some.result ≡ Err (Program CannotWrite)) (words_line (ask_values c.args.order).words) ready (g.W.Write.contents c.prepare.new.writer) c.prepare.new.self.said refl)))
+    (late_asking g.H.NodeHash.digest_of g.V.VufCheck.accepted g.S.Verifier.verified (ExchangesFrames g.T.Write.contents g.T.Read.remaining) (ask_values c.args.order) (c.args.self.now.state ≡ None) (background_of c.in_ok-asker.asker) start c.prepare.new.self.limit (background_of c.prepare.new.asker) ready (g.W.Write.contents c.args.writer.now) (g.W.Write.contents c.prepare.new.writer)
+    (same_limit (ask_values c.args.order) c.args.self.now.limit c.prepare.new.self.limit (limit_trans c.args.self.now.limit c.begin.new.self.limit c.prepare.new.self.limit c.begin.ensures.limit c.prepare.ensures.limit) limited) c.in_ok-prepare.ensures.stays (writes_with g.H.NodeHash.digest_of g.V.VufCheck.accepted g.S.Verifier.verified (ExchangesFrames g.T.Write.contents g.T.Read.remaining) c.args.keys.now.signing_key c.args.keys.now.token (ask_values c.args.order)
+    (c.begin.new.self.state ≡ None) (c.args.self.now.state ≡ None) c.begin.ensures.still.1 c.begin.ensures.still.0 (background_of c.in_ok-asker.asker) (scene c.in_ok-asker.asker c.begin.new.self.said c.begin.new.stream)
+    (g.W.Write.contents c.args.writer.now) (g.W.Write.contents c.prepare.new.writer) (scene c.prepare.new.asker c.prepare.new.self.said c.prepare.new.stream) c.in_ok-prepare.ensures.prepares)
+    (ready, inl refl, c.in_ok-prepare.ensures.notes)) none
 
 pub returns-in-Some-clause-part : goal.returns-in-Some-clause-part
 returns-in-Some-clause-part g c = λ none limited.
@@ -160,17 +156,19 @@ returns-in-Some-clause-part g c = λ none limited.
     let ready = scene c.prepare.new.asker c.prepare.new.self.said c.prepare.new.stream in
     let found = rw (c.deref.ensures.value, c.in_ok-line-in-Some.ensures) at c.ask_line.ensures.part in
     let noted = rw (c.deref.ensures.value, c.in_ok-line-in-Some.ensures) at c.ask_line.ensures.noted c.in_ok-prepare.ensures.notes in
-    early_words g.H.NodeHash.digest_of g.V.VufCheck.accepted g.S.Verifier.verified (ExchangesFrames g.T.Write.contents g.T.Read.remaining) c.args.keys.now.signing_key c.args.keys.now.token (ask_values c.args.order) (c.args.self.now.state ≡ None) c.args.stream.now (g.R.Read.remaining c.args.reader.now) (g.W.Write.contents c.args.writer.now) (background_of c.in_ok-asker.asker) start (g.W.Write.contents c.ask_line.new.writer) c.ask_line.new.self.said
+    early_asking g.H.NodeHash.digest_of g.V.VufCheck.accepted g.S.Verifier.verified (ExchangesFrames g.T.Write.contents g.T.Read.remaining) c.args.keys.now.signing_key c.args.keys.now.token (ask_values c.args.order) (c.args.self.now.state ≡ None) c.args.stream.now (g.R.Read.remaining c.args.reader.now) (g.W.Write.contents c.args.writer.now) (background_of c.in_ok-asker.asker) start (g.W.Write.contents c.ask_line.new.writer) c.ask_line.new.self.said
     (report_of c.args.self.now.said) (begins_run g.H.NodeHash.digest_of g.V.VufCheck.accepted g.S.Verifier.verified (ExchangesFrames g.T.Write.contents g.T.Read.remaining) c.args.keys.now.signing_key c.args.keys.now.token (c.args.self.now.state ≡ None) (background_of c.in_ok-asker.asker) c.args.stream.now start (report_of c.args.self.now.said)
-    c.in_ok-asker.ensures.said c.in_ok-asker.ensures.begins c.in_ok-asker.ensures.knows)
-    (c.ask_line.result ≡ Err (Program CannotWrite)) (λ after last. c.ask_line.new.self.limit.last ≡ Some last) (LoadsNone (c.args.self.now.state ≡ None) c.ask_line.result c.args.self.now.limit c.ask_line.new.self.limit c.ask_line.new.self.said.status) c.ask_line.result ready (g.W.Write.contents c.prepare.new.writer)
-    (writes_with g.H.NodeHash.digest_of g.V.VufCheck.accepted g.S.Verifier.verified (ExchangesFrames g.T.Write.contents g.T.Read.remaining) c.args.keys.now.signing_key c.args.keys.now.token (ask_values c.args.order)
-    (c.begin.new.self.state ≡ None) (c.args.self.now.state ≡ None) c.begin.ensures.still.1 c.begin.ensures.still.0 (background_of c.in_ok-asker.asker) start
-    (g.W.Write.contents c.args.writer.now) (g.W.Write.contents c.prepare.new.writer) ready c.in_ok-prepare.ensures.prepares) (words_asked (g.R.Read.remaining c.args.reader.now) c.args.order c.in-Some.field-0 c.in-Some.is)
-    (line_known g.H.NodeHash.digest_of g.V.VufCheck.accepted g.S.Verifier.verified (ExchangesFrames g.T.Write.contents g.T.Read.remaining) (c.ask_line.result ≡ Err (Program CannotWrite)) (background_of c.in_ok-asker.asker) (background_of c.prepare.new.asker) (words_line (ask_values c.args.order).words) ready (g.W.Write.contents c.prepare.new.writer) (g.W.Write.contents c.ask_line.new.writer) c.ask_line.new.self.said c.in_ok-prepare.ensures.stays found)
-    (late_asking g.H.NodeHash.digest_of g.V.VufCheck.accepted g.S.Verifier.verified (ExchangesFrames g.T.Write.contents g.T.Read.remaining) (ask_values c.args.order) (c.args.self.now.state ≡ None) (background_of c.in_ok-asker.asker) start c.ask_line.new.self.limit
-    (λ told. IsStopped c.ask_line.result → HoldsBack ⊥ (g.W.Write.contents c.ask_line.new.writer) c.ask_line.new.self.said told (g.W.Write.contents c.prepare.new.writer)) (background_of c.prepare.new.asker) ready
-    (same_limit (ask_values c.args.order) c.args.self.now.limit c.ask_line.new.self.limit (limit_trans c.args.self.now.limit c.prepare.new.self.limit c.ask_line.new.self.limit (limit_trans c.args.self.now.limit c.begin.new.self.limit c.prepare.new.self.limit c.begin.ensures.limit c.prepare.ensures.limit) c.ask_line.ensures.limit) limited) c.in_ok-prepare.ensures.stays noted) none
+    c.in_ok-asker.ensures.said c.in_ok-asker.ensures.begins c.in_ok-asker.ensures.knows) (c.ask_line.result ≡ Err (Program CannotWrite)) (λ after last. c.ask_line.new.self.limit.last ≡ Some last) (LoadsNone (c.args.self.now.state ≡ None) c.ask_line.result c.args.self.now.limit c.ask_line.new.self.limit c.ask_line.new.self.said.status) (background_of c.prepare.new.asker) ready (g.W.Write.contents c.prepare.new.writer) (writes_with g.H.NodeHash.digest_of g.V.VufCheck.accepted g.S.Verifier.verified (ExchangesFrames g.T.Write.contents g.T.Read.remaining) c.args.keys.now.signing_key c.args.keys.now.token (ask_values c.args.order)
+    (c.begin.new.self.state ≡ None) (c.args.self.now.state ≡ None) c.begin.ensures.still.1 c.begin.ensures.still.0 (background_of c.in_ok-asker.asker) (scene c.in_ok-asker.asker c.begin.new.self.said c.begin.new.stream)
+    (g.W.Write.contents c.args.writer.now) (g.W.Write.contents c.prepare.new.writer) (scene c.prepare.new.asker c.prepare.new.self.said c.prepare.new.stream) c.in_ok-prepare.ensures.prepares) c.in_ok-prepare.ensures.stays
+    (asks_words {E = RunFault} (λ lines. (told : Report) × (next : Option (List ℕ)) × AsksPart g.H.NodeHash.digest_of g.V.VufCheck.accepted g.S.Verifier.verified (ExchangesFrames g.T.Write.contents g.T.Read.remaining) (background_of c.prepare.new.asker) lines ready told (g.W.Write.contents c.prepare.new.writer) next
+    × HoldsBack (c.ask_line.result ≡ Err (Program CannotWrite)) (g.W.Write.contents c.ask_line.new.writer) c.ask_line.new.self.said told next) (Ok tt) (g.R.Read.remaining c.args.reader.now) c.args.order c.in-Some.field-0 c.in-Some.is
+    (part_once g.H.NodeHash.digest_of g.V.VufCheck.accepted g.S.Verifier.verified (ExchangesFrames g.T.Write.contents g.T.Read.remaining) (background_of c.prepare.new.asker) (c.ask_line.result ≡ Err (Program CannotWrite)) (words_line (ask_values c.args.order).words) ready (g.W.Write.contents c.prepare.new.writer) (g.W.Write.contents c.ask_line.new.writer) c.ask_line.new.self.said found))
+    (late_asking g.H.NodeHash.digest_of g.V.VufCheck.accepted g.S.Verifier.verified (ExchangesFrames g.T.Write.contents g.T.Read.remaining) (ask_values c.args.order) (c.args.self.now.state ≡ None) (background_of c.in_ok-asker.asker) start c.ask_line.new.self.limit (background_of c.prepare.new.asker) ready (g.W.Write.contents c.args.writer.now) (g.W.Write.contents c.prepare.new.writer)
+    (same_limit (ask_values c.args.order) c.args.self.now.limit c.ask_line.new.self.limit (limit_trans c.args.self.now.limit c.prepare.new.self.limit c.ask_line.new.self.limit (limit_trans c.args.self.now.limit c.begin.new.self.limit c.prepare.new.self.limit c.begin.ensures.limit c.prepare.ensures.limit) c.ask_line.ensures.limit) limited) c.in_ok-prepare.ensures.stays (writes_with g.H.NodeHash.digest_of g.V.VufCheck.accepted g.S.Verifier.verified (ExchangesFrames g.T.Write.contents g.T.Read.remaining) c.args.keys.now.signing_key c.args.keys.now.token (ask_values c.args.order)
+    (c.begin.new.self.state ≡ None) (c.args.self.now.state ≡ None) c.begin.ensures.still.1 c.begin.ensures.still.0 (background_of c.in_ok-asker.asker) (scene c.in_ok-asker.asker c.begin.new.self.said c.begin.new.stream)
+    (g.W.Write.contents c.args.writer.now) (g.W.Write.contents c.prepare.new.writer) (scene c.prepare.new.asker c.prepare.new.self.said c.prepare.new.stream) c.in_ok-prepare.ensures.prepares)
+    noted) none
 
 pub returns-clause-part : goal.returns-clause-part
 returns-clause-part g c = λ none limited.
@@ -178,12 +176,12 @@ returns-clause-part g c = λ none limited.
     let ready = scene c.prepare.new.asker c.prepare.new.self.said c.prepare.new.stream in
     early_asking g.H.NodeHash.digest_of g.V.VufCheck.accepted g.S.Verifier.verified (ExchangesFrames g.T.Write.contents g.T.Read.remaining) c.args.keys.now.signing_key c.args.keys.now.token (ask_values c.args.order) (c.args.self.now.state ≡ None) c.args.stream.now (g.R.Read.remaining c.args.reader.now) (g.W.Write.contents c.args.writer.now) (background_of c.in_ok-asker.asker) start (g.W.Write.contents c.ask_lines.new.writer) c.ask_lines.new.self.said
     (report_of c.args.self.now.said) (begins_run g.H.NodeHash.digest_of g.V.VufCheck.accepted g.S.Verifier.verified (ExchangesFrames g.T.Write.contents g.T.Read.remaining) c.args.keys.now.signing_key c.args.keys.now.token (c.args.self.now.state ≡ None) (background_of c.in_ok-asker.asker) c.args.stream.now start (report_of c.args.self.now.said)
-    c.in_ok-asker.ensures.said c.in_ok-asker.ensures.begins c.in_ok-asker.ensures.knows) (c.ask_lines.result ≡ Err (Program CannotWrite)) (λ after last. c.ask_lines.new.self.limit.last ≡ Some last) (LoadsNone (c.args.self.now.state ≡ None) c.ask_lines.result c.args.self.now.limit c.ask_lines.new.self.limit c.ask_lines.new.self.said.status) (¬ IsStopped c.ask_lines.result) (background_of c.prepare.new.asker) ready (g.W.Write.contents c.prepare.new.writer) (writes_with g.H.NodeHash.digest_of g.V.VufCheck.accepted g.S.Verifier.verified (ExchangesFrames g.T.Write.contents g.T.Read.remaining) c.args.keys.now.signing_key c.args.keys.now.token (ask_values c.args.order)
+    c.in_ok-asker.ensures.said c.in_ok-asker.ensures.begins c.in_ok-asker.ensures.knows) (c.ask_lines.result ≡ Err (Program CannotWrite)) (λ after last. c.ask_lines.new.self.limit.last ≡ Some last) (LoadsNone (c.args.self.now.state ≡ None) c.ask_lines.result c.args.self.now.limit c.ask_lines.new.self.limit c.ask_lines.new.self.said.status) (background_of c.prepare.new.asker) ready (g.W.Write.contents c.prepare.new.writer) (writes_with g.H.NodeHash.digest_of g.V.VufCheck.accepted g.S.Verifier.verified (ExchangesFrames g.T.Write.contents g.T.Read.remaining) c.args.keys.now.signing_key c.args.keys.now.token (ask_values c.args.order)
     (c.begin.new.self.state ≡ None) (c.args.self.now.state ≡ None) c.begin.ensures.still.1 c.begin.ensures.still.0 (background_of c.in_ok-asker.asker) (scene c.in_ok-asker.asker c.begin.new.self.said c.begin.new.stream)
     (g.W.Write.contents c.args.writer.now) (g.W.Write.contents c.prepare.new.writer) (scene c.prepare.new.asker c.prepare.new.self.said c.prepare.new.stream) c.in_ok-prepare.ensures.prepares) c.in_ok-prepare.ensures.stays
     (asks_input {E = RunFault} (λ lines. (told : Report) × (next : Option (List ℕ)) × AsksPart g.H.NodeHash.digest_of g.V.VufCheck.accepted g.S.Verifier.verified (ExchangesFrames g.T.Write.contents g.T.Read.remaining) (background_of c.prepare.new.asker) lines ready told (g.W.Write.contents c.prepare.new.writer) next
     × HoldsBack (c.ask_lines.result ≡ Err (Program CannotWrite)) (g.W.Write.contents c.ask_lines.new.writer) c.ask_lines.new.self.said told next) (Ok tt) (g.R.Read.remaining c.args.reader.now) c.args.order c.in-None.is c.ask_lines.ensures.part)
-    (late_none g.H.NodeHash.digest_of g.V.VufCheck.accepted g.S.Verifier.verified (ExchangesFrames g.T.Write.contents g.T.Read.remaining) c.args.order (c.args.self.now.state ≡ None) (background_of c.in_ok-asker.asker) start (¬ IsStopped c.ask_lines.result) (λ after last. c.ask_lines.new.self.limit.last ≡ Some last) c.in-None.is) none
+    (late_none g.H.NodeHash.digest_of g.V.VufCheck.accepted g.S.Verifier.verified (ExchangesFrames g.T.Write.contents g.T.Read.remaining) c.args.order (c.args.self.now.state ≡ None) (background_of c.in_ok-asker.asker) start (λ after last. c.ask_lines.new.self.limit.last ≡ Some last) c.in-None.is) none
 
 pub returns-in_err-asker-clause-kept : goal.returns-in_err-asker-clause-kept
 returns-in_err-asker-clause-kept g c = λ fresh old acts is has.

@@ -3,9 +3,8 @@ use Rattle.textio.specs.declared.program_fault.ProgramFault.TheVariants.{CannotW
 use Rattle.play.specs.Scripts.{ask_seen, Ask as Asked}
 use Rattle.asking.specs.Ending.{DoesSome, HoldsBack}
 use Rattle.asking.specs.Exchanges.{ExchangesFrames}
-use Rattle.asking.specs.Keeping.{IsStopped}
 use Rattle.asking.specs.Lateness.{HasNotedAs, IsLast}
-use Rattle.asking.specs.Reports.{report_of, told_after, Report}
+use Rattle.asking.specs.Reports.{report_of, Report}
 use Rattle.asking.specs.Runs.{background_of, Background, DoesLine}
 use Rattle.asking.specs.Saves.{Act}
 use Rattle.asking.specs.Scenes.{scene, Scene}
@@ -13,9 +12,9 @@ use Rattle.asking.specs.Standing.{standing, IsUpTo, StateIsKept, StateStands}
 use Rattle.asking.specs.declared.ask_fault.AskFault.TheVariants.{NoReply, OutOfMemory as NoMemory}
 use Rattle.asking.specs.declared.ask_fault.RunFault.TheVariants.{Program}
 use Rattle.asking.proofs.Between.{caught_up, first_told, held_then, written_behind}
-use Rattle.asking.proofs.Ended.{heard_reaches, leaves_same, leaves_stopped, leaves_with}
+use Rattle.asking.proofs.Ended.{heard_reaches, leaves_same, leaves_with}
 use Rattle.asking.proofs.Faulty.{grows_on}
-use Rattle.asking.proofs.Keeping.{stopped_first, stopped_settles, was_asked}
+use Rattle.asking.proofs.Keeping.{was_asked}
 use Rattle.asking.proofs.Late.{limit_trans, settled_noted}
 use Rattle.asking.proofs.MarkedRuns.{marks-then, ok_settled}
 use Rattle.asking.proofs.Ran.{ok_before, ok_then}
@@ -168,16 +167,13 @@ pub returns-clause-limit : goal.returns-clause-limit
 returns-clause-limit g c = limit_trans c.args.self.now.limit c.catch_up.new.self.limit c.settle.new.self.limit c.catch_up.ensures.limit c.settle.ensures.limit
 
 pub returns-in_err-reply-clause-noted : goal.returns-in_err-reply-clause-noted
-returns-in_err-reply-clause-noted g c = λ had.
-    (scene c.args.asker.now c.args.self.now.said c.args.stream.now, inl refl, λ stopped. leaves_same ⊥ (g.W.Write.contents c.args.writer.now) c.args.self.now.said (report_of c.args.self.now.said) refl, had)
+returns-in_err-reply-clause-noted g c = λ had. (scene c.args.asker.now c.args.self.now.said c.args.stream.now, inl refl, had)
 
 pub returns-in_err-catch_up-clause-noted : goal.returns-in_err-catch_up-clause-noted
 returns-in_err-catch_up-clause-noted g c = λ had.
-    let (seen, leads, told, noted) = asks_seen g.H.NodeHash.digest_of g.V.VufCheck.accepted g.S.Verifier.verified (ExchangesFrames g.T.Write.contents g.T.Read.remaining) (background_of c.args.asker.now) c.args.asker.now c.args.self.now.said c.args.stream.now c.send.new.stream c.in_ok-reply.reply (ask_seen c.args.ask.now) c.in_ok-reply.ensures.sends
-    (λ client monitors report. (IsStopped c.catch_up.result → HoldsBack ⊥ (g.W.Write.contents c.catch_up.new.writer) c.catch_up.new.self.said report (g.W.Write.contents c.args.writer.now)) × HasNotedAs (IsLast c.args.asker.now.marks.items client monitors) c.catch_up.new.self.limit) (rw c.epoch.ensures at (c.catch_up.ensures.noted had)) in
-    let passed : c.from_residual-in_err-catch_up.result ≡ Err c.in_err-catch_up.field-0.0 = search rules in
-    let was : c.catch_up.result ≡ Err c.in_err-catch_up.field-0.0 = search rules in
-    (seen, leads, λ stopped. told (stopped_first c.catch_up.result c.from_residual-in_err-catch_up.result c.in_err-catch_up.field-0.0 was passed stopped), noted)
+    let (seen, leads, noted) = asks_seen g.H.NodeHash.digest_of g.V.VufCheck.accepted g.S.Verifier.verified (ExchangesFrames g.T.Write.contents g.T.Read.remaining) (background_of c.args.asker.now) c.args.asker.now c.args.self.now.said c.args.stream.now c.send.new.stream c.in_ok-reply.reply (ask_seen c.args.ask.now) c.in_ok-reply.ensures.sends
+    (λ client monitors. HasNotedAs (IsLast c.args.asker.now.marks.items client monitors) c.catch_up.new.self.limit) (rw c.epoch.ensures at (c.catch_up.ensures.noted had)) in
+    (seen, leads, noted)
 
 pub returns-clause-noted : goal.returns-clause-noted
 returns-clause-noted g c = λ had.
@@ -191,20 +187,15 @@ returns-clause-noted g c = λ had.
     let stood = heard_stands g.H.NodeHash.digest_of g.V.VufCheck.accepted g.S.Verifier.verified (ExchangesFrames g.T.Write.contents g.T.Read.remaining) (background_of before) c.in_ok-reply.reply.held (ask_seen c.args.ask.now) sends.3.0 before.changes.items after.changes.items c.hear-heard.result
     ready after c.hear-heard.new.said c.hear-heard.new.stream (c.hear-heard.ensures.hears sends.3.0 sends.3.1) c.hear-heard.ensures.err (c.hear-heard.ensures.halts sends.3.0 sends.3.1) in
     let stays = same_background before after c.hear-heard.ensures.stays.0 c.hear-heard.ensures.stays.1 c.hear-heard.ensures.stays.2 c.hear-heard.ensures.stays.3 c.hear-heard.ensures.stays.4 in
-    let (seen, leads, told, noted) = asks_seen g.H.NodeHash.digest_of g.V.VufCheck.accepted g.S.Verifier.verified (ExchangesFrames g.T.Write.contents g.T.Read.remaining) (background_of c.args.asker.now) c.args.asker.now c.args.self.now.said c.args.stream.now c.send.new.stream c.in_ok-reply.reply (ask_seen c.args.ask.now) c.in_ok-reply.ensures.sends
-    (λ client monitors report. (IsStopped c.catch_up.result → HoldsBack ⊥ (g.W.Write.contents c.catch_up.new.writer) c.catch_up.new.self.said report (g.W.Write.contents c.args.writer.now)) × HasNotedAs (IsLast c.args.asker.now.marks.items client monitors) c.catch_up.new.self.limit) (rw c.epoch.ensures at (c.catch_up.ensures.noted had)) in
+    let (seen, leads, noted) = asks_seen g.H.NodeHash.digest_of g.V.VufCheck.accepted g.S.Verifier.verified (ExchangesFrames g.T.Write.contents g.T.Read.remaining) (background_of c.args.asker.now) c.args.asker.now c.args.self.now.said c.args.stream.now c.send.new.stream c.in_ok-reply.reply (ask_seen c.args.ask.now) c.in_ok-reply.ensures.sends
+    (λ client monitors. HasNotedAs (IsLast c.args.asker.now.marks.items client monitors) c.catch_up.new.self.limit) (rw c.epoch.ensures at (c.catch_up.ensures.noted had)) in
     settled_noted (λ (there : Scene g.row.T.Denot). DoesSome g.H.NodeHash.digest_of g.V.VufCheck.accepted g.S.Verifier.verified (ExchangesFrames g.T.Write.contents g.T.Read.remaining) (background_of c.args.asker.now) (Asked (ask_seen c.args.ask.now)) start there)
-    c.args.asker.now.marks.items after c.hear-heard.result _ (IsStopped c.settle.result) (λ (report : Report). HoldsBack ⊥ (g.W.Write.contents c.settle.new.writer) c.settle.new.self.said report (g.W.Write.contents c.args.writer.now))
-    (told_after (first_told caught.0) (report_of c.hear-heard.new.said)) c.catch_up.new.self.limit c.settle.new.self.limit (ap (λ (b : Background). b.marks) (stays ∙ c.in_ok-catch_up.ensures.stays))
-    (λ enough. let (reached, hears, same, client, monitors) = stood enough in (
+    c.args.asker.now.marks.items after c.hear-heard.result _ c.catch_up.new.self.limit c.settle.new.self.limit (ap (λ (b : Background). b.marks) (stays ∙ c.in_ok-catch_up.ensures.stays))
+    (λ enough. let (reached, hears, told, client, monitors) = stood enough in (
       shifted (first_told caught.0) reached,
       asks_some g.H.NodeHash.digest_of g.V.VufCheck.accepted g.S.Verifier.verified (ExchangesFrames g.T.Write.contents g.T.Read.remaining) (background_of c.args.asker.now) c.args.asker.now c.args.self.now.said c.args.stream.now c.send.new.stream c.in_ok-reply.reply (ask_seen c.args.ask.now) sends
           caught.0 ready caught.2 before.changes.items after.changes.items NoReply (background_of before) reached c.in_ok-catch_up.ensures.stays hears,
-      ap (told_after (first_told caught.0)) same,
       client,
       monitors,
     ))
-    (stopped_settles c.settle.result)
-    (λ stopped. held_then ⊥ (g.W.Write.contents c.args.writer.now) (g.W.Write.contents c.catch_up.new.writer) (g.W.Write.contents c.settle.new.writer) c.settle.new.self.said caught.0 (report_of c.hear-heard.new.said) caught.1
-    (leaves_stopped c.settle.result (g.W.Write.contents c.settle.new.writer) c.settle.new.self.said (report_of c.hear-heard.new.said) (g.W.Write.contents c.catch_up.new.writer) c.settle.ensures.leaves stopped))
     (seen, leads, noted) c.settle.ensures.noted

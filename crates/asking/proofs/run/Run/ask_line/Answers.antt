@@ -4,19 +4,18 @@ use Rattle.rootchain.specs.declared.signed_promise.SignedPromise.{SignedPromise}
 use Rattle.memory.specs.declared.mark.Mark.{Mark}
 use Rattle.textio.specs.declared.program_fault.ProgramFault.TheVariants.{CannotWrite}
 use Rattle.play.specs.Scripts.{ask_seen, line_of, line_seen, Ask as Asked}
-use Rattle.asking.specs.Ending.{AsksSomeLine, DoesSome, DoesSomeNoting, HoldsBack}
+use Rattle.asking.specs.Ending.{AsksSomeLine, DoesSome, DoesSomeNoting}
 use Rattle.asking.specs.Exchanges.{ExchangesFrames}
 use Rattle.asking.specs.Joining.{own_for}
-use Rattle.asking.specs.Keeping.{IsStopped}
-use Rattle.asking.specs.Reports.{report_of, Report}
+use Rattle.asking.specs.Reports.{report_of}
 use Rattle.asking.specs.Runs.{AsksLine, background_of, Background, DoesLine, DoesLineNoting}
 use Rattle.asking.specs.Saves.{Act}
 use Rattle.asking.specs.Scenes.{scene, Scene}
 use Rattle.asking.specs.Standing.{standing, StateStands}
 use Rattle.asking.specs.declared.ask_fault.AskFault.TheVariants.{NoReply, OutOfMemory as NoMemory}
 use Rattle.asking.specs.declared.ask_fault.RunFault.TheVariants.{Program}
-use Rattle.asking.proofs.Ended.{leaves_same, leaves_stopped, line_not, line_reaches, reaches_whole, watched_reaches}
-use Rattle.asking.proofs.Keeping.{stopped_settles, was_asked}
+use Rattle.asking.proofs.Ended.{line_not, line_reaches, reaches_whole, watched_reaches}
+use Rattle.asking.proofs.Keeping.{was_asked}
 use Rattle.asking.proofs.Late.{does_noting, settled_noted}
 use Rattle.asking.proofs.MarkedRuns.{ok_all}
 use Rattle.asking.proofs.Ran.{ok_before, ok_then, written_so}
@@ -251,16 +250,14 @@ pub returns-in-Ask-clause-noted : goal.returns-in-Ask-clause-noted
 returns-in-Ask-clause-noted g c = λ had.
     let seen : line_of c.args.line.now ≡ Some (line_seen c.in-Some.line) = sym (rw c.in-Some.is at c.in_ok-line.ensures) in
     let said : line_of c.args.line.now ≡ Some (Asked (ask_seen c.in-Ask.ask)) = rw c.in-Ask.is at seen in
-    let (there, does, told, noted) = c.ask_directory.ensures.noted had in
-    (there, inr (Asked (ask_seen c.in-Ask.ask), said, does), told, noted)
+    let (there, does, noted) = c.ask_directory.ensures.noted had in
+    (there, inr (Asked (ask_seen c.in-Ask.ask), said, does), noted)
 
 pub returns-in-Pass-clause-noted : goal.returns-in-Pass-clause-noted
 returns-in-Pass-clause-noted g c = λ had.
     let start = scene c.args.asker.now c.args.self.now.said c.args.stream.now in
     settled_noted (AsksSomeLine g.H.NodeHash.digest_of g.V.VufCheck.accepted g.S.Verifier.verified (ExchangesFrames g.T.Write.contents g.T.Read.remaining) (background_of c.args.asker.now) c.args.line.now start)
-    c.args.asker.now.marks.items c.args.asker.now (Ok tt) _ (IsStopped c.settle.result) (λ (told : Report). HoldsBack ⊥ (g.W.Write.contents c.settle.new.writer) c.settle.new.self.said told (g.W.Write.contents c.args.writer.now)) (report_of c.args.self.now.said)
-    c.args.self.now.limit c.settle.new.self.limit refl (λ some. (start, inl refl, refl, refl, refl)) (stopped_settles c.settle.result)
-    (leaves_stopped c.settle.result (g.W.Write.contents c.settle.new.writer) c.settle.new.self.said (report_of c.args.self.now.said) (g.W.Write.contents c.args.writer.now) c.settle.ensures.leaves) (start, inl refl, had) c.settle.ensures.noted
+    c.args.asker.now.marks.items c.args.asker.now (Ok tt) _ c.args.self.now.limit c.settle.new.self.limit refl (λ some. (start, inl refl, refl, refl)) (start, inl refl, had) c.settle.ensures.noted
 
 pub returns-in-Watch-clause-noted : goal.returns-in-Watch-clause-noted
 returns-in-Watch-clause-noted g c = λ had.
@@ -275,31 +272,23 @@ returns-in-Watch-clause-noted g c = λ had.
     before.changes.items after.changes.items asked (scene c.args.asker.now c.args.self.now.said c.args.stream.now) after said' c.watch-watched.new.stream
     c.as_ref.ensures.value (ap (λ (changes : Vec SignedPromise Global). changes.items) c.watch-watched.ensures.stays.4) c.watch-watched.ensures.begins c.watch-watched.ensures.err c.watch-watched.ensures.halts) in
     settled_noted (AsksSomeLine g.H.NodeHash.digest_of g.V.VufCheck.accepted g.S.Verifier.verified (ExchangesFrames g.T.Write.contents g.T.Read.remaining) (background_of c.args.asker.now) c.args.line.now start)
-    before.marks.items after asked _ (IsStopped c.settle-in-Watch.result) (λ (told : Report). HoldsBack ⊥ (g.W.Write.contents c.settle-in-Watch.new.writer) c.settle-in-Watch.new.self.said told (g.W.Write.contents c.args.writer.now)) (report_of said')
-    c.args.self.now.limit c.settle-in-Watch.new.self.limit (ap (λ (ms : Vec Mark Global). ms.items) c.watch-watched.ensures.stays.2)
+    before.marks.items after asked _ c.args.self.now.limit c.settle-in-Watch.new.self.limit (ap (λ (ms : Vec Mark Global). ms.items) c.watch-watched.ensures.stays.2)
     (λ some. let (reached, does, told, client, monitors) = stood some in (
       reached,
       inr (line_seen c.in-Some.line, seen, does_noting g.H.NodeHash.digest_of g.V.VufCheck.accepted g.S.Verifier.verified (ExchangesFrames g.T.Write.contents g.T.Read.remaining) (background_of before) NoReply (line_seen c.in-Some.line) before.changes.items after.changes.items start reached does),
-      told,
       client,
       monitors,
     ))
-    (stopped_settles c.settle-in-Watch.result)
-    (leaves_stopped c.settle-in-Watch.result (g.W.Write.contents c.settle-in-Watch.new.writer) c.settle-in-Watch.new.self.said (report_of said') (g.W.Write.contents c.args.writer.now) c.settle-in-Watch.ensures.leaves)
     (start, inl refl, had) c.settle-in-Watch.ensures.noted
 
 pub returns-in_err-line-clause-noted : goal.returns-in_err-line-clause-noted
-returns-in_err-line-clause-noted g c = λ had.
-    (scene c.args.asker.now c.args.self.now.said c.args.stream.now, inl refl, λ stopped. leaves_same ⊥ (g.W.Write.contents c.args.writer.now) c.args.self.now.said (report_of c.args.self.now.said) refl, had)
+returns-in_err-line-clause-noted g c = λ had. (scene c.args.asker.now c.args.self.now.said c.args.stream.now, inl refl, had)
 
 pub returns-in_default-clause-noted : goal.returns-in_default-clause-noted
-returns-in_default-clause-noted g c = λ had.
-    (scene c.args.asker.now c.args.self.now.said c.args.stream.now, inl refl, λ stopped. leaves_same ⊥ (g.W.Write.contents c.args.writer.now) c.args.self.now.said (report_of c.args.self.now.said) refl, had)
+returns-in_default-clause-noted g c = λ had. (scene c.args.asker.now c.args.self.now.said c.args.stream.now, inl refl, had)
 
 pub returns-in-Piece-clause-noted : goal.returns-in-Piece-clause-noted
-returns-in-Piece-clause-noted g c = λ had.
-    (scene c.args.asker.now c.args.self.now.said c.args.stream.now, inl refl, λ stopped. leaves_same ⊥ (g.W.Write.contents c.args.writer.now) c.args.self.now.said (report_of c.args.self.now.said) refl, had)
+returns-in-Piece-clause-noted g c = λ had. (scene c.args.asker.now c.args.self.now.said c.args.stream.now, inl refl, had)
 
 pub returns-clause-noted : goal.returns-clause-noted
-returns-clause-noted g c = λ had.
-    (scene c.args.asker.now c.args.self.now.said c.args.stream.now, inl refl, λ stopped. leaves_same ⊥ (g.W.Write.contents c.args.writer.now) c.args.self.now.said (report_of c.args.self.now.said) refl, had)
+returns-clause-noted g c = λ had. (scene c.args.asker.now c.args.self.now.said c.args.stream.now, inl refl, had)

@@ -1,9 +1,8 @@
 use Rattle.std.proofs.Common.{◌≡◌, ◌⊎◌, ◌∙◌, ◌<◌, ◌++◌, Bool, false, true, ℕ, List, Ok, Err, Option, ap, arith, inl, inr, refl, rules, subst, sym}
 use Rattle.memory.specs.declared.mark.Mark.{Mark}
 use Rattle.textio.specs.declared.program_fault.ProgramFault.TheVariants.{CannotWrite}
-use Rattle.asking.specs.Ending.{AdvancesPart, HoldsBack}
+use Rattle.asking.specs.Ending.{AdvancesPart}
 use Rattle.asking.specs.Exchanges.{ExchangesFrames}
-use Rattle.asking.specs.Keeping.{IsStopped}
 use Rattle.asking.specs.Lateness.{HasNoted, HasNotedAs, IsLast}
 use Rattle.asking.specs.Reports.{report_of}
 use Rattle.asking.specs.Runs.{background_of, AdvancesOnce, Background}
@@ -16,10 +15,9 @@ use Rattle.asking.proofs.CaughtUp.{lists-low}
 use Rattle.asking.specs.declared.ask_fault.AskFault.TheVariants.{Stopped}
 use Rattle.asking.specs.declared.ask_fault.RunFault.TheVariants.{Ask, Program}
 use Rattle.asking.specs.declared.following.TheConstants.{MAX_LISTS}
-use Rattle.asking.proofs.Between.{all_behind, all_part, held_then, here_seen, lists_on, part_behind, seen_behind, stops_behind}
-use Rattle.asking.proofs.Ended.{err_passed, err_so, leaves_stopped, leaves_with}
+use Rattle.asking.proofs.Between.{all_behind, all_part, here_seen, lists_on, part_behind, seen_behind, stops_behind}
+use Rattle.asking.proofs.Ended.{err_passed, err_so, leaves_with}
 use Rattle.asking.proofs.Faulty.{grows_not, grows_on}
-use Rattle.asking.proofs.Keeping.{stopped_first}
 use Rattle.asking.proofs.Late.{limit_trans, noted_still}
 use Rattle.asking.proofs.MarkedRuns.{marks-same, marks-then}
 use Rattle.asking.proofs.Ran.{ok_then}
@@ -173,29 +171,22 @@ returns-in_err-advance-clause-noted g c = λ had.
     let here = scene c.loop-list.asker c.loop-list.self.said c.loop-list.stream in
     let few : c.loop-list._list < MAX_LISTS = search rules in
     let marks = ap (λ (b : Background). b.marks) c.loop-list.invariant.same in
-    let (seen, leads, told, noted) = c.advance.ensures.noted (c.loop-list.invariant.noted had) in
+    let (seen, leads, noted) = c.advance.ensures.noted (c.loop-list.invariant.noted had) in
     let leads' = subst (λ (b : Background). (seen ≡ here) ⊎ AdvancesPart g.H.NodeHash.digest_of g.V.VufCheck.accepted g.S.Verifier.verified (ExchangesFrames g.T.Write.contents g.T.Read.remaining) b c.args.epoch here seen) c.loop-list.invariant.same leads in
     let noted' = subst (λ (ms : List Mark). HasNotedAs (IsLast ms seen.client seen.monitors) c.advance.new.self.limit) marks noted in
-    let passed : c.from_residual.result ≡ Err c.in_err-advance.field-0.0 = search rules in
-    let was : c.advance.result ≡ Err c.in_err-advance.field-0.0 = search rules in
     seen_behind g.H.NodeHash.digest_of g.V.VufCheck.accepted g.S.Verifier.verified (ExchangesFrames g.T.Write.contents g.T.Read.remaining) (background_of c.args.asker.now) c.args.epoch c.loop-list._list (scene c.args.asker.now c.args.self.now.said c.args.stream.now) here (g.W.Write.contents c.args.writer.now) (g.W.Write.contents c.loop-list.writer) c.loop-list.invariant.lists
-    (λ client monitors report. (IsStopped c.from_residual.result → HoldsBack ⊥ (g.W.Write.contents c.advance.new.writer) c.advance.new.self.said report (g.W.Write.contents c.args.writer.now)) × HasNotedAs (IsLast c.args.asker.now.marks.items client monitors) c.advance.new.self.limit) few
-    (seen, leads', λ text appends. (
-      λ stopped. held_then ⊥ (g.W.Write.contents c.args.writer.now) (g.W.Write.contents c.loop-list.writer) (g.W.Write.contents c.advance.new.writer) c.advance.new.self.said text seen.told appends (told (stopped_first c.advance.result c.from_residual.result c.in_err-advance.field-0.0 was passed stopped)),
-      noted',
-    ))
+    (λ client monitors. HasNotedAs (IsLast c.args.asker.now.marks.items client monitors) c.advance.new.self.limit) few (seen, leads', noted')
 
 pub returns-then-not-branch-clause-noted : goal.returns-then-not-branch-clause-noted
 returns-then-not-branch-clause-noted g c = λ had.
     let here = scene c.loop-list.asker c.loop-list.self.said c.loop-list.stream in
     let few : c.loop-list._list < MAX_LISTS = search rules in
     let marks = ap (λ (b : Background). b.marks) c.loop-list.invariant.same in
-    let (seen, leads, told, noted) = c.advance.ensures.noted (c.loop-list.invariant.noted had) in
+    let (seen, leads, noted) = c.advance.ensures.noted (c.loop-list.invariant.noted had) in
     let leads' = subst (λ (b : Background). (seen ≡ here) ⊎ AdvancesPart g.H.NodeHash.digest_of g.V.VufCheck.accepted g.S.Verifier.verified (ExchangesFrames g.T.Write.contents g.T.Read.remaining) b c.args.epoch here seen) c.loop-list.invariant.same leads in
     let noted' = subst (λ (ms : List Mark). HasNotedAs (IsLast ms seen.client seen.monitors) c.advance.new.self.limit) marks noted in
     seen_behind g.H.NodeHash.digest_of g.V.VufCheck.accepted g.S.Verifier.verified (ExchangesFrames g.T.Write.contents g.T.Read.remaining) (background_of c.args.asker.now) c.args.epoch c.loop-list._list (scene c.args.asker.now c.args.self.now.said c.args.stream.now) here (g.W.Write.contents c.args.writer.now) (g.W.Write.contents c.loop-list.writer) c.loop-list.invariant.lists
-    (λ client monitors report. (⊥ → HoldsBack ⊥ (g.W.Write.contents c.advance.new.writer) c.advance.new.self.said report (g.W.Write.contents c.args.writer.now)) × HasNotedAs (IsLast c.args.asker.now.marks.items client monitors) c.advance.new.self.limit) few
-    (seen, leads', λ text appends. (λ no. absurd no, noted'))
+    (λ client monitors. HasNotedAs (IsLast c.args.asker.now.marks.items client monitors) c.advance.new.self.limit) few (seen, leads', noted')
 
 pub returns-clause-noted : goal.returns-clause-noted
 returns-clause-noted g c = λ had.
@@ -208,12 +199,7 @@ returns-clause-noted g c = λ had.
     ] in
     let noted' = subst (λ (ms : List Mark). HasNotedAs (IsLast ms c.loop-list.asker.client c.loop-list.asker.monitors.items) c.settle.new.self.limit) marks noted in
     here_seen g.H.NodeHash.digest_of g.V.VufCheck.accepted g.S.Verifier.verified (ExchangesFrames g.T.Write.contents g.T.Read.remaining) (background_of c.args.asker.now) c.args.epoch c.loop-list._list (scene c.args.asker.now c.args.self.now.said c.args.stream.now) here (g.W.Write.contents c.args.writer.now) (g.W.Write.contents c.loop-list.writer) c.loop-list.invariant.lists
-    (λ client monitors report. (IsStopped c.settle.result → HoldsBack ⊥ (g.W.Write.contents c.settle.new.writer) c.settle.new.self.said report (g.W.Write.contents c.args.writer.now)) × HasNotedAs (IsLast c.args.asker.now.marks.items client monitors) c.settle.new.self.limit) (omega (arith, all))
-    (λ text appends. (
-      λ stopped. held_then ⊥ (g.W.Write.contents c.args.writer.now) (g.W.Write.contents c.loop-list.writer) (g.W.Write.contents c.settle.new.writer) c.settle.new.self.said text (report_of c.loop-list.self.said) appends
-          (leaves_stopped c.settle.result (g.W.Write.contents c.settle.new.writer) c.settle.new.self.said (report_of c.loop-list.self.said) (g.W.Write.contents c.loop-list.writer) c.settle.ensures.leaves stopped),
-      noted',
-    ))
+    (λ client monitors. HasNotedAs (IsLast c.args.asker.now.marks.items client monitors) c.settle.new.self.limit) (omega (arith, all)) noted'
 
 pub returns-then-not-branch-clause-low : goal.returns-then-not-branch-clause-low
 returns-then-not-branch-clause-low g c = λ lines start old acts first low up high.

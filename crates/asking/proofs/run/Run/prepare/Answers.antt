@@ -2,9 +2,9 @@ use Rattle.std.proofs.Common.{◌≡◌, ◌≢◌, ◌⊎◌, ◌∙◌, ◌++�
 use Rattle.textio.specs.declared.program_fault.ProgramFault.TheVariants.{CannotWrite}
 use Rattle.asking.specs.Ending.{HoldsBack, PreparesSome}
 use Rattle.asking.specs.Exchanges.{ExchangesFrames}
-use Rattle.asking.specs.Keeping.{IsStopped, KeepsUp}
+use Rattle.asking.specs.Keeping.{KeepsUp}
 use Rattle.asking.specs.Lateness.{HasNotedAs, IsLast, IsSameLimit}
-use Rattle.asking.specs.Reports.{report_of, told_after, Report}
+use Rattle.asking.specs.Reports.{report_of, Report}
 use Rattle.asking.specs.Runs.{background_of, Background, Prepares}
 use Rattle.asking.specs.Saves.{Act}
 use Rattle.asking.specs.Scenes.{scene, Scene}
@@ -14,9 +14,9 @@ use Rattle.asking.specs.declared.ask_fault.RunFault.TheVariants.{Program}
 use Rattle.asking.specs.declared.lateness.Limit.{Limit}
 use Rattle.asking.specs.declared.state.State.{State}
 use Rattle.asking.proofs.Between.{caught_up, first_told, held_then, written_behind}
-use Rattle.asking.proofs.Ended.{err_so, leaves_same, leaves_stopped, leaves_with, reaches_whole}
+use Rattle.asking.proofs.Ended.{err_so, leaves_same, leaves_with, reaches_whole}
 use Rattle.asking.proofs.Faulty.{grows_on}
-use Rattle.asking.proofs.Keeping.{stopped_first, stopped_settles, was_asked}
+use Rattle.asking.proofs.Keeping.{was_asked}
 use Rattle.asking.proofs.Late.{limit_trans, noted_still, settled_noted}
 use Rattle.asking.proofs.MarkedRuns.{marks-then, ok_settled}
 use Rattle.asking.proofs.Ran.{ok_before, ok_then, written_so}
@@ -201,22 +201,17 @@ pub returns-then-is_none-clause-noted : goal.returns-then-is_none-clause-noted
 returns-then-is_none-clause-noted g c = λ had.
     let start = scene c.args.asker.now c.args.self.now.said c.args.stream.now in
     settled_noted (λ (seen : Scene g.row.T.Denot). (seen ≡ start) ⊎ PreparesSome g.H.NodeHash.digest_of g.V.VufCheck.accepted g.S.Verifier.verified (ExchangesFrames g.T.Write.contents g.T.Read.remaining) (background_of c.args.asker.now) (c.args.self.now.state ≡ None) start seen)
-    c.args.asker.now.marks.items c.args.asker.now (Ok tt) _ (IsStopped c.settle.result) (λ (told : Report). HoldsBack ⊥ (g.W.Write.contents c.settle.new.writer) c.settle.new.self.said told (g.W.Write.contents c.args.writer.now)) (report_of c.args.self.now.said)
-    c.args.self.now.limit c.settle.new.self.limit refl (λ some. (start, inl refl, refl, refl, refl)) (stopped_settles c.settle.result)
-    (leaves_stopped c.settle.result (g.W.Write.contents c.settle.new.writer) c.settle.new.self.said (report_of c.args.self.now.said) (g.W.Write.contents c.args.writer.now) c.settle.ensures.leaves) (start, inl refl, had) c.settle.ensures.noted
+    c.args.asker.now.marks.items c.args.asker.now (Ok tt) _ c.args.self.now.limit c.settle.new.self.limit refl (λ some. (start, inl refl, refl, refl)) (start, inl refl, had) c.settle.ensures.noted
 
 pub returns-in_err-reply-clause-noted : goal.returns-in_err-reply-clause-noted
-returns-in_err-reply-clause-noted g c = λ had.
-    (scene c.args.asker.now c.args.self.now.said c.args.stream.now, inl refl, λ stopped. leaves_same ⊥ (g.W.Write.contents c.args.writer.now) c.args.self.now.said (report_of c.args.self.now.said) refl, had)
+returns-in_err-reply-clause-noted g c = λ had. (scene c.args.asker.now c.args.self.now.said c.args.stream.now, inl refl, had)
 
 pub returns-in_err-catch_up-clause-noted : goal.returns-in_err-catch_up-clause-noted
 returns-in_err-catch_up-clause-noted g c = λ had.
     let some : ¬ (c.args.self.now.state ≡ None) = search rules in
-    let (seen, leads, told, noted) = prepares_seen g.H.NodeHash.digest_of g.V.VufCheck.accepted g.S.Verifier.verified (ExchangesFrames g.T.Write.contents g.T.Read.remaining) (background_of c.args.asker.now) c.args.asker.now c.args.self.now.said c.args.stream.now c.send.new.stream c.in_ok-reply.reply c.in_ok-reply.ensures.sends (c.args.self.now.state ≡ None) some
-    (λ client monitors report. (IsStopped c.catch_up.result → HoldsBack ⊥ (g.W.Write.contents c.catch_up.new.writer) c.catch_up.new.self.said report (g.W.Write.contents c.args.writer.now)) × HasNotedAs (IsLast c.args.asker.now.marks.items client monitors) c.catch_up.new.self.limit) (rw c.epoch.ensures at (c.catch_up.ensures.noted had)) in
-    let passed : c.from_residual-in_err-catch_up.result ≡ Err c.in_err-catch_up.field-0.0 = search rules in
-    let was : c.catch_up.result ≡ Err c.in_err-catch_up.field-0.0 = search rules in
-    (seen, leads, λ stopped. told (stopped_first c.catch_up.result c.from_residual-in_err-catch_up.result c.in_err-catch_up.field-0.0 was passed stopped), noted)
+    let (seen, leads, noted) = prepares_seen g.H.NodeHash.digest_of g.V.VufCheck.accepted g.S.Verifier.verified (ExchangesFrames g.T.Write.contents g.T.Read.remaining) (background_of c.args.asker.now) c.args.asker.now c.args.self.now.said c.args.stream.now c.send.new.stream c.in_ok-reply.reply c.in_ok-reply.ensures.sends (c.args.self.now.state ≡ None) some
+    (λ client monitors. HasNotedAs (IsLast c.args.asker.now.marks.items client monitors) c.catch_up.new.self.limit) (rw c.epoch.ensures at (c.catch_up.ensures.noted had)) in
+    (seen, leads, noted)
 
 pub returns-clause-noted : goal.returns-clause-noted
 returns-clause-noted g c = λ had.
@@ -227,21 +222,16 @@ returns-clause-noted g c = λ had.
     let sends = c.in_ok-reply.ensures.sends in
     let caught = caught_up g.H.NodeHash.digest_of g.V.VufCheck.accepted g.S.Verifier.verified (ExchangesFrames g.T.Write.contents g.T.Read.remaining) (background_of c.args.asker.now) c.in_ok-reply.reply.epoch (scene c.args.asker.now c.args.self.now.said c.send.new.stream) ready
     (g.W.Write.contents c.args.writer.now) (g.W.Write.contents c.catch_up.new.writer) (rw c.epoch.ensures at c.in_ok-catch_up.ensures.catches) in
-    let (seen, leads, told, noted) = prepares_seen g.H.NodeHash.digest_of g.V.VufCheck.accepted g.S.Verifier.verified (ExchangesFrames g.T.Write.contents g.T.Read.remaining) (background_of c.args.asker.now) c.args.asker.now c.args.self.now.said c.args.stream.now c.send.new.stream c.in_ok-reply.reply c.in_ok-reply.ensures.sends (c.args.self.now.state ≡ None) some
-    (λ client monitors report. (IsStopped c.catch_up.result → HoldsBack ⊥ (g.W.Write.contents c.catch_up.new.writer) c.catch_up.new.self.said report (g.W.Write.contents c.args.writer.now)) × HasNotedAs (IsLast c.args.asker.now.marks.items client monitors) c.catch_up.new.self.limit) (rw c.epoch.ensures at (c.catch_up.ensures.noted had)) in
+    let (seen, leads, noted) = prepares_seen g.H.NodeHash.digest_of g.V.VufCheck.accepted g.S.Verifier.verified (ExchangesFrames g.T.Write.contents g.T.Read.remaining) (background_of c.args.asker.now) c.args.asker.now c.args.self.now.said c.args.stream.now c.send.new.stream c.in_ok-reply.reply c.in_ok-reply.ensures.sends (c.args.self.now.state ≡ None) some
+    (λ client monitors. HasNotedAs (IsLast c.args.asker.now.marks.items client monitors) c.catch_up.new.self.limit) (rw c.epoch.ensures at (c.catch_up.ensures.noted had)) in
     settled_noted (λ (there : Scene g.row.T.Denot). (there ≡ start) ⊎ PreparesSome g.H.NodeHash.digest_of g.V.VufCheck.accepted g.S.Verifier.verified (ExchangesFrames g.T.Write.contents g.T.Read.remaining) (background_of c.args.asker.now) (c.args.self.now.state ≡ None) start there)
-    c.args.asker.now.marks.items after c.look_around-prepared.result _ (IsStopped c.settle-2.result) (λ (report : Report). HoldsBack ⊥ (g.W.Write.contents c.settle-2.new.writer) c.settle-2.new.self.said report (g.W.Write.contents c.args.writer.now))
-    (told_after (first_told caught.0) (report_of c.look_around-prepared.new.self.said)) c.look_around-prepared.new.self.limit c.settle-2.new.self.limit
+    c.args.asker.now.marks.items after c.look_around-prepared.result _ c.look_around-prepared.new.self.limit c.settle-2.new.self.limit
     (ap (λ (b : Background). b.marks) (c.look_around-prepared.ensures.stays ∙ c.in_ok-catch_up.ensures.stays))
-    (λ enough. let (reached, looks, same, client, monitors) = c.look_around-prepared.ensures.stands enough sends.3.0 sends.3.1 in (
+    (λ enough. let (reached, looks, told, client, monitors) = c.look_around-prepared.ensures.stands enough sends.3.0 sends.3.1 in (
       shifted (first_told caught.0) reached,
       inr (prepares_some g.H.NodeHash.digest_of g.V.VufCheck.accepted g.S.Verifier.verified (ExchangesFrames g.T.Write.contents g.T.Read.remaining) (background_of c.args.asker.now) c.args.asker.now c.args.self.now.said c.args.stream.now c.send.new.stream c.in_ok-reply.reply sends (c.args.self.now.state ≡ None) some
           caught.0 ready caught.2 (background_of c.catch_up.new.asker) reached c.in_ok-catch_up.ensures.stays looks),
-      ap (told_after (first_told caught.0)) same,
       client,
       monitors,
     ))
-    (stopped_settles c.settle-2.result)
-    (λ stopped. held_then ⊥ (g.W.Write.contents c.args.writer.now) (g.W.Write.contents c.catch_up.new.writer) (g.W.Write.contents c.settle-2.new.writer) c.settle-2.new.self.said caught.0 (report_of c.look_around-prepared.new.self.said) caught.1
-    (leaves_stopped c.settle-2.result (g.W.Write.contents c.settle-2.new.writer) c.settle-2.new.self.said (report_of c.look_around-prepared.new.self.said) (g.W.Write.contents c.catch_up.new.writer) c.settle-2.ensures.leaves stopped))
     (seen, leads, noted_still (IsLast c.args.asker.now.marks.items seen.client seen.monitors) c.catch_up.new.self.limit c.look_around-prepared.new.self.limit c.look_around-prepared.ensures.limit noted) c.settle-2.ensures.noted
