@@ -23,7 +23,7 @@ use Rattle.asking.specs.declared.asker.Asker.{Asker}
 use Rattle.memory.specs.declared.mark.Mark.{Mark}
 use Rattle.asking.specs.declared.order.AskOrder.{AskOrder}
 use Rattle.asking.specs.declared.run.RunEnd.{RunEnd}
-use Rattle.asking.specs.declared.run.RunEnd.TheVariants.{Whole, Stopped, Unwritten, Stale, StoppedStale}
+use Rattle.asking.specs.declared.run.RunEnd.TheVariants.{Whole, Stopped, Unwritten, Stale}
 use Rattle.asking.specs.declared.said.Said.{Said}
 use Rattle.asking.specs.AskOptions.{AskOptions, ask_keys_of, ask_values}
 use Rattle.asking.specs.Asking.{HearsHead, HearsReply, HearsSome}
@@ -393,7 +393,6 @@ module _ (hash : List ℕ → List ℕ) (accepted verified : List ℕ → List �
     asks-with stream stream' input old new Holds Unwritten run =
         early-with (λ told now. (3 ≤ told.status) × WritesSome now new told.lines) (λ told now. (3 ≤ told.status) × WritesSome now new told.lines) Holds ⊥ ⊥ stream input old (λ told now holds. holds) (λ no. no) run
     asks-with stream stream' input old new Holds (Stale epoch) run = absurd run
-    asks-with stream stream' input old new Holds (StoppedStale epoch) run = absurd run
 
     fails-late-with : (stream : T) (input : Option (List ℕ)) (Holds : ℕ → ℕ → Type 0) (Unknown Unknown' : Type 0) (fault : ProgramFault) (old new : Option (List ℕ)) → (Unknown → Unknown')
         → FailsLate hash accepted verified exchanged key token options NoState stream input Holds Unknown fault old new → FailsLate hash accepted verified exchanged key token options None' stream input Holds Unknown' fault old new
@@ -415,8 +414,7 @@ module _ (hash : List ℕ → List ℕ) (accepted verified : List ℕ → List �
     runs_with stream stream' input old new (Stopped status) run = asks-with stream stream' input old new (λ after last. after < last) (Stopped status) run
     runs_with stream stream' input old new Unwritten (inl run) = inl (asks-with stream stream' input old new (λ after last. after < last) Unwritten run)
     runs_with stream stream' input old new Unwritten (inr (epoch, run)) = inr (epoch, stale-with stream stream' input old epoch (λ now. WritesSome now new (stale_line epoch)) run)
-    runs_with stream stream' input old new (Stale epoch) (stale, (now, wrote, (status, run))) = (stale, (now, wrote, (status, asks-with stream stream' input old now (λ after last. last ≡ epoch) (Whole status) run)))
-    runs_with stream stream' input old new (StoppedStale epoch) run = stale-with stream stream' input old epoch (λ now. Appends now new (stale_line epoch)) run
+    runs_with stream stream' input old new (Stale epoch) run = stale-with stream stream' input old epoch (λ now. Appends now new (stale_line epoch)) run
 
     -- ---- the end
 
@@ -440,7 +438,6 @@ module _ (hash : List ℕ → List ℕ) (accepted verified : List ℕ → List �
               (λ told now leaves. (is ∙ ap (λ (n : ℕ). stopped_status n) leaves.0, written_all (WriteFailed (Err why)) now new new' said told leaves well wrote))
               (λ (fault, was, some, state, last, low). fails fault was low) (early empty)
           by (Err why) (Ok (Stale epoch)) whole early fails ends stops = absurd stops
-          by (Err why) (Ok (StoppedStale epoch)) whole early fails ends stops = absurd stops
           by (Err why) (Ok Unwritten) whole early fails ends (high, wrote) =
               early-with (HoldsBack (WriteFailed (Err why)) new said) (λ told now. (3 ≤ told.status) × WritesSome now new' told.lines) Holds (LoadsNone {A = Unit {0}} NoState (Err why) before after said.status) ⊥ stream input old
               (λ told now leaves. (subst (λ (n : ℕ). 3 ≤ n) leaves.0 high, written_then (WriteFailed (Err why)) now new new' said told leaves wrote))

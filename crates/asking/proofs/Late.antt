@@ -19,7 +19,7 @@ use Rattle.memory.specs.declared.mark.Mark.{Mark}
 use Rattle.wire.specs.Frames.{Frame}
 use Rattle.wire.specs.Requests.{RequestContent}
 use Rattle.asking.specs.AskOptions.{AskOptions, ask_values}
-use Rattle.asking.specs.Ending.{stale_end, AsksAs, AsksSomeLine, DoesSome, DoesSomeNoting, EndsEarly, EndsStale, FailsAs, FailsLate, HasFirst, HasLast, IsNewFor, IsUnknown, LoadsNone, NotesFirst, PreparesSome, RunsAs, Sees, TellsFault}
+use Rattle.asking.specs.Ending.{AsksAs, AsksSomeLine, DoesSome, DoesSomeNoting, EndsEarly, EndsStale, FailsAs, FailsLate, HasFirst, HasLast, IsNewFor, IsUnknown, LoadsNone, NotesFirst, PreparesSome, RunsAs, Sees, TellsFault}
 use Rattle.asking.specs.Lateness.{stale_line, subject_in, subject_of, wanted_of, Finds, HasEpoch, HasNoted, HasNotedAs, IsLast, IsLimitOf, IsSameLimit, IsStale}
 use Rattle.asking.specs.Scenes.{Scene, scene}
 use Rattle.asking.specs.declared.ask_fault.AskFault.{AskFault}
@@ -33,7 +33,7 @@ use Rattle.asking.specs.declared.order.AskOrder.{AskOrder}
 use Rattle.asking.specs.declared.run.Run.{Run}
 use Rattle.asking.specs.declared.run.RunEnd.{RunEnd}
 use Rattle.asking.specs.declared.said.Said.{Said}
-use Rattle.asking.specs.declared.run.RunEnd.TheVariants.{Whole, Stopped, Unwritten, Stale, StoppedStale}
+use Rattle.asking.specs.declared.run.RunEnd.TheVariants.{Whole, Stopped, Unwritten, Stale}
 use Rattle.asking.proofs.Ended.{early_held, err_so}
 use Rattle.asking.proofs.Ran.{none_before}
 
@@ -193,14 +193,6 @@ late_none hash accepted verified exchanged order HasNoState background start Hol
 
 -- ---- the end
 
--- an end behind which nothing is told yet
-abbrev pub IsEnd : RunEnd → Type 0
-IsEnd (Whole status) = ⊤
-IsEnd (Stopped status) = ⊤
-IsEnd Unwritten = ⊤
-IsEnd (Stale epoch) = ⊥
-IsEnd (StoppedStale epoch) = ⊥
-
 -- the order has a limit, and this is not above it
 is-stale : (options : AskOptions) (limit : Limit) (epoch : ℕ) → IsLimitOf options limit → Finds limit (Some epoch) → IsStale options epoch
 is-stale options limit epoch is (some, last, low) = by options.after refl
@@ -236,16 +228,6 @@ module _ {T : Type 0} (hash : List ℕ → List ℕ) (accepted verified : List �
   asked-late (Stopped status) new finds run = held-late ⊥ ⊥ _ finds (λ no. no) run
   asked-late Unwritten new finds run = inl (held-late ⊥ ⊥ _ finds (λ no. no) run)
   asked-late (Stale epoch) new finds run = absurd run
-  asked-late (StoppedStale epoch) new finds run = absurd run
-
-  -- so it ended, and no more is told yet
-  pub asked_end : (Holds : ℕ → ℕ → Type 0) (new : Option (List ℕ)) (ended : Result RunEnd ProgramFault) → IfOk ended (λ end. AsksAs hash accepted verified exchanged key token options HasNoState stream stream' input Holds end old new) → IfOk ended IsEnd
-  asked_end Holds new (Ok (Whole status)) run = tt
-  asked_end Holds new (Ok (Stopped status)) run = tt
-  asked_end Holds new (Ok Unwritten) run = tt
-  asked_end Holds new (Ok (Stale epoch)) run = run
-  asked_end Holds new (Ok (StoppedStale epoch)) run = run
-  asked_end Holds new (Err fault) run = tt
 
   asked-stale : (epoch : ℕ) (ended : RunEnd) (new : Option (List ℕ)) → Finds limit (Some epoch) → AsksAs hash accepted verified exchanged key token options HasNoState stream stream' input (λ after last. limit.last ≡ Some last) ended old new
       → AsksAs hash accepted verified exchanged key token options HasNoState stream stream' input (λ after last. last ≡ epoch) ended old new
@@ -254,7 +236,6 @@ module _ {T : Type 0} (hash : List ℕ → List ℕ) (accepted verified : List �
   asked-stale epoch (Stopped status) new finds run = held-stale ⊥ _ epoch finds (λ no. no) run
   asked-stale epoch Unwritten new finds run = held-stale ⊥ _ epoch finds (λ no. no) run
   asked-stale epoch (Stale other) new finds run = absurd run
-  asked-stale epoch (StoppedStale other) new finds run = absurd run
 
   ends-stale : (epoch : ℕ) (ended : Result RunEnd ProgramFault) (new : Option (List ℕ)) (Then : Option (List ℕ) → Type 0) → Finds limit (Some epoch) → Then new
       → IfOk ended (λ end. AsksAs hash accepted verified exchanged key token options HasNoState stream stream' input (λ after last. limit.last ≡ Some last) end old new)
@@ -270,7 +251,7 @@ module _ {T : Type 0} (hash : List ℕ → List ℕ) (accepted verified : List �
         → IfOk ended (λ end. AsksAs hash accepted verified exchanged key token options HasNoState stream stream' input (λ after last. limit.last ≡ Some last) end old new)
         → IfErr ended (λ fault. FailsLate hash accepted verified exchanged key token options HasNoState stream input (λ after last. limit.last ≡ Some last) (IsUnknown HasNoState fault × (limit.last ≡ None)) fault old new)
         → (stale ≡ None → (result ≡ ended) × (new' ≡ new))
-        → IfSome stale (λ epoch. ((result ≡ Ok (stale_end ended epoch)) × Appends new new' (stale_line epoch)) ⊎ ((result ≡ Ok Unwritten) × WritesSome new new' (stale_line epoch)))
+        → IfSome stale (λ epoch. ((result ≡ Ok (Stale epoch)) × Appends new new' (stale_line epoch)) ⊎ ((result ≡ Ok Unwritten) × WritesSome new new' (stale_line epoch)))
         → IfOk result (λ end. RunsAs hash accepted verified exchanged key token options HasNoState stream stream' input end old new')
     told_late None finds asks fails same told =
         subst (λ (r : Result RunEnd ProgramFault). IfOk r (λ end. RunsAs hash accepted verified exchanged key token options HasNoState stream stream' input end old new')) (sym (same refl).0) (
@@ -281,17 +262,8 @@ module _ {T : Type 0} (hash : List ℕ → List ℕ) (accepted verified : List �
         by (Ok one) run = asked-late one new finds run
         by (Err fault) run = tt
     told_late (Some epoch) finds asks fails same (inl (is-stale', wrote)) =
-        subst (λ (r : Result RunEnd ProgramFault). IfOk r (λ end. RunsAs hash accepted verified exchanged key token options HasNoState stream stream' input end old new')) (sym is-stale') (by ended asks fails)
-      where
-        by : (one : Result RunEnd ProgramFault) → IfOk one (λ end. AsksAs hash accepted verified exchanged key token options HasNoState stream stream' input (λ after last. limit.last ≡ Some last) end old new)
-            → IfErr one (λ fault. FailsLate hash accepted verified exchanged key token options HasNoState stream input (λ after last. limit.last ≡ Some last) (IsUnknown HasNoState fault × (limit.last ≡ None)) fault old new)
-            → RunsAs hash accepted verified exchanged key token options HasNoState stream stream' input (stale_end one epoch) old new'
-        by (Ok (Whole status)) run none = (is-stale options limit epoch is finds, (new, wrote, (status, asked-stale epoch (Whole status) new finds run)))
-        by (Ok (Stopped status)) run none = ends-stale epoch (Ok (Stopped status)) new (λ now. Appends now new' (stale_line epoch)) finds wrote run none
-        by (Ok Unwritten) run none = ends-stale epoch (Ok Unwritten) new (λ now. Appends now new' (stale_line epoch)) finds wrote run none
-        by (Ok (Stale other)) run none = absurd run
-        by (Ok (StoppedStale other)) run none = absurd run
-        by (Err fault) none failed = ends-stale epoch (Err fault) new (λ now. Appends now new' (stale_line epoch)) finds wrote none failed
+        subst (λ (r : Result RunEnd ProgramFault). IfOk r (λ end. RunsAs hash accepted verified exchanged key token options HasNoState stream stream' input end old new')) (sym is-stale')
+        (ends-stale epoch ended new (λ now. Appends now new' (stale_line epoch)) finds wrote asks fails)
     told_late (Some epoch) finds asks fails same (inr (is-part, wrote)) =
         subst (λ (r : Result RunEnd ProgramFault). IfOk r (λ end. RunsAs hash accepted verified exchanged key token options HasNoState stream stream' input end old new')) (sym is-part)
         (inr (epoch, ends-stale epoch ended new (λ now. WritesSome now new' (stale_line epoch)) finds wrote asks fails))
@@ -299,7 +271,7 @@ module _ {T : Type 0} (hash : List ℕ → List ℕ) (accepted verified : List �
     -- and as it fails
     pub fails_late : (stale : Option ℕ) → Finds limit stale → IfErr ended (λ fault. FailsLate hash accepted verified exchanged key token options HasNoState stream input (λ after last. limit.last ≡ Some last) (IsUnknown HasNoState fault × (limit.last ≡ None)) fault old new)
         → (stale ≡ None → (result ≡ ended) × (new' ≡ new))
-        → IfSome stale (λ epoch. ((result ≡ Ok (stale_end ended epoch)) × Appends new new' (stale_line epoch)) ⊎ ((result ≡ Ok Unwritten) × WritesSome new new' (stale_line epoch)))
+        → IfSome stale (λ epoch. ((result ≡ Ok (Stale epoch)) × Appends new new' (stale_line epoch)) ⊎ ((result ≡ Ok Unwritten) × WritesSome new new' (stale_line epoch)))
         → IfErr result (λ fault. FailsAs hash accepted verified exchanged key token options HasNoState stream input fault old new')
     fails_late None finds fails same told =
         subst (λ (r : Result RunEnd ProgramFault). IfErr r (λ fault. FailsAs hash accepted verified exchanged key token options HasNoState stream input fault old new')) (sym (same refl).0) (
@@ -318,48 +290,14 @@ IsWhole (Whole status) = ⊤
 IsWhole (Stopped status) = ⊥
 IsWhole Unwritten = ⊥
 IsWhole (Stale epoch) = ⊥
-IsWhole (StoppedStale epoch) = ⊥
-
-not-whole : (ended : Result RunEnd ProgramFault) (epoch : ℕ) → IsWhole (stale_end ended epoch) → ⊥
-not-whole (Ok (Whole status)) epoch whole = whole
-not-whole (Ok (Stopped status)) epoch whole = whole
-not-whole (Ok Unwritten) epoch whole = whole
-not-whole (Ok (Stale other)) epoch whole = whole
-not-whole (Ok (StoppedStale other)) epoch whole = whole
-not-whole (Err fault) epoch whole = whole
 
 -- behind a whole run nothing is written
 pub whole_late : (ended result : Result RunEnd ProgramFault) (new new' : Option (List ℕ)) (stale : Option ℕ) → (stale ≡ None → (result ≡ ended) × (new' ≡ new))
-    → IfSome stale (λ epoch. ((result ≡ Ok (stale_end ended epoch)) × Appends new new' (stale_line epoch)) ⊎ ((result ≡ Ok Unwritten) × WritesSome new new' (stale_line epoch)))
+    → IfSome stale (λ epoch. ((result ≡ Ok (Stale epoch)) × Appends new new' (stale_line epoch)) ⊎ ((result ≡ Ok Unwritten) × WritesSome new new' (stale_line epoch)))
     → (status : ℕ) → result ≡ Ok (Whole status) → (ended ≡ Ok (Whole status)) × (new' ≡ new)
 whole_late ended result new new' None same told status is = (sym (same refl).0 ∙ is, (same refl).1)
-whole_late ended result new new' (Some epoch) same (inl (behind, wrote)) status is = absurd (not-whole ended epoch (subst (λ (r : Result RunEnd ProgramFault). IfOk r IsWhole) (sym is ∙ behind) tt))
+whole_late ended result new new' (Some epoch) same (inl (behind, wrote)) status is = absurd (subst (λ (r : Result RunEnd ProgramFault). IfOk r IsWhole) (sym is ∙ behind) tt)
 whole_late ended result new new' (Some epoch) same (inr (part, wrote)) status is = absurd (subst (λ (r : Result RunEnd ProgramFault). IfOk r IsWhole) (sym is ∙ part) tt)
-
-same-epoch : (one other : ℕ) → ◌≡◌ {A = Result RunEnd ProgramFault} (Ok (Stale one)) (Ok (Stale other)) → one ≡ other
-same-epoch one other e = cc
-
-not-stale : (one other : ℕ) → ◌≡◌ {A = Result RunEnd ProgramFault} (Ok (StoppedStale one)) (Ok (Stale other)) → ⊥
-not-stale one other e = cc
-
-not-part : (epoch : ℕ) → ◌≡◌ {A = Result RunEnd ProgramFault} (Ok Unwritten) (Ok (Stale epoch)) → ⊥
-not-part epoch e = cc
-
--- Behind a run that asked all, its last epoch is written.
-pub stale_late : (ended result : Result RunEnd ProgramFault) (new new' : Option (List ℕ)) (stale : Option ℕ) → IfOk ended IsEnd → (stale ≡ None → (result ≡ ended) × (new' ≡ new))
-    → IfSome stale (λ epoch. ((result ≡ Ok (stale_end ended epoch)) × Appends new new' (stale_line epoch)) ⊎ ((result ≡ Ok Unwritten) × WritesSome new new' (stale_line epoch)))
-    → (epoch : ℕ) → result ≡ Ok (Stale epoch) → (status : ℕ) × (ended ≡ Ok (Whole status)) × Appends new new' (stale_line epoch)
-stale_late ended result new new' None told same more epoch is = absurd (subst (λ (r : Result RunEnd ProgramFault). IfOk r IsEnd) (sym (same refl).0 ∙ is) told)
-stale_late ended result new new' (Some one) told same (inr (part, wrote)) epoch is = absurd (not-part epoch (sym part ∙ is))
-stale_late ended result new new' (Some one) told same (inl (behind, wrote)) epoch is = by ended (sym behind ∙ is)
-  where
-    by : (end : Result RunEnd ProgramFault) → ◌≡◌ {A = Result RunEnd ProgramFault} (Ok (stale_end end one)) (Ok (Stale epoch)) → (status : ℕ) × (end ≡ Ok (Whole status)) × Appends new new' (stale_line epoch)
-    by (Ok (Whole status)) same-end = (status, refl, subst (λ (e : ℕ). Appends new new' (stale_line e)) (same-epoch one epoch same-end) wrote)
-    by (Ok (Stopped status)) same-end = absurd (not-stale one epoch same-end)
-    by (Ok Unwritten) same-end = absurd (not-stale one epoch same-end)
-    by (Ok (Stale other)) same-end = absurd (not-stale one epoch same-end)
-    by (Ok (StoppedStale other)) same-end = absurd (not-stale one epoch same-end)
-    by (Err fault) same-end = absurd (not-stale one epoch same-end)
 
 -- and a fault is the one that it ended with
 pub fault_late : (Holds : ProgramFault → Type 0) (ended result : Result RunEnd ProgramFault) → IfErr result (λ fault. ended ≡ Err fault) → IfErr ended Holds → IfErr result Holds
@@ -369,9 +307,6 @@ fault_late Holds ended (Err fault) is holds = subst (λ (r : Result RunEnd Progr
 -- a run that could not begin is not whole
 pub not_whole : (result : Result RunEnd ProgramFault) (fault : ProgramFault) (status : ℕ) → result ≡ Err fault → result ≡ Ok (Whole status) → ⊥
 not_whole result fault status failed is = cc
-
-pub not_stale : (result : Result RunEnd ProgramFault) (fault : ProgramFault) (epoch : ℕ) → result ≡ Err fault → result ≡ Ok (Stale epoch) → ⊥
-not_stale result fault epoch failed is = cc
 
 -- a run of an order has a state exactly where the order has
 pub state_none : (order : AskOrder) (run : Run) → IsNewFor (ask_values order) run → order.state ≡ None → run.state ≡ None

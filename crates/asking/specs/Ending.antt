@@ -37,7 +37,7 @@ use Rattle.asking.specs.declared.lateness.Limit.{Limit}
 use Rattle.asking.specs.declared.run.Run.{Run}
 use Rattle.memory.specs.declared.mark.Mark.{Mark}
 use Rattle.asking.specs.declared.run.RunEnd.{RunEnd}
-use Rattle.asking.specs.declared.run.RunEnd.TheVariants.{Whole, Stopped, Unwritten, Stale, StoppedStale}
+use Rattle.asking.specs.declared.run.RunEnd.TheVariants.{Whole, Stopped, Unwritten, Stale}
 use Rattle.asking.specs.declared.said.Said.{Said}
 use Rattle.asking.specs.declared.said.TheConstants.{CAUGHT, REFUSED}
 
@@ -47,13 +47,6 @@ end_status (Whole status) = status
 end_status (Stopped status) = status
 end_status Unwritten = CAUGHT
 end_status (Stale epoch) = CAUGHT
-end_status (StoppedStale epoch) = CAUGHT
-
--- how a run ends that ended so, where its last epoch is not as late as it is wanted
-abbrev pub stale_end : Result RunEnd ProgramFault → ℕ → RunEnd
-stale_end (Ok (Whole status)) epoch = Stale epoch
-stale_end (Ok ended) epoch = StoppedStale epoch
-stale_end (Err fault) epoch = StoppedStale epoch
 
 -- a run of an order that begins
 abbrev pub IsNewFor : AskOptions → Run → Type 0
@@ -89,7 +82,6 @@ EndsWith Failed said old new (Whole status) = ⊥
 EndsWith Failed said old new (Stopped status) = (status ≡ stopped_status said.status) × (¬ Failed) × Appends old new said.text.items
 EndsWith Failed said old new Unwritten = (CAUGHT ≤ said.status) × WritesSome old new said.text.items
 EndsWith Failed said old new (Stale epoch) = ⊥
-EndsWith Failed said old new (StoppedStale epoch) = ⊥
 
 -- and so does a fault at its end
 abbrev pub FailsWith : Type 0 → Said → Option (List ℕ) → Option (List ℕ) → ProgramFault → Type 0
@@ -215,7 +207,6 @@ module _ (hash : List ℕ → List ℕ) (accepted verified : List ℕ → List �
   AsksAs key token options HasNoState stream stream' input Holds Unwritten old new =
       EndsEarly key token options HasNoState stream input old Holds ⊥ (λ told now. (CAUGHT ≤ told.status) × WritesSome now new told.lines)
   AsksAs key token options HasNoState stream stream' input Holds (Stale epoch) old new = ⊥
-  AsksAs key token options HasNoState stream stream' input Holds (StoppedStale epoch) old new = ⊥
 
   -- a run that ends with a fault: neither evidence nor an alarm was told, and all that was told is written unless a write failed
   abbrev pub FailsLate : List ℕ → List ℕ → AskOptions → Type 0 → T → Option (List ℕ) → (ℕ → ℕ → Type 0) → Type 0 → ProgramFault → Option (List ℕ) → Option (List ℕ) → Type 0
@@ -240,9 +231,7 @@ module _ (hash : List ℕ → List ℕ) (accepted verified : List ℕ → List �
   RunsAs key token options HasNoState stream stream' input Unwritten old new =
       AsksAs key token options HasNoState stream stream' input (λ after last. after < last) Unwritten old new
       ⊎ ((epoch : ℕ) × EndsStale key token options HasNoState stream stream' input epoch old (λ now. WritesSome now new (stale_line epoch)))
-  RunsAs key token options HasNoState stream stream' input (Stale epoch) old new = IsStale options epoch × ((now : Option (List ℕ)) × Appends now new (stale_line epoch)
-      × ((status : ℕ) × AsksAs key token options HasNoState stream stream' input (λ after last. last ≡ epoch) (Whole status) old now))
-  RunsAs key token options HasNoState stream stream' input (StoppedStale epoch) old new = EndsStale key token options HasNoState stream stream' input epoch old (λ now. Appends now new (stale_line epoch))
+  RunsAs key token options HasNoState stream stream' input (Stale epoch) old new = EndsStale key token options HasNoState stream stream' input epoch old (λ now. Appends now new (stale_line epoch))
 
 -- A run over a connection, of which definitions know neither whether it came about, nor what it took or will give: a name is
 -- settled, and nothing is asked; or the run is one for some frames that came.

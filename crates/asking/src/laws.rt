@@ -79,8 +79,8 @@ pub fn watched_epochs_are_told<T: Read + Write, H: NodeHash, V: VufCheck, S: Ver
 /// earlier run: the memory has one of its name that begins no later, and that is as far over the roots that were there. Each
 /// promise that it has for a change of the owner's own is for one that a line of some run asks for, or was remembered so before
 /// all of them; and none of these is lost as long as a mark awaits it. Where what a run left has marks for monitors, as it has
-/// for all those of a run in which all was asked, each root from the first of such a monitor on was told for its name, or is still
-/// to be watched.
+/// for all those of a whole run without a stale epoch, each root from the first of such a monitor on was told for its name, or is
+/// still to be watched.
 pub fn stored_marks_are_told<H: NodeHash, V: VufCheck, S: Verifier>()
     ensures loads { (key : List ℕ) (first : Stored) (runs : List (StateRun (Option (List (List ℕ))))) → AllRun H.digest_of V.accepted IsAsked (IsOwnPromise S.verified key) IsAskedChange first runs
         → (before : Memory) → Spells first.text (Ok before) → (known : Memory) × Spells (left_by first runs).text (Ok known) }

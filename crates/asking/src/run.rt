@@ -62,12 +62,8 @@ pub enum RunEnd {
     /// A write failed, and evidence or an alarm had been found, or a last epoch that is not late enough, of which perhaps not
     /// all is told. The status is 3.
     Unwritten,
-    /// All was asked, and the last epoch is this one, which is not as late as it is wanted. This is told behind all else. The
-    /// status is 3.
+    /// The last epoch is this one, which is not as late as it is wanted. This is told behind all else. The status is 3.
     Stale(u64),
-    /// Not all was asked, and the last epoch is this one, which is not as late as it is wanted. This is told behind all else.
-    /// The status is 3.
-    StoppedStale(u64),
 }
 
 impl RunEnd {
@@ -77,7 +73,7 @@ impl RunEnd {
     {
         match self {
             RunEnd::Whole(status) | RunEnd::Stopped(status) => status,
-            RunEnd::Unwritten | RunEnd::Stale(_) | RunEnd::StoppedStale(_) => CAUGHT,
+            RunEnd::Unwritten | RunEnd::Stale(_) => CAUGHT,
         }
     }
 }

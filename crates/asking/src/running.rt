@@ -4,7 +4,7 @@ ghost use Rattle.std.specs.Io.KnownBytes.{Appends, Keeps};
 ghost use Rattle.textio.specs.Output.{WritesSome};
 ghost use Rattle.textio.specs.declared.program_fault.ProgramFault.TheVariants.{BadHex};
 ghost use Rattle.asking.specs.AskOptions.{ask_keys_of, ask_values};
-ghost use Rattle.asking.specs.Ending.{stale_end, AsksAs, AsksOverSocket, FailsAs, FailsLate, FailsOverSocket, IsNewFor, IsUnknown, RunsAs, TellsFault};
+ghost use Rattle.asking.specs.Ending.{AsksAs, AsksOverSocket, FailsAs, FailsLate, FailsOverSocket, IsNewFor, IsUnknown, RunsAs, TellsFault};
 ghost use Rattle.asking.specs.Lateness.{stale_line, IsSameLimit};
 ghost use Rattle.asking.specs.Exchanges.{ExchangesFrames};
 ghost use Rattle.asking.specs.Marking.{LeavesMarked};
@@ -32,12 +32,10 @@ use textio::{ProgramFault, hex32_or_zeros, option_hex32};
 use vrfiface::VufCheck;
 
 /// The words for a directory that does not answer.
-const NO_REPLY: &[u8] = b"no reply
-";
+const NO_REPLY: &[u8] = b"no reply\n";
 
 /// Those for one to which no connection comes about.
-const NO_CONNECTION: &[u8] = b"cannot connect
-";
+const NO_CONNECTION: &[u8] = b"cannot connect\n";
 
 /// Asks what the words of an order ask, or the lines of the input, over a connection to its address, and
 /// writes the line of each answer. The words of refusals go to the errors. Words that settle a name ask nothing. Returns
@@ -201,10 +199,6 @@ where
     ensures marks { (status : ℕ) → result ≡ Ok (Whole status) → (old : List ℕ) (acts : List Act) → W.contents writer.old ≡ Some old → K.has keeper.old acts
         → LeavesMarked H.digest_of V.accepted S.verified (ExchangesFrames T.contents T.remaining) keys.signing_key keys.token (ask_values order.entry) (order.entry.state ≡ None) stream.old stream.new (R.remaining reader.old) status
         (W.contents writer.old) (W.contents writer.new) old (λ done. K.has keeper.new (done ++ acts)) }
-    ensures late { (epoch : ℕ) → result ≡ Ok (Stale epoch) → (old : List ℕ) (acts : List Act) → W.contents writer.old ≡ Some old → K.has keeper.old acts
-        → (status : ℕ) × (now : Option (List ℕ)) × Appends now (W.contents writer.new) (stale_line epoch)
-        × LeavesMarked H.digest_of V.accepted S.verified (ExchangesFrames T.contents T.remaining) keys.signing_key keys.token (ask_values order.entry) (order.entry.state ≡ None) stream.old stream.new (R.remaining reader.old) status
-        (W.contents writer.old) now old (λ done. K.has keeper.new (done ++ acts)) }
     ensures faults { IfErr result (IsRunFault (ask_values order.entry) (R.remaining reader.old)) }
     ensures unread { ¬ AsksInput (ask_values order.entry).words → reader.new ≡ reader.old }
     ensures grows { Grows (W.contents writer.old) (W.contents writer.new) }
@@ -245,10 +239,6 @@ where
     ensures marks { IsNewFor (ask_values order.entry) run.old → (status : ℕ) → result ≡ Ok (Whole status) → (old : List ℕ) (acts : List Act) → W.contents writer.old ≡ Some old → K.has keeper.old acts
         → LeavesMarked H.digest_of V.accepted S.verified (ExchangesFrames T.contents T.remaining) keys.signing_key keys.token (ask_values order.entry) (order.entry.state ≡ None) stream.old stream.new (R.remaining reader.old) status
         (W.contents writer.old) (W.contents writer.new) old (λ done. K.has keeper.new (done ++ acts)) }
-    ensures late { IsNewFor (ask_values order.entry) run.old → (epoch : ℕ) → result ≡ Ok (Stale epoch) → (old : List ℕ) (acts : List Act) → W.contents writer.old ≡ Some old → K.has keeper.old acts
-        → (status : ℕ) × (now : Option (List ℕ)) × Appends now (W.contents writer.new) (stale_line epoch)
-        × LeavesMarked H.digest_of V.accepted S.verified (ExchangesFrames T.contents T.remaining) keys.signing_key keys.token (ask_values order.entry) (order.entry.state ≡ None) stream.old stream.new (R.remaining reader.old) status
-        (W.contents writer.old) now old (λ done. K.has keeper.new (done ++ acts)) }
     ensures faults { IsNewFor (ask_values order.entry) run.old → IfErr result (IsRunFault (ask_values order.entry) (R.remaining reader.old)) }
     ensures unread { ¬ AsksInput (ask_values order.entry).words → reader.new ≡ reader.old }
     ensures grows { Grows (W.contents writer.old) (W.contents writer.new) }
@@ -307,24 +297,20 @@ fn tell_late<W: Write, E: Write>(
     errors: &mut E,
 ) -> Result<RunEnd, ProgramFault>
     ensures late { stale ≡ None → (result ≡ ended) × (writer.new ≡ writer.old) }
-    ensures stale { IfSome stale (λ epoch. ((result ≡ Ok (stale_end ended epoch)) × Appends (W.contents writer.old) (W.contents writer.new) (stale_line epoch))
+    ensures stale { IfSome stale (λ epoch. ((result ≡ Ok (Stale epoch)) × Appends (W.contents writer.old) (W.contents writer.new) (stale_line epoch))
         ⊎ ((result ≡ Ok Unwritten) × WritesSome (W.contents writer.old) (W.contents writer.new) (stale_line epoch))) }
     ensures err { IfErr result (λ fault. ended ≡ Err fault) }
-    ensures tells { (epoch : ℕ) → result ≡ Ok (stale_end ended epoch) → TellsFault ended (E.contents errors.old) (E.contents errors.new) }
+    ensures tells { (epoch : ℕ) → result ≡ Ok (Stale epoch) → TellsFault ended (E.contents errors.old) (E.contents errors.new) }
     ensures grows { Grows (W.contents writer.old) (W.contents writer.new) }
 {
     let Some(epoch) = stale else {
         return ended;
     };
-    let end = match ended {
-        Ok(RunEnd::Whole(_)) => RunEnd::Stale(epoch),
-        _ => RunEnd::StoppedStale(epoch),
-    };
     if let Err(fault) = ended {
         let _told = fault.tell(errors);
     }
     match write_stale(writer, epoch) {
-        Ok(()) => Ok(end),
+        Ok(()) => Ok(RunEnd::Stale(epoch)),
         Err(fault) => {
             let _told = fault.tell(errors);
             Ok(RunEnd::Unwritten)

@@ -1,10 +1,10 @@
-use Rattle.std.proofs.Common.{◌≡◌, ◌++◌, ℕ, List, None, Option, Some, ap, subst, sym}
+use Rattle.std.proofs.Common.{◌≡◌, ◌++◌, ℕ, List, None, Option, ap, subst, sym}
 use Rattle.asking.specs.AskOptions.{ask_values}
 use Rattle.asking.specs.Exchanges.{ExchangesFrames}
 use Rattle.asking.specs.Marking.{LeavesMarked}
 use Rattle.asking.specs.RunFaults.{IsRunFault}
 use Rattle.asking.proofs.Faulty.{grows_on}
-use Rattle.asking.proofs.Late.{asked_end, fails_late, fault_late, same_limit, stale_late, told_late, whole_late}
+use Rattle.asking.proofs.Late.{fails_late, fault_late, same_limit, told_late, whole_late}
 use Rattle.asking.proofs.running.ask_in.Goals as goal
 
 pub returns-clause-runs : goal.returns-clause-runs
@@ -27,13 +27,6 @@ returns-clause-marks g c = λ new status is old acts was has.
     let (ends, same) = whole_late c.ask_to_end-ended.result c.tell_late.result (g.W.Write.contents c.ask_to_end-ended.new.writer) (g.W.Write.contents c.tell_late.new.writer) c.stale.result (λ none. let both = c.tell_late.ensures.late none in (both.0, ap g.W.Write.contents both.1)) c.tell_late.ensures.stale status is in
     subst (λ (out : Option (List ℕ)). LeavesMarked g.H.NodeHash.digest_of g.V.VufCheck.accepted g.S.Verifier.verified (ExchangesFrames g.T.Write.contents g.T.Read.remaining) c.args.keys.signing_key c.args.keys.token (ask_values c.args.order) (c.args.order.state ≡ None) c.args.stream.now c.ask_to_end-ended.new.stream (g.R.Read.remaining c.args.reader.now) status
     (g.W.Write.contents c.args.writer.now) out old (λ done. g.K.Keeper.has c.ask_to_end-ended.new.keeper (done ++ acts))) (sym same) (c.ask_to_end-ended.ensures.marks new status ends old acts was has)
-
-pub returns-clause-late : goal.returns-clause-late
-returns-clause-late g c = λ new epoch is old acts was has.
-    let told = asked_end g.H.NodeHash.digest_of g.V.VufCheck.accepted g.S.Verifier.verified (ExchangesFrames g.T.Write.contents g.T.Read.remaining) c.args.keys.signing_key c.args.keys.token (ask_values c.args.order) (c.args.order.state ≡ None) c.args.stream.now c.ask_to_end-ended.new.stream (g.R.Read.remaining c.args.reader.now) (g.W.Write.contents c.args.writer.now) c.ask_to_end-ended.new.run.limit
-    (same_limit (ask_values c.args.order) c.args.run.now.limit c.ask_to_end-ended.new.run.limit c.ask_to_end-ended.ensures.limit new.3) (λ after last. c.ask_to_end-ended.new.run.limit.last ≡ Some last) (g.W.Write.contents c.ask_to_end-ended.new.writer) c.ask_to_end-ended.result (c.ask_to_end-ended.ensures.runs new) in
-    let (status, ends, wrote) = stale_late c.ask_to_end-ended.result c.tell_late.result (g.W.Write.contents c.ask_to_end-ended.new.writer) (g.W.Write.contents c.tell_late.new.writer) c.stale.result told (λ none. let both = c.tell_late.ensures.late none in (both.0, ap g.W.Write.contents both.1)) c.tell_late.ensures.stale epoch is in
-    (status, g.W.Write.contents c.ask_to_end-ended.new.writer, wrote, c.ask_to_end-ended.ensures.marks new status ends old acts was has)
 
 pub returns-clause-faults : goal.returns-clause-faults
 returns-clause-faults g c = λ new.

@@ -4,7 +4,7 @@ use Rattle.asking.specs.AskOptions.{ask_values}
 use Rattle.asking.specs.Exchanges.{ExchangesFrames}
 use Rattle.asking.specs.Runs.{lines_asked}
 use Rattle.asking.proofs.Faulty.{grows_not}
-use Rattle.asking.proofs.Late.{fails_unasked, leaves_unasked, memory_only, not_stale, not_whole}
+use Rattle.asking.proofs.Late.{fails_unasked, leaves_unasked, memory_only, not_whole}
 use Rattle.asking.proofs.running.ask_over.Goals as goal
 
 pub returns-in_err-run-clause-fails : goal.returns-in_err-run-clause-fails
@@ -21,11 +21,6 @@ returns-in_err-run-clause-marks g c = λ status is.
     let passed : c.from_residual.result ≡ Err OutOfMemory = search rules in
     absurd (not_whole c.from_residual.result OutOfMemory status passed is)
 
-pub returns-in_err-run-clause-late : goal.returns-in_err-run-clause-late
-returns-in_err-run-clause-late g c = λ epoch is.
-    let passed : c.from_residual.result ≡ Err OutOfMemory = search rules in
-    absurd (not_stale c.from_residual.result OutOfMemory epoch passed is)
-
 pub returns-in_err-run-clause-grows : goal.returns-in_err-run-clause-grows
 returns-in_err-run-clause-grows g c = grows_not (g.W.Write.contents c.args.writer.now)
 
@@ -40,9 +35,6 @@ returns-clause-keeps g c = c.ask_in.ensures.keeps c.in_ok-run.ensures
 
 pub returns-clause-faults : goal.returns-clause-faults
 returns-clause-faults g c = c.ask_in.ensures.faults c.in_ok-run.ensures
-
-pub returns-clause-late : goal.returns-clause-late
-returns-clause-late g c = c.ask_in.ensures.late c.in_ok-run.ensures
 
 pub returns-clause-marks : goal.returns-clause-marks
 returns-clause-marks g c = c.ask_in.ensures.marks c.in_ok-run.ensures
