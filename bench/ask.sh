@@ -1,6 +1,7 @@
 #!/usr/bin/env bash
 # Measures `directoryd ask` over loopback: runs of 100, 1,000 and 4,000 registrations without a state, with a state
-# whose syncs are free, and with one on the disk of this folder.
+# whose syncs are free, and with one on the disk of this folder; and runs of 100 and 500 `watch` lines without a state
+# and with one whose syncs are free.
 #
 #   bench/ask.sh
 #

@@ -16,6 +16,7 @@ import os
 import random
 import resource
 import select
+import shutil
 import socket
 import ssl
 import statistics
@@ -59,7 +60,7 @@ CHAIN_ROUNDS, CHAIN_RUNS = {10_000: 200, 100_000: 20}, 10
 CLIENT_NAMES, CLIENT_SHARED = 100, {"all": 100, "one in ten": 10, "none": 0}
 CLIENT_ROUNDS, CLIENT_RUNS = {10: 500, 100: 50, 1_000: 5}, 3
 # The registrations of a run of `ask`, and how often it is measured.
-ASKED, ASKED_RUNS = (100, 1_000, 4_000), 5
+ASKED, WATCHED, ASKED_RUNS = (100, 1_000, 4_000), (100, 500), 5
 # The script of `play`: its names, of which so many are watched; its closings; its look-ups; and the runs.
 PLAY_NAMES, PLAY_WATCHED, PLAY_CLOSINGS, PLAY_LOOK_UPS, PLAY_RUNS = 10_000, 10, 100, 10_000, 15
 # The lengths of other texts that are digested: an empty node, a body, a body that is signed, and a value.
@@ -1400,30 +1401,73 @@ def play(folder):
     table("directoryd play, seconds", head, [row])
 
 
-def asked(port, provider, first, count, state=None, **more):
-    """The seconds of a run of `ask` for each of so many registrations, with the keys in a provider's file and a state in
-    another, if one is given."""
-    script = "".join(f"register {number:08x} 6b31\n" for number in range(first, first + count)).encode()
-    words = [DIRECTORYD, "ask", "--provider", provider, *(["--state", state] if state else []), f"127.0.0.1:{port}"]
-    begun = time.perf_counter()
-    run = subprocess.run(words, input=script, capture_output=True, env={**os.environ, **more})
-    taken = time.perf_counter() - begun
-    if run.returncode != 0 or run.stdout != b"promise 1\n" * count:
-        sys.exit(f"directoryd ask: status {run.returncode}, {run.stderr}")
-    return taken / count
+class Asking:
+    """Runs of `ask`, with the provider's keys in a file, against a server that listens."""
 
+    def __init__(self, port, provider):
+        self.port, self.provider, self.first, self.epoch = port, provider, 0, 1
 
-def ask_row(port, provider, folder, first, count):
-    ways = {"none": [], "free": [], "synced": []}
-    for turn in range(ASKED_RUNS):
-        for way, times in ways.items():
-            state = None if way == "none" else f"{folder}/{way} {count} {turn}"
-            free = {"LD_PRELOAD": os.path.abspath(FREE_SYNCS), "FREE_SYNCS": "1"} if way == "free" else {}
-            times.append(asked(port, provider, first, count, state, **free))
-            first += count
-    none, free, synced = (Spread(times) for times in ways.values())
-    row = [f"{count:,}", *none.cells(1e6, 1), *free.cells(1e6, 1), f"{free.least / none.least:.2f}"]
-    return [*row, *synced.cells(1e6, 1)], first
+    def run(self, lines, *words, state=None, free=False):
+        """The seconds of a run over these lines, and what it prints."""
+        words = [*words, *(["--state", state] if state else [])]
+        words = [DIRECTORYD, "ask", "--provider", self.provider, *words, f"127.0.0.1:{self.port}"]
+        more = {"LD_PRELOAD": os.path.abspath(FREE_SYNCS), "FREE_SYNCS": "1"} if free else {}
+        script = "".join(f"{line}\n" for line in lines).encode()
+        begun = time.perf_counter()
+        run = subprocess.run(words, input=script, capture_output=True, env={**os.environ, **more})
+        taken = time.perf_counter() - begun
+        if run.returncode != 0:
+            sys.exit(f"directoryd ask: status {run.returncode}, {run.stderr}")
+        return taken, run.stdout
+
+    def names(self, count):
+        """So many names that are new."""
+        self.first += count
+        return [f"{number:08x}" for number in range(self.first - count, self.first)]
+
+    def close(self):
+        self.epoch += 1
+        self.run([f"close {self.epoch}"], "--token", SERVE_KEYS["token"] * 32)
+
+    def registered(self, count, state, free):
+        """The seconds of each of so many registrations."""
+        taken, said = self.run([f"register {name} 6b31" for name in self.names(count)], state=state, free=free)
+        if said != f"promise {self.epoch}\n".encode() * count:
+            sys.exit(f"directoryd ask: {said}")
+        return taken / count
+
+    def registrations(self, folder, count):
+        ways = {"none": [], "free": [], "synced": []}
+        for turn in range(ASKED_RUNS):
+            for way, times in ways.items():
+                state = None if way == "none" else f"{folder}/{way} {count} {turn}"
+                times.append(self.registered(count, state, way == "free"))
+        none, free, synced = (Spread(times) for times in ways.values())
+        row = [f"{count:,}", *none.cells(1e6, 1), *free.cells(1e6, 1), f"{free.least / none.least:.2f}"]
+        return [*row, *synced.cells(1e6, 1)]
+
+    def watches(self, folder, count):
+        """Rows of `watch` lines: of names that were watched before, and of those with a change that waits."""
+        names, state = self.names(count), f"{folder}/watched {count}"
+        self.run([f"register {name} 6b31" for name in names], state=state)
+        self.close()
+        self.run([f"watch {name} 6b31" for name in names], state=state)
+        self.close()
+        yield ["watched before", *self.watch_row(names, state, "6b31")]
+        self.run([f"watch {name} -" for name in names], state=state)
+        self.run([f"change {name} 6b32" for name in names], state=state)
+        self.close()
+        yield ["with a change", *self.watch_row(names, state, "6b32")]
+
+    def watch_row(self, names, state, key):
+        none, free = [], []
+        for turn in range(ASKED_RUNS):
+            none.append(self.run([f"watch {name} {key}" for name in names])[0])
+            for end in ("", ".kept"):
+                shutil.copyfile(state + end, f"{state} {turn}{end}")
+            free.append(self.run([f"watch {name} -" for name in names], state=f"{state} {turn}", free=True)[0])
+        none, free = Spread(none, len(names)), Spread(free, len(names))
+        return [f"{len(names):,}", *none.cells(1e6, 1), *free.cells(1e6, 1), f"{free.least / none.least:.2f}"]
 
 
 def ask(folder):
@@ -1432,18 +1476,18 @@ def ask(folder):
         file.write(f"provider {SERVE_KEYS['sign-key'] * 32}\n")
     words = [word for key, value in SERVE_KEYS.items() for word in (f"--{key}", value * 32)]
     server = subprocess.Popen([DIRECTORYD, "listen", *words, "127.0.0.1:0"], stderr=subprocess.PIPE)
-    port = server.stderr.readline().rpartition(b":")[2].decode().strip()
-    rows, first = [], 0
+    asking = Asking(server.stderr.readline().rpartition(b":")[2].decode().strip(), provider)
     try:
         with tempfile.TemporaryDirectory(dir=".") as disk:
-            for count in ASKED:
-                row, first = ask_row(port, provider, disk, first, count)
-                rows.append(row)
+            rows = [asking.registrations(disk, count) for count in ASKED]
+            watched = [row for count in WATCHED for row in asking.watches(disk, count)]
     finally:
         server.kill()
     spread = ["median", "greatest"]
     head = ["lines", "no state", *spread, "state, syncs free", *spread, "ratio", "state", *spread]
     table("registrations in a run of directoryd ask, microseconds by the clock for each", head, rows)
+    head = ["names", "lines", "no state", *spread, "state, syncs free", *spread, "ratio"]
+    table("watch lines in a run of directoryd ask, microseconds by the clock for each", head, watched)
 
 
 def main(which):

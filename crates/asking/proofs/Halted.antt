@@ -17,7 +17,7 @@ use Rattle.asking.specs.Checking.{HearsFrame}
 use Rattle.asking.specs.Joining.{BeginsAt, BeginsSomeAt, WatchesSome, IsJoined, IsUnwatched}
 use Rattle.asking.specs.Reports.{Report, report_of, told_after}
 use Rattle.asking.specs.Scenes.{HaltsAfter, Scene, scene}
-use Rattle.asking.specs.Visiting.{TestsSomeNamed}
+use Rattle.asking.specs.Visiting.{AwaitsMonitor, FindsSomeKept, TestsSomeNamed}
 use Rattle.asking.specs.Watching.{GoesSome, StepsSome}
 use Rattle.asking.proofs.Joined.{scene_of}
 
@@ -83,10 +83,18 @@ module _ {H V S T : Type 0} (hash : List ℕ → List ℕ) (accepted verified : 
         (reached, inr (monitor, begun, subst (λ (s : Scene T). StepsSome hash accepted exchanged s (length asker.monitors.items) reached) same here), halts)
 
     -- the watch began, and some promises of the name were tested
-    pub halts_begun : {A : Type 0} (result : Result A AskFault) (marks : List Mark) (middle : Scene T) (last : Asker H V S) (said' : Said)
-        → IsUnwatched asker.client.chain name marks (Some first)
-        → BeginsAt hash accepted verified exchanged marks key promised name given first (scene asker said stream) middle
-        → IfErr result (λ fault. HaltsAfter (TestsSomeNamed hash accepted exchanged name middle) fault last said')
-        → IfErr result (λ fault. HaltsAfter (WatchesSome hash accepted verified exchanged marks key promised name given (scene asker said stream)) fault last said')
-    halts_begun (Ok done) marks middle last said' unwatched begun halts = tt
-    halts_begun (Err fault) marks middle last said' unwatched begun (reached, tests, halts) = (reached, inr (first, unwatched, inr (middle, begun, tests)), halts)
+    pub halts_begun : {A : Type 0} (result : Result A AskFault) (marks marks' : Vec Mark Global) (middle : Scene T) (last : Asker H V S) (said' : Said)
+        → IsUnwatched asker.client.chain name marks.items (Some first) → marks' ≡ marks
+        → BeginsAt hash accepted verified exchanged marks.items key promised name given first (scene asker said stream) middle
+        → IfErr result (λ fault. HaltsAfter (TestsSomeNamed hash accepted exchanged marks'.items name middle) fault last said')
+        → IfErr result (λ fault. HaltsAfter (WatchesSome hash accepted verified exchanged marks.items key promised name given (scene asker said stream)) fault last said')
+    halts_begun (Ok done) marks marks' middle last said' unwatched same begun halts = tt
+    halts_begun (Err fault) marks marks' middle last said' unwatched same begun (reached, tests, halts) =
+        (reached, inr (first, unwatched, inr (middle, begun, subst (λ (ms : Vec Mark Global). TestsSomeNamed hash accepted exchanged ms.items name middle reached) same tests)), halts)
+
+  -- the promises of a name that does not wait were tested, or some
+  pub halts_free : {A : Type 0} (result : Result A AskFault) (marks : List Mark) (name : List ℕ) (before : Scene T) (last : Asker H V S) (said' : Said) → ¬ AwaitsMonitor marks before.monitors name
+      → IfErr result (λ fault. HaltsAfter (FindsSomeKept hash accepted exchanged name before) fault last said')
+      → IfErr result (λ fault. HaltsAfter (TestsSomeNamed hash accepted exchanged marks name before) fault last said')
+  halts_free (Ok done) marks name before last said' free halts = tt
+  halts_free (Err fault) marks name before last said' free (reached, finds, halts) = (reached, (free, finds), halts)

@@ -8,8 +8,8 @@ use Rattle.asking.specs.Watching.{AllStep, SomeStep}
 use Rattle.asking.specs.declared.following.TheConstants.{MAX_LISTS}
 
 module _ (hash : List ℕ → List ℕ) (accepted verified : List ℕ → List ℕ → List ℕ → Type 0) {T : Type 0} (exchanged : T → RequestContent → Frame → T → Type 0) (epoch : ℕ) where
-  -- Whether one more list is needed. It is behind one that does not get to the epoch, of which the monitors watch what is
-  -- new. None is where the chain is there already, or a list gets it there, or no root comes.
+  -- Whether one more list is needed: a list is taken, the chain is still below the epoch, and the monitors watch what is new.
+  -- None is needed where the chain is there already, or a list gets it there, or no root comes.
   abbrev pub Advances : Scene T → Bool → Scene T → Type 0
   Advances before true after = IsBelow epoch before.client × ((taken : Scene T) × TakesList hash verified exchanged before true taken × IsBelow epoch taken.client × AllStep hash accepted exchanged (length taken.monitors) taken 0 after)
   Advances before false after = (HasGotTo epoch before.client × (after ≡ before))

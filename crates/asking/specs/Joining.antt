@@ -149,7 +149,7 @@ module _ (hash : List ℕ → List ℕ) (accepted verified : List ℕ → List �
     abbrev pub WatchesSome : Scene T → Scene T → Type 0
     WatchesSome before after = (after ≡ before)
         ⊎ ((first : SignedRoot) × IsUnwatched before.client.chain name marks (Some first)
-        × (BeginsSomeAt first before after ⊎ ((middle : Scene T) × BeginsAt first before middle × TestsSomeNamed hash accepted exchanged name middle after)))
+        × (BeginsSomeAt first before after ⊎ ((middle : Scene T) × BeginsAt first before middle × TestsSomeNamed hash accepted exchanged marks name middle after)))
 
   module _ {T : Type 0} (exchanged : T → RequestContent → Frame → T → Type 0) (known : Remembered) (marks : List Mark) (key : List ℕ) (promised : List SignedPromise) (name : List ℕ) (given : Option (List ℕ)) where
     -- the alarms that earlier runs told of a name are told again, and then it is watched

@@ -86,10 +86,15 @@ module _ (hash : List ℕ → List ℕ) (accepted : List ℕ → List ℕ → Li
     TestsNamed marks name before after = (AwaitsMonitor marks before.monitors name × (after ≡ before))
         ⊎ ((¬ AwaitsMonitor marks before.monitors name) × ((count : ℕ) × FindsKept count before name after))
 
-    -- so many are found kept, and more may come; some of them
+    -- so many are found kept, and more may come
     abbrev pub KeptOn : ℕ → Scene T → List ℕ → Scene T → Type 0
     KeptOn zero before name after = after ≡ before
     KeptOn (suc count) before name after = (middle : Scene T) × TestsName before name true middle × KeptOn count middle name after
 
-    abbrev pub TestsSomeNamed : List ℕ → Scene T → Scene T → Type 0
-    TestsSomeNamed name before after = (count : ℕ) × KeptOn count before name after
+    -- some are
+    abbrev pub FindsSomeKept : List ℕ → Scene T → Scene T → Type 0
+    FindsSomeKept name before after = (count : ℕ) × KeptOn count before name after
+
+    -- the same, for a name whose promises do not wait
+    abbrev pub TestsSomeNamed : List Mark → List ℕ → Scene T → Scene T → Type 0
+    TestsSomeNamed marks name before after = (¬ AwaitsMonitor marks before.monitors name) × FindsSomeKept name before after

@@ -25,7 +25,8 @@ use std::alloc::Global;
 use std::io::{Read, Write};
 use vrfiface::VufCheck;
 
-/// A client that asks a directory, with the monitors of the names that it watches.
+/// A client that asks a directory, with the monitors of the names that it watches. Its fields are open to what keeps them from
+/// run to run.
 #[derive(Drop)]
 pub struct Asker<H, V, S>
 where
@@ -33,21 +34,26 @@ where
     V: VufCheck + Drop,
     S: Verifier + Drop,
 {
-    pub(crate) alloc: Global,
-    pub(crate) checks: Checks<H, V, S>,
+    /// Where its memory comes from.
+    pub alloc: Global,
+    /// The functions that it checks with.
+    pub checks: Checks<H, V, S>,
     /// The provider's public key.
-    pub(crate) key: Hash32,
+    pub key: Hash32,
     /// The operator's token, or zeros.
-    pub(crate) token: Hash32,
-    pub(crate) client: Client<H, V, S>,
-    pub(crate) monitors: Vec<Monitor<H, V, S>>,
-    /// What is remembered of earlier runs, and in it how far names were watched.
-    pub(crate) known: Memory,
-    pub(crate) marks: Vec<Mark>,
+    pub token: Hash32,
+    /// The client that follows the chain and checks replies.
+    pub client: Client<H, V, S>,
+    /// The monitors of this run, in the order in which they began.
+    pub monitors: Vec<Monitor<H, V, S>>,
+    /// What is remembered of earlier runs.
+    pub known: Memory,
+    /// How far names were watched in them, as `known` has it.
+    pub marks: Vec<Mark>,
     /// What the client was promised for its own changes in earlier runs, which a monitor that begins expects.
-    pub(crate) earlier: Vec<SignedPromise>,
+    pub earlier: Vec<SignedPromise>,
     /// What it was promised for those of this run.
-    pub(crate) changes: Vec<SignedPromise>,
+    pub changes: Vec<SignedPromise>,
 }
 
 impl<H, V, S> Asker<H, V, S>
@@ -124,15 +130,8 @@ where
         }
     }
 
-    /// The client.
-    pub fn client(&self) -> &Client<H, V, S>
-        ensures { result.now ≡ asker_client self.now }
-    {
-        &self.client
-    }
-
     /// The epoch of the head of the client's chain.
-    pub(crate) fn head(&self) -> u64
+    pub fn head(&self) -> u64
         ensures { (root : SignedRoot) × IsHead (self.now).client.chain root × (result ≡ root.body.epoch) }
     {
         self.client.chain().head().body.epoch

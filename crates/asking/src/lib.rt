@@ -1,11 +1,11 @@
-//! What asks a running directory: the lines of a script go out as frames over a stream, and each reply is
+//! What asks a running directory: what a line of a script asks goes out as a frame over a stream, and each reply is
 //! checked as a client checks it (after CONIKS, section 4), and told in the line that `play` prints.
 //!
 //! Callers can rely on this: whatever bytes come back, a reply is told only as the client's own calls
 //! decide: a proof that the client refuses, a latest root that does not stand in its chain, roots of which one is left
 //! out, a promise that its provider did not sign, and a reply to another request are told as refused, by the number of
 //! the refusal.
-//! Contracts do not know what a socket or a file has; `scripts/asks.py` shows those.
+//! Contracts do not know what a socket has; `scripts/asks.py` shows that.
 //!
 //! ```text
 //! let mut asker = Asker::start_at_head(alloc, &mut stream, checks, key, token, &mut said)?;
@@ -25,24 +25,14 @@ mod ask_fault;
 mod asker;
 mod asking;
 mod checking;
-mod connecting;
 mod exchange;
 mod following;
 mod joining;
-mod keeper;
-mod lateness;
 mod laws;
-mod lines;
-mod order;
 mod placing;
 mod promises;
 mod reply;
-mod run;
-mod running;
 mod said;
-mod settling;
-mod state;
-mod state_files;
 mod wanted;
 mod watching;
 
@@ -50,16 +40,9 @@ pub use ask_fault::AskFault;
 pub use asker::Asker;
 pub use checking::hear;
 pub use following::MAX_LISTS;
-pub use keeper::{Keeper, Loaded};
 pub use laws::{
-    asked_names_are_watched, lists_are_few, refusals_have_their_numbers, sent_roots_are_wanted,
-    statuses_tell_who_is_caught, stored_marks_are_told, told_roots_are_of_the_chain,
-    watched_epochs_are_told,
+    lists_are_few, refusals_have_their_numbers, sent_roots_are_wanted, told_roots_are_of_the_chain,
 };
-pub use order::{AskKeys, AskOrder};
 pub use play::Checks;
 pub use reply::Reply;
-pub use run::RunEnd;
-pub use running::{ask, ask_over};
-pub use said::Said;
-pub use settling::settle_over;
+pub use said::{CAUGHT, REFUSED, Said};

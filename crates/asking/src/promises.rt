@@ -9,7 +9,7 @@ ghost use Rattle.asking.specs.Scenes.{scene, HaltsAfter, HaltsIn, StaysWhole};
 ghost use Rattle.asking.specs.Testing.{TellsDue};
 ghost use Rattle.asking.specs.declared.said.TheConstants.{OTHER_INDEX};
 ghost use Rattle.asking.specs.Reports.{caught, refused, report_of, Tells};
-ghost use Rattle.asking.specs.Visiting.{AwaitsMonitor, FindsKept, HasMonitor, IsMarked, TestsAll, TestsName, TestsNamed, TestsSome, TestsSomeNamed, Visits};
+ghost use Rattle.asking.specs.Visiting.{AwaitsMonitor, FindsKept, FindsSomeKept, HasMonitor, IsMarked, TestsAll, TestsName, TestsNamed, TestsSome, TestsSomeNamed, Visits};
 ghost use Rattle.asking.specs.declared.ask_fault.AskFault.TheVariants.{Stopped};
 
 use crate::checking::{tell_client, tell_evidence};
@@ -99,7 +99,7 @@ where
         ensures tests { OnOk result (TestsNamed H.digest_of V.accepted (ExchangesFrames T.contents T.remaining) (self.old).marks.items name.now (scene self.old said.old stream.old) (scene self.new said.new stream.new)) }
         ensures stays { StaysWhole self.old self.new }
         ensures err { IfErr result (λ fault. fault ≢ Stopped) }
-        ensures halts { IfErr result (λ fault. HaltsAfter (TestsSomeNamed H.digest_of V.accepted (ExchangesFrames T.contents T.remaining) name.now (scene self.old said.old stream.old)) fault self.new said.new) }
+        ensures halts { IfErr result (λ fault. HaltsAfter (TestsSomeNamed H.digest_of V.accepted (ExchangesFrames T.contents T.remaining) (self.old).marks.items name.now (scene self.old said.old stream.old)) fault self.new said.new) }
     {
         if self.waits_for_monitor(name) {
             return Ok(());
@@ -117,7 +117,7 @@ where
         ensures tests { OnOk result ((count : ℕ) × FindsKept H.digest_of V.accepted (ExchangesFrames T.contents T.remaining) count (scene self.old said.old stream.old) name.now (scene self.new said.new stream.new)) }
         ensures stays { StaysWhole self.old self.new }
         ensures err { IfErr result (λ fault. fault ≢ Stopped) }
-        ensures halts { IfErr result (λ fault. HaltsAfter (TestsSomeNamed H.digest_of V.accepted (ExchangesFrames T.contents T.remaining) name.now (scene self.old said.old stream.old)) fault self.new said.new) }
+        ensures halts { IfErr result (λ fault. HaltsAfter (FindsSomeKept H.digest_of V.accepted (ExchangesFrames T.contents T.remaining) name.now (scene self.old said.old stream.old)) fault self.new said.new) }
     {
         // Every loop of Rattle has an end: this one's is past any list.
         for _ in 0..u64::MAX {

@@ -6,11 +6,11 @@ use std::alloc::Global;
 #[derive(Drop)]
 pub struct Reply {
     /// The frame that came back.
-    pub(crate) bytes: Vec<u8>,
+    pub bytes: Vec<u8>,
     /// The epoch of the chain's head when the request was sent.
-    pub(crate) held: u64,
+    pub held: u64,
     /// The epoch of which it speaks, or 0 if it is no answer.
-    pub(crate) epoch: u64,
+    pub epoch: u64,
 }
 
 impl Reply {

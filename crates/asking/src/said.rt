@@ -7,11 +7,11 @@ use play::{push_hex, push_number};
 use std::alloc::{AllocError, Global};
 
 /// The status of a run in which nothing can be said of something: the directory or the client refused, or no reply came.
-pub(crate) const REFUSED: u8 = 1;
+pub const REFUSED: u8 = 1;
 
 /// The status of a run in which the provider is caught, by evidence or a broken promise, or a name is not as its owner
 /// expects.
-pub(crate) const CAUGHT: u8 = 3;
+pub const CAUGHT: u8 = 3;
 
 /// The number of the refusal of a reply that does not answer what was asked.
 const OTHER_REPLY: u8 = 25;
@@ -44,7 +44,7 @@ impl Said {
     }
 
     /// Raises the status to this one.
-    pub(crate) fn raise(&mut self, status: u8)
+    pub fn raise(&mut self, status: u8)
         ensures text { (self.new).text ≡ (self.old).text }
         ensures words { (self.new).words ≡ (self.old).words }
         ensures status { (self.new).status ≡ worse (self.old).status status }
@@ -55,7 +55,7 @@ impl Said {
     }
 
     /// Says behind it what another one says: all of its lines, or none.
-    pub(crate) fn join(&mut self, other: Said) -> Result<(), AllocError>
+    pub fn join(&mut self, other: Said) -> Result<(), AllocError>
         ensures tells { OnOk result (Tells self.old (report_of other) self.new) }
         ensures untold { OnErr result (report_of self.new ≡ report_of self.old) }
     {

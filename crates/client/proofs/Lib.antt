@@ -7,6 +7,7 @@ pub mod Tested
 pub mod Groups
 pub mod Seen
 pub mod Others
+pub mod Passed
 pub mod Unlikes
 pub mod Telling
 pub mod InBytes

@@ -4,6 +4,7 @@ ghost use Rattle.client.specs.Promising.{KeepsPromise, ReadsPromise};
 ghost use Rattle.client.specs.Starting.{Starts};
 ghost use Rattle.client.specs.declared.client_refusal.Refusal.TheVariants.{Memory};
 
+use crate::kept::KeptPromises;
 use crate::looks::Looks;
 use crate::roots::has_root_of;
 use crate::{Refusal, RootRefusal};
@@ -26,7 +27,7 @@ mod updating_from;
 pub struct Client<H: NodeHash, V: VufCheck, S: Verifier> {
     chain: Chain<H, S>,
     looks: Looks,
-    promises: Vec<SignedPromise>,
+    promises: KeptPromises,
     types: PhantomData<V>,
 }
 
@@ -35,10 +36,10 @@ impl<H: NodeHash, V: VufCheck, S: Verifier> Model for Client<H, V, S> {
 
     ghost Value = { clients.Client };
 
-    ghost view = { λ client. record { chain = client.chain; looks = client.looks; promises = client.promises.items } };
+    ghost view = { λ client. record { chain = client.chain; looks = client.looks; promises = client.promises } };
 
     ghost invariant = { λ client. clients.IsSoundClient H.digest_of V.accepted S.verified
-        (record { chain = client.chain; looks = client.looks; promises = client.promises.items }) };
+        (record { chain = client.chain; looks = client.looks; promises = client.promises }) };
 }
 
 impl<H: NodeHash, V: VufCheck, S: Verifier> Client<H, V, S> {
@@ -56,7 +57,7 @@ impl<H: NodeHash, V: VufCheck, S: Verifier> Client<H, V, S> {
             Ok(chain) => Ok(Client {
                 chain,
                 looks: Looks::new(alloc),
-                promises: Vec::new(alloc),
+                promises: KeptPromises::new(alloc),
                 types: PhantomData,
             }),
             Err(why) => Err(Refusal::from(why)),
@@ -91,7 +92,7 @@ impl<H: NodeHash, V: VufCheck, S: Verifier> Client<H, V, S> {
         ensures value { result.now ≡ self.now.promises }
         ensures sound { IsSoundClient H.digest_of V.accepted S.verified self.now }
     {
-        &self.promises
+        self.promises.all()
     }
 
     /// Keeps the signed promise that these bytes spell, to be tested once the chain has the next root. Takes at

@@ -18,6 +18,7 @@
 mod client;
 mod client_refusal;
 mod due;
+mod kept;
 mod laws;
 mod looks;
 mod outcome;

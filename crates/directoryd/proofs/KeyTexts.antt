@@ -2,7 +2,7 @@
 use Rattle.std.proofs.Common.{◌≡◌, [], ◌∷◌, Option, None, Some, refl}
 use Rattle.clap.specs.Words.{Text}
 use Rattle.server.specs.DirectoryOptions.{DirectoryOptions}
-use Rattle.asking.specs.AskOptions.{AskOptions}
+use Rattle.runs.specs.AskOptions.{AskOptions}
 use Rattle.directoryd.specs.KeyFiles.{ask_with, directory_with, option_or, provided, text_or, IsKeysText, Uses}
 use Rattle.directoryd.specs.declared.keys.KeysKind.TheVariants.{Public, Secret}
 

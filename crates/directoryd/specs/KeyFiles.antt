@@ -13,7 +13,7 @@ use Rattle.textio.specs.Faults.{IsDeviceFault}
 use Rattle.textio.specs.Output.{WritesBeginning}
 use Rattle.clap.specs.Words.{Text}
 use Rattle.server.specs.DirectoryOptions.{DirectoryOptions}
-use Rattle.asking.specs.AskOptions.{AskOptions}
+use Rattle.runs.specs.AskOptions.{AskOptions}
 use Rattle.directoryd.specs.declared.keys.KeysKind.{KeysKind}
 use Rattle.directoryd.specs.declared.keys.KeysKind.TheVariants.{Public, Secret}
 

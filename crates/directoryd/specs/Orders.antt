@@ -11,7 +11,7 @@ use Rattle.items.specs.declared.orders.HashChoice.TheVariants.{Sha256, Sum}
 use Rattle.items.specs.TreeOptions.{TreeOptions, tree_values}
 use Rattle.server.specs.ConnectionOptions.{ConnectionOptions, connections_of}
 use Rattle.server.specs.DirectoryOptions.{DirectoryOptions, directory_values}
-use Rattle.asking.specs.AskOptions.{AskOptions, ask_values}
+use Rattle.runs.specs.AskOptions.{AskOptions, ask_values}
 use Rattle.directoryd.specs.declared.order.subcommands.AskTexts.{AskTexts}
 use Rattle.directoryd.specs.declared.order.subcommands.Order.{Order}
 use Rattle.directoryd.specs.declared.order.subcommands.Order.TheVariants.{Root, Prove, Audit, Judge, Play, Serve, Listen, Ask}

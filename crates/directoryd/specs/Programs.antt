@@ -31,10 +31,10 @@ use Rattle.directoryd.specs.TextNames.{has_last, lacks_command, texted}
 use Rattle.directoryd.specs.declared.keys.KeysKind.TheVariants.{Public, Secret}
 use Rattle.server.specs.ConnectionOptions.{ConnectionOptions}
 use Rattle.server.specs.DirectoryOptions.{DirectoryOptions}
-use Rattle.asking.specs.AskOptions.{AskOptions, ask_keys_of}
-use Rattle.asking.specs.Ending.{AsksOverSocket, FailsOverSocket}
-use Rattle.asking.specs.RunFaults.{IsRunFault}
-use Rattle.asking.specs.Runs.{Grows}
+use Rattle.runs.specs.AskOptions.{AskOptions, ask_keys_of}
+use Rattle.runs.specs.Ending.{AsksOverSocket, FailsOverSocket}
+use Rattle.runs.specs.RunFaults.{IsRunFault}
+use Rattle.runs.specs.Runs.{Grows}
 
 -- a program gives a text for its input, and returns this status if the text was written
 abbrev pub EndsWithStatus : ℕ → (List ℕ → Result (List ℕ) ProgramFault → Type 0) → Option (List ℕ) → Option (List ℕ) → Option (List ℕ) → Result ℕ ProgramFault → Type 0

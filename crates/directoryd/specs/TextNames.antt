@@ -3,7 +3,7 @@ use Rattle.std.specs.Prelude.{◌||◌, List, ◌∷◌, Bool, true, false, Opti
 use Rattle.std.specs.Str.{bytes_eq}
 use Rattle.hex.specs.Hex.{encode_lower}
 use Rattle.clap.specs.Words.{Text}
-use Rattle.asking.specs.AskOptions.{AskOptions}
+use Rattle.runs.specs.AskOptions.{AskOptions}
 
 -- whether the first word behind this command is a name
 abbrev pub takes_name : Text → Bool

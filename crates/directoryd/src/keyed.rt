@@ -1,6 +1,6 @@
 // Servers, and questions, with keys of which some may stand in a file.
 ghost use Rattle.std.specs.Prelude.{option_map};
-ghost use Rattle.asking.specs.AskOptions.{ask_values};
+ghost use Rattle.runs.specs.AskOptions.{ask_values};
 ghost use Rattle.server.specs.ConnectionOptions.{connections_of};
 ghost use Rattle.server.specs.DirectoryOptions.{directory_values};
 ghost use Rattle.directoryd.specs.Orders.{texts_of};
@@ -11,7 +11,7 @@ use crate::naming::{digits_of, with_digits};
 use crate::order::AskTexts;
 use crate::refusing::{refuse_line, wrong_line};
 use crate::{ask, listen, serve_directory};
-use asking::AskOrder;
+use runs::AskOrder;
 use server::{DirectoryOrder, ListenOrder};
 use std::alloc::Global;
 use std::fs::{File, Files};

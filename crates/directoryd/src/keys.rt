@@ -3,12 +3,12 @@
 // line wins over the file, unless it is empty. Contracts do not know which bytes a file has.
 ghost use Rattle.std.specs.Prelude.{◌≡◌, ◌⊎◌, Decides, IfErr, IfOk, MatchOption, MatchResult, OnOk, Some, false, option_map, string_bytes, true};
 ghost use Rattle.std.specs.Io.KnownBytes.{Keeps};
-ghost use Rattle.asking.specs.AskOptions.{ask_values};
+ghost use Rattle.runs.specs.AskOptions.{ask_values};
 ghost use Rattle.server.specs.DirectoryOptions.{directory_values};
 ghost use Rattle.directoryd.specs.KeyFiles.{HasKeyLines, IsKeysFault, IsKeysFile, IsKeysText, RefusesFile, RefusesKeys, TellsLine, ask_with, complaint, complaint_line, directory_with, gives, has_secrets, is_key_line, key_in, name_in, option_of, option_or, provided, text_or, value_in};
 ghost use Rattle.server.specs.ConnectionOptions.{connections_of};
 
-use asking::AskOrder;
+use runs::AskOrder;
 use server::{DirectoryOrder, ListenOrder};
 use std::alloc::{AllocError, Global};
 use std::fs::Files;

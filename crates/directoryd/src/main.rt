@@ -10,12 +10,12 @@ mod order;
 mod refusing;
 mod streams;
 
-pub use asking::ask;
 pub use audits::{audit, evidence_json, judge_at, judge_file, read_evidence};
 pub use ending::{Ending, end};
 pub use items::{prove, root};
 pub use order::{AskTexts, Order, order};
 pub use play::play;
+pub use runs::ask;
 pub use server::{listen, serve, serve_directory};
 use std::env;
 use std::io::{self, BufReader};

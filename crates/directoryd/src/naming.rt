@@ -1,9 +1,9 @@
 // A name among the words of a question that is text: a directory is asked for it in hexadecimal digits.
 ghost use Rattle.std.specs.Prelude.{◌≡◌, IfOk, None, if◌then◌else◌, option_map, string_bytes};
-ghost use Rattle.asking.specs.AskOptions.{ask_values};
+ghost use Rattle.runs.specs.AskOptions.{ask_values};
 ghost use Rattle.directoryd.specs.TextNames.{name_digits, takes_name, with_digits};
 
-use asking::AskOrder;
+use runs::AskOrder;
 use std::alloc::{AllocError, Global};
 
 /// Whether the first word behind this command is a name.

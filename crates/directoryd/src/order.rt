@@ -8,17 +8,17 @@ ghost use Rattle.directoryd.specs.CommandLine.{bare_app, directory_app, IsHashNa
 ghost use Rattle.directoryd.specs.Tables.{app_in, apps_in, rule_in};
 ghost use Rattle.items.specs.TreeOptions.{tree_values};
 ghost use Rattle.server.specs.DirectoryOptions.{directory_values};
-ghost use Rattle.asking.specs.AskOptions.{ask_values};
+ghost use Rattle.runs.specs.AskOptions.{ask_values};
 ghost use Rattle.directoryd.specs.Orders.{after_in, asked_in, asking_in, connections_in, directory_in, flag_in, hash_named, number_from, task_in, text_in, texts_in, texts_of, the_connections, values_in, IsTask};
 
 mod subcommands;
 mod tables;
 
-use asking::AskOrder;
 use audits::{AuditOrder, JudgeOrder};
 use clap::builder::ValueParser;
 use clap::{Arg, ArgAction, ArgMatches, Command, Error};
 use items::{HashChoice, ProveOrder, RootOrder};
+use runs::AskOrder;
 use server::{DirectoryOrder, ListenOrder};
 use std::alloc::{AllocError, Global};
 use std::convert::AsStr;

@@ -6,14 +6,14 @@ ghost use Rattle.directoryd.specs.CommandLine.{status_of};
 ghost use Rattle.directoryd.specs.Programs.{no_text, wrong_line, Prints, ShowsText};
 ghost use Rattle.directoryd.specs.Orders.{texts_of};
 ghost use Rattle.directoryd.specs.TextNames.{has_last};
-ghost use Rattle.asking.specs.AskOptions.{ask_values};
+ghost use Rattle.runs.specs.AskOptions.{ask_values};
 ghost use Rattle.clap.specs.Words.{Text};
 ghost use Rattle.directoryd.specs.declared.refusing.TheConstants.{WRONG_WORDS};
 
 use crate::order::AskTexts;
-use asking::AskOrder;
 use clap::Error;
 use clap::error::ErrorKind;
+use runs::AskOrder;
 use std::alloc::Global;
 use std::io::{self, ErrorKind as IoKind, Write};
 use textio::{ProgramFault, write_text};

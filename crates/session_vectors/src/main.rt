@@ -46,8 +46,9 @@
 //! `Verdict::status`, and `order`, `end`, `refuse` and `refuse_bytes` of `directoryd`; `scripts/listen.sh`
 //! asks `listen`, which calls `answer_all` and `Places::free` of `connections`, `Hub::part` and `Feed::part`;
 //! `scripts/journal.sh` asks `listen` and `serve_directory` with a journal; and `scripts/asks.py` asks `ask`
-//! of `asking`, which calls `Checks::keyed`, `ask_over`, `Asker::start`, `start_at_head`, `client`, `ask`,
-//! `follow`, `go_on`, `watch`, `test_promises`, `hear`, `Said::new`, `RunEnd::status` and `Client::promises`.
+//! of `runs`, which calls `Checks::keyed`, `ask_over`, `settle_over`, `RunEnd::status` and `Client::promises`,
+//! and of `asking` `hear`, `Reply::epoch`, `Said::new`, `raise`, `join`, and `Asker::start`, `start_at_head`,
+//! `head`, `send`, `advance`, `hear`, `hear_head`, `go_on`, `watch` and `test_promises`.
 //! The crate `faults` has keepers, readers and writers that fail, and asks `Journal` as the keeper of a
 //! directory, and `answer_all` and `Places::free`.
 #![tactic(auto)]

@@ -16,7 +16,7 @@ impl<H: NodeHash, V: VufCheck, S: Verifier> Client<H, V, S> {
     pub fn due_epoch(&self, name: &Name) -> Option<u64>
         ensures { IsDueEpoch self.now name.now result }
     {
-        let (_, signed) = tested(&self.promises, name)?;
+        let (_, signed) = tested(self.promises.all(), name)?;
         let root = self.chain.after(signed.promise.epoch)?;
         Some(root.body.epoch)
     }
@@ -35,12 +35,12 @@ impl<H: NodeHash, V: VufCheck, S: Verifier> Client<H, V, S> {
         ensures evidence { IfOk result (DueHolds H.digest_of V.accepted S.verified self.old.chain.key) }
         ensures counted { H.digests hash.new ≤ H.digests hash.old + (MAX_SIBLINGS + 3) }
     {
-        let Some((place, signed)) = tested(&self.promises, name) else {
+        let Some((place, signed)) = tested(self.promises.all(), name) else {
             return Err(Refusal::NoPromise);
         };
         match test(&self.chain, signed, hash, vuf, name, bytes) {
             Ok(Due::Kept) => {
-                let _ = self.promises.remove(place);
+                self.promises.remove(place);
                 Ok(Due::Kept)
             }
             Ok(Due::Broken(broken)) => Ok(Due::Broken(broken)),

@@ -1,6 +1,6 @@
-use asking::AskOrder;
 use audits::{AuditOrder, JudgeOrder};
 use items::{ProveOrder, RootOrder};
+use runs::AskOrder;
 use server::{DirectoryOrder, ListenOrder};
 
 /// What a command line orders.

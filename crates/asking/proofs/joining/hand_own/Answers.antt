@@ -3,7 +3,7 @@ use Rattle.std.specs.Prelude.{OnOk}
 use Rattle.rootchain.specs.declared.signed_promise.SignedPromise.{SignedPromise}
 use Rattle.asking.specs.Joining.{noted_for, AllHand}
 use Rattle.asking.proofs.Joined.{hands_behind}
-use Rattle.asking.proofs.Ran.{ok_then}
+use Rattle.asking.proofs.Outcomes.{ok_then}
 use Rattle.asking.proofs.joining.hand_own.Goals as goal
 
 pub returns : goal.returns

@@ -1,5 +1,5 @@
 use Rattle.std.proofs.Common.{inr}
-use Rattle.asking.specs.AskOptions.{ask_values}
+use Rattle.runs.specs.AskOptions.{ask_values}
 use Rattle.directoryd.proofs.KeyTexts.{ask_used, provided_used}
 use Rattle.directoryd.proofs.keyed.ask_from.Goals as goal
 

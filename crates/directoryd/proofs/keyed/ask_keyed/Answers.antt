@@ -1,5 +1,5 @@
 use Rattle.std.proofs.Common.{rules, ◌≡◌, ◌∙◌, None, ap, inr, option_map}
-use Rattle.asking.specs.AskOptions.{ask_values}
+use Rattle.runs.specs.AskOptions.{ask_values}
 use Rattle.directoryd.specs.Orders.{texts_of}
 use Rattle.directoryd.specs.Programs.{wrong_line}
 use Rattle.directoryd.specs.TextNames.{texted, with_digits}

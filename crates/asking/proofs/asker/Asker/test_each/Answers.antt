@@ -1,7 +1,7 @@
 use Rattle.std.proofs.Common.{◌≡◌, ◌∙◌, suc, Bool, Err, true, false, refl, rules, subst}
 use Rattle.asking.specs.Exchanges.{ExchangesFrames}
 use Rattle.asking.specs.Scenes.{scene}
-use Rattle.asking.specs.Visiting.{TestsName, TestsSomeNamed}
+use Rattle.asking.specs.Visiting.{FindsSomeKept, TestsName}
 use Rattle.asking.specs.declared.ask_fault.AskFault.TheVariants.{NoReply}
 use Rattle.asking.proofs.Halted.{halts_here}
 use Rattle.asking.proofs.asker.Asker.test_each.Goals as goal
@@ -37,5 +37,5 @@ returns-in_err-test-clause-halts g c =
 
 pub returns-clause-halts : goal.returns-clause-halts
 returns-clause-halts g c =
-    halts_here c.loop.self c.loop.said c.loop.stream (TestsSomeNamed g.H.NodeHash.digest_of g.V.VufCheck.accepted (ExchangesFrames g.T.Write.contents g.T.Read.remaining) c.args.name.now (scene c.args.self.now c.args.said.now c.args.stream.now)) NoReply
+    halts_here c.loop.self c.loop.said c.loop.stream (FindsSomeKept g.H.NodeHash.digest_of g.V.VufCheck.accepted (ExchangesFrames g.T.Write.contents g.T.Read.remaining) c.args.name.now (scene c.args.self.now c.args.said.now c.args.stream.now)) NoReply
     (c.loop.invariant.some 0 (scene c.loop.self c.loop.said c.loop.stream) refl)

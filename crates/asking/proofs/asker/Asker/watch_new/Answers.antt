@@ -19,8 +19,8 @@ pub returns-in_ok-begin_watch-in-FromRoot-clause-halts : goal.returns-in_ok-begi
 returns-in_ok-begin_watch-in-FromRoot-clause-halts g c =
     let unwatched : IsUnwatched c.args.self.now.client.chain c.args.name.now c.args.self.now.marks.items (Some c.in-FromRoot.first) = search rules in
     halts_begun g.H.NodeHash.digest_of g.V.VufCheck.accepted g.S.Verifier.verified (ExchangesFrames g.T.Write.contents g.T.Read.remaining) c.args.self.now.key (own_for c.args.self.now.marks.items c.args.name.now c.args.self.now.earlier.items c.args.self.now.changes.items) c.args.name.now
-    (option_map (λ key. key.now) c.args.key) c.args.self.now c.args.said.now c.args.stream.now c.in-FromRoot.first c.test_named.result c.args.self.now.marks.items
-    (scene c.begin_watch.new.self c.begin_watch.new.said c.begin_watch.new.stream) c.test_named.new.self c.test_named.new.said unwatched
+    (option_map (λ key. key.now) c.args.key) c.args.self.now c.args.said.now c.args.stream.now c.in-FromRoot.first c.test_named.result c.args.self.now.marks c.begin_watch.new.self.marks
+    (scene c.begin_watch.new.self c.begin_watch.new.said c.begin_watch.new.stream) c.test_named.new.self c.test_named.new.said unwatched c.in_ok-begin_watch-in-FromRoot.ensures.stays.2
     c.in_ok-begin_watch-in-FromRoot.ensures.begins c.test_named.ensures.halts
 
 pub returns-in_err-begin_watch-in-FromRoot-clause-halts : goal.returns-in_err-begin_watch-in-FromRoot-clause-halts

@@ -20,6 +20,6 @@ returns-clause-looks g c =
       | in-Ok w ↦ rw (w.result-is, w.self-inside-is, ← c.self.view_is)
           (looked-next g.H.NodeHash.digest_of g.V.VufCheck.accepted _ c.args.name.now c.args.bytes.now c.in-Some.root.now c.look_under.new.looks c.args.after next w.in-Ok.found w.in-Ok.ensures.looks)
       | in-Err w ↦ rw (w.result-is, w.self-inside-is)
-          (subst (λ (before : Client). LooksNext g.H.NodeHash.digest_of g.V.VufCheck.accepted before c.args.name.now c.args.after c.args.bytes.now (Err w.in-Err.why) (record { chain = c.self.inside.chain; looks = c.look_under.new.looks; promises = c.self.inside.promises.items })) c.self.view_is
+          (subst (λ (before : Client). LooksNext g.H.NodeHash.digest_of g.V.VufCheck.accepted before c.args.name.now c.args.after c.args.bytes.now (Err w.in-Err.why) (record { chain = c.self.inside.chain; looks = c.look_under.new.looks; promises = c.self.inside.promises })) c.self.view_is
           (refused-next g.H.NodeHash.digest_of g.V.VufCheck.accepted _ c.args.name.now c.args.bytes.now c.in-Some.root.now c.look_under.new.looks c.args.after next w.in-Err.why w.in-Err.ensures.looks))
     ]

@@ -1,0 +1,14 @@
+pub mod AskOptions
+pub mod Ending
+pub mod Marking
+pub mod Settling
+pub mod RunFaults
+pub mod Remembering
+pub mod Keeping
+pub mod Lateness
+pub mod Owning
+pub mod Runs
+pub mod Saves
+pub mod Standing
+pub mod StateRuns
+pub mod Told

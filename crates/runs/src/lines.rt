@@ -1,0 +1,352 @@
+// The lines of the files in which a client's chain and what it keeps are stored between runs.
+ghost use Rattle.hex.specs.Hex.{decode_of};
+ghost use Rattle.std.specs.Prelude.{◌≡◌, ◌++◌, ◌∷◌, [], List, map, IfErr, IfOk, Ok, OnOk};
+ghost use Rattle.std.specs.List.{AllByRecursion};
+ghost use Rattle.std.specs.List.Sorted.{IsNonDecreasingBy, IsPermutation, IsStableByKey};
+ghost use Rattle.std.specs.Ordering.{nat_cmp};
+ghost use Rattle.textio.specs.Lines.{lines_of};
+ghost use Rattle.rootchain.specs.Promises.{IsSignedPromise};
+ghost use Rattle.rootchain.specs.declared.signed_promise.SignedPromise.{SignedPromise as Signed};
+ghost use Rattle.memory.specs.Lines.{IsSound};
+ghost use Rattle.memory.specs.Lists.{HasNoRepeat};
+ghost use Rattle.memory.specs.Memories.{name_of};
+ghost use Rattle.memory.specs.Texts.{Spells, TakesLine};
+ghost use Rattle.memory.specs.declared.item.Item.TheVariants as items;
+ghost use Rattle.runs.specs.Remembering.{own_of, AreOwnOf, AreWithin, IsOwnOf, IsWithin};
+ghost use Rattle.runs.specs.RunFaults.{IsFaultOfState};
+ghost use Rattle.runs.specs.Saves.{AreEarlier};
+ghost use Rattle.client.specs.Clients.{with_promise};
+ghost use Rattle.runs.specs.Runs.{IsSameAsker, StillKeeps};
+
+use asking::Asker;
+use client::Client;
+use hex::FromHexError;
+use memory::{Item, Mark, Memory, Promised, ReadFault, first_line, read_item, read_memory};
+use nodehash::NodeHash;
+use play::{next_line, push_hex};
+use rootchain::SignedPromise;
+use sigiface::Verifier;
+use std::alloc::{AllocError, Global};
+use textio::ProgramFault;
+use vrfiface::VufCheck;
+
+/// The bytes that a line of a file gives in hexadecimal digits.
+pub(crate) fn line_bytes(alloc: Global, line: &[u8], number: u64) -> Result<Vec<u8>, ProgramFault>
+    ensures bytes { IfOk result (λ bytes. decode_of line.now ≡ Ok bytes.items) }
+    ensures err { IfErr result IsFaultOfState }
+{
+    match hex::decode(alloc, line) {
+        Ok(bytes) => Ok(bytes),
+        Err(FromHexError::OutOfMemory) => Err(ProgramFault::OutOfMemory),
+        Err(_) => Err(ProgramFault::BadItem(number)),
+    }
+}
+
+/// The fault for a line of a file that the client refuses.
+pub(crate) fn fault_of(why: &client::Refusal, number: u64) -> ProgramFault
+    ensures { IsFaultOfState result }
+{
+    match why {
+        client::Refusal::Memory => ProgramFault::OutOfMemory,
+        client::Refusal::Root(_)
+        | client::Refusal::Proof(_)
+        | client::Refusal::UnknownRoot
+        | client::Refusal::RootDiffers(_)
+        | client::Refusal::NoPromise => ProgramFault::BadItem(number),
+    }
+}
+
+/// Appends the list of one root, which these bytes are.
+fn push_list(list: &mut Vec<u8>, root: &[u8]) -> Result<(), AllocError>
+    ensures { OnOk result (list.new.items ≡ list.old.items ++ (0 ∷ 1 ∷ root.now)) }
+{
+    list.extend_from_slice(&[0, 1])?;
+    list.extend_from_slice(root)
+}
+
+/// Takes the roots of a text's lines behind the first.
+pub(crate) fn take_lines<H, V, S>(
+    asker: &mut Asker<H, V, S>,
+    text: &[u8],
+) -> Result<(), ProgramFault>
+where
+    H: NodeHash + Drop,
+    V: VufCheck + Drop,
+    S: Verifier + Drop,
+    ensures same { IsSameAsker asker.old asker.new }
+    ensures earlier { (asker.new).earlier ≡ (asker.old).earlier }
+    ensures known { ((asker.new).known ≡ (asker.old).known) × ((asker.new).marks ≡ (asker.old).marks) × ((asker.new).changes ≡ (asker.old).changes) }
+    ensures err { IfErr result IsFaultOfState }
+{
+    let mut left = text;
+    let mut line = Vec::new(asker.alloc);
+    // Every loop of Rattle has an end: this one's is past any text.
+    for number in 1..u64::MAX {
+        if !next_line(&mut left, &mut line)? {
+            return Ok(());
+        }
+        if 1 < number && !line.is_empty() {
+            take_line(asker, &line, number)?;
+        }
+    }
+    Ok(())
+}
+
+/// Remembers what the lines of the second file have, with the promises for own changes in the order of their epochs.
+/// Returns a memory of it that grows in the run.
+pub(crate) fn remember<H, V, S>(
+    asker: &mut Asker<H, V, S>,
+    text: &[u8],
+) -> Result<Memory, ProgramFault>
+where
+    H: NodeHash + Drop,
+    V: VufCheck + Drop,
+    S: Verifier + Drop,
+    ensures same { IsSameAsker asker.old asker.new }
+    ensures kept { OnOk result (StillKeeps asker.old asker.new) }
+    ensures spells { IfOk result (λ memory. Spells text.now (Ok memory) × (memory ≡ (asker.new).known)) }
+    ensures marks { OnOk result ((asker.new).marks.items ≡ (asker.new).known.marks) }
+    ensures earlier { OnOk result ((own : List Signed) × AreOwnOf (lines_of text.now) own × IsPermutation ((asker.old).earlier.items ++ own) (asker.new).earlier.items) }
+    ensures own { OnOk result ((asker.old).earlier.items ≡ [] → AreEarlier (asker.new).known (asker.new).earlier.items) }
+    ensures formed { OnOk result (AllByRecursion IsSignedPromise (asker.old).earlier.items → AllByRecursion IsSignedPromise (asker.new).earlier.items) }
+    ensures chain { (asker.new).client.chain ≡ (asker.old).client.chain }
+    ensures changes { (asker.new).changes ≡ (asker.old).changes }
+    ensures within { OnOk result (AreWithin (asker.old).client.chain (asker.new).known) }
+    ensures once { OnOk result (HasNoRepeat (map name_of (asker.new).known.marks)) }
+    ensures err { IfErr result IsFaultOfState }
+{
+    let memory = remember_lines(asker, text)?;
+    asker.marks = copied_marks(asker.alloc, memory.marks())?;
+    asker.known = read_lines(asker.alloc, text)?;
+    sort_promises(&mut asker.earlier)?;
+    Ok(memory)
+}
+
+/// Remembers the lines one after another.
+fn remember_lines<H, V, S>(asker: &mut Asker<H, V, S>, text: &[u8]) -> Result<Memory, ProgramFault>
+where
+    H: NodeHash + Drop,
+    V: VufCheck + Drop,
+    S: Verifier + Drop,
+    ensures same { IsSameAsker asker.old asker.new }
+    ensures kept { OnOk result (StillKeeps asker.old asker.new) }
+    ensures spells { IfOk result (λ memory. Spells text.now (Ok memory)) }
+    ensures earlier { OnOk result ((own : List Signed) × AreOwnOf (lines_of text.now) own × ((asker.new).earlier.items ≡ (asker.old).earlier.items ++ own)) }
+    ensures chain { (asker.new).client.chain ≡ (asker.old).client.chain }
+    ensures changes { (asker.new).changes ≡ (asker.old).changes }
+    ensures within { IfOk result (λ memory. AreWithin (asker.old).client.chain memory) }
+    ensures err { IfErr result IsFaultOfState }
+{
+    let mut memory = Memory::new(asker.alloc);
+    let mut rest = text;
+    let mut number: u64 = 0;
+    while !rest.is_empty() {
+        let (line, behind) = first_line(rest);
+        number += 1;
+        remember_line(asker, line, number, &mut memory)?;
+        rest = behind;
+    }
+    Ok(memory)
+}
+
+/// Takes the root of a line.
+fn take_line<H, V, S>(
+    asker: &mut Asker<H, V, S>,
+    line: &[u8],
+    number: u64,
+) -> Result<(), ProgramFault>
+where
+    H: NodeHash + Drop,
+    V: VufCheck + Drop,
+    S: Verifier + Drop,
+    ensures same { IsSameAsker asker.old asker.new }
+    ensures earlier { (asker.new).earlier ≡ (asker.old).earlier }
+    ensures known { ((asker.new).known ≡ (asker.old).known) × ((asker.new).marks ≡ (asker.old).marks) × ((asker.new).changes ≡ (asker.old).changes) }
+    ensures err { IfErr result IsFaultOfState }
+{
+    let root = line_bytes(asker.alloc, line, number)?;
+    let mut list = Vec::new(asker.alloc);
+    push_list(&mut list, &root)?;
+    let checks = &mut asker.checks;
+    match asker
+        .client
+        .update(&mut checks.hash, &checks.verifier, &list)
+    {
+        Ok(()) => Ok(()),
+        Err(why) => Err(fault_of(&why, number)),
+    }
+}
+
+/// Remembers what a line of the second file has. A promise is one that the client accepts, and no mark is above the
+/// chain's head. An empty line is passed over.
+fn remember_line<H, V, S>(
+    asker: &mut Asker<H, V, S>,
+    line: &[u8],
+    number: u64,
+    memory: &mut Memory,
+) -> Result<(), ProgramFault>
+where
+    H: NodeHash + Drop,
+    V: VufCheck + Drop,
+    S: Verifier + Drop,
+    ensures same { IsSameAsker asker.old asker.new }
+    ensures kept { OnOk result (StillKeeps asker.old asker.new) }
+    ensures takes { OnOk result (TakesLine line.now number memory.old memory.new (Ok tt)) }
+    ensures earlier { OnOk result ((own : List Signed) × IsOwnOf line.now own × ((asker.new).earlier.items ≡ (asker.old).earlier.items ++ own)) }
+    ensures chain { (asker.new).client.chain ≡ (asker.old).client.chain }
+    ensures changes { (asker.new).changes ≡ (asker.old).changes }
+    ensures within { OnOk result (AreWithin (asker.old).client.chain memory.old → AreWithin (asker.old).client.chain memory.new) }
+    ensures err { IfErr result IsFaultOfState }
+{
+    if line.is_empty() {
+        return Ok(());
+    }
+    let Some(item) = read_item(asker.alloc, line)? else {
+        return Err(ProgramFault::BadItem(number));
+    };
+    accept(asker, &item, number)?;
+    let _new = memory.take(item)?;
+    Ok(())
+}
+
+/// Keeps the promise of an item. Refuses a mark above the chain's head.
+fn accept<H, V, S>(asker: &mut Asker<H, V, S>, item: &Item, number: u64) -> Result<(), ProgramFault>
+where
+    H: NodeHash + Drop,
+    V: VufCheck + Drop,
+    S: Verifier + Drop,
+    ensures same { IsSameAsker asker.old asker.new }
+    ensures kept { OnOk result (StillKeeps asker.old asker.new) }
+    ensures earlier { OnOk result (IsSound item.now → (asker.new).earlier.items ≡ (asker.old).earlier.items ++ own_of item.now) }
+    ensures marks { OnOk result (IsWithin (asker.old).client.chain item.now) }
+    ensures chain { (asker.new).client.chain ≡ (asker.old).client.chain }
+    ensures changes { (asker.new).changes ≡ (asker.old).changes }
+    ensures err { IfErr result IsFaultOfState }
+{
+    match item {
+        Item::Promised(promised) => keep_earlier(asker, promised, number),
+        Item::Watched(mark) if asker.head() < mark.epoch => Err(ProgramFault::BadItem(number)),
+        Item::Watched(_) => Ok(()),
+        Item::Alarm(_) => Ok(()),
+        Item::Evidence(_) => Ok(()),
+    }
+}
+
+/// Keeps a promise of an earlier run. One for a change of the owner's own is expected by monitors that begin.
+fn keep_earlier<H, V, S>(
+    asker: &mut Asker<H, V, S>,
+    promised: &Promised,
+    number: u64,
+) -> Result<(), ProgramFault>
+where
+    H: NodeHash + Drop,
+    V: VufCheck + Drop,
+    S: Verifier + Drop,
+    ensures same { IsSameAsker asker.old asker.new }
+    ensures kept { OnOk result (StillKeeps asker.old asker.new) }
+    ensures earlier { OnOk result (IsSignedPromise promised.now.signed → (asker.new).earlier.items ≡ (asker.old).earlier.items ++ own_of (items.Promised promised.now)) }
+    ensures chain { (asker.new).client.chain ≡ (asker.old).client.chain }
+    ensures changes { (asker.new).changes ≡ (asker.old).changes }
+    ensures err { IfErr result IsFaultOfState }
+{
+    let signed = keep_again(asker, &promised.signed, number)?;
+    if !promised.is_own {
+        return Ok(());
+    }
+    asker.earlier.push(signed)?;
+    Ok(())
+}
+
+/// Keeps a promise once more.
+fn keep_again<H, V, S>(
+    asker: &mut Asker<H, V, S>,
+    promise: &SignedPromise,
+    number: u64,
+) -> Result<SignedPromise, ProgramFault>
+where
+    H: NodeHash + Drop,
+    V: VufCheck + Drop,
+    S: Verifier + Drop,
+    ensures same { IsSameAsker asker.old asker.new }
+    ensures kept { IfOk result (λ signed. (asker.new).client ≡ with_promise (asker.old).client signed) }
+    ensures one { IfOk result (λ signed. IsSignedPromise promise.now → signed ≡ promise.now) }
+    ensures earlier { (asker.new).earlier ≡ (asker.old).earlier }
+    ensures chain { (asker.new).client.chain ≡ (asker.old).client.chain }
+    ensures changes { (asker.new).changes ≡ (asker.old).changes }
+    ensures err { IfErr result IsFaultOfState }
+{
+    let checks = &mut asker.checks;
+    let read = asker.client.read_promise(
+        &mut checks.hash,
+        &checks.verifier,
+        promise.write().bytes(),
+    );
+    let signed = match read {
+        Ok(signed) => signed,
+        Err(why) => return Err(fault_of(&why, number)),
+    };
+    let kept = signed.copied();
+    match asker.client.keep_read(signed) {
+        Ok(()) => Ok(kept),
+        Err(why) => Err(fault_of(&why, number)),
+    }
+}
+
+/// The lines of the roots of a client's chain above an epoch.
+pub(crate) fn roots_text<H, V, S>(
+    alloc: Global,
+    client: &Client<H, V, S>,
+    epoch: u64,
+) -> Result<Vec<u8>, AllocError>
+where
+    H: NodeHash + Drop,
+    V: VufCheck + Drop,
+    S: Verifier + Drop,
+{
+    let mut text = Vec::new(alloc);
+    let mut last = epoch;
+    // Every loop of Rattle has an end: this one's is past any chain.
+    for _ in 0..u64::MAX {
+        let Some(root) = client.chain().after(last) else {
+            break;
+        };
+        push_hex(&mut text, root.write().bytes())?;
+        text.push(b'\n')?;
+        last = root.body.epoch;
+    }
+    Ok(text)
+}
+
+/// Puts promises in the order of their epochs, in which monitors take them. Those of one epoch stay as they stand.
+fn sort_promises(promises: &mut Vec<SignedPromise>) -> Result<(), AllocError>
+    ensures permutation { IsPermutation promises.old.items promises.new.items }
+    ensures ascend { OnOk result (IsNonDecreasingBy (λ (signed : Signed). signed.promise.epoch) promises.new.items) }
+    ensures stable { OnOk result (IsStableByKey (λ (signed : Signed). signed.promise.epoch) nat_cmp promises.old.items promises.new.items) }
+{
+    promises.sort_by_key(|signed| signed.promise.epoch)?;
+    Ok(())
+}
+
+/// Copies of marks.
+fn copied_marks(alloc: Global, marks: &[Mark]) -> Result<Vec<Mark>, AllocError>
+    ensures { IfOk result (λ copies. copies.items ≡ marks.now) }
+{
+    let mut copies = Vec::new(alloc);
+    for mark in marks {
+        let (name, since, epoch) = (mark.name.copied(), mark.since, mark.epoch);
+        copies.push(Mark { name, since, epoch })?;
+    }
+    Ok(copies)
+}
+
+/// The memory that a text spells.
+fn read_lines(alloc: Global, text: &[u8]) -> Result<Memory, ProgramFault>
+    ensures spells { IfOk result (λ memory. Spells text.now (Ok memory)) }
+    ensures err { IfErr result IsFaultOfState }
+{
+    match read_memory(alloc, text) {
+        Ok(memory) => Ok(memory),
+        Err(ReadFault::BadItem(number)) => Err(ProgramFault::BadItem(number)),
+        Err(ReadFault::OutOfMemory) => Err(ProgramFault::OutOfMemory),
+    }
+}
