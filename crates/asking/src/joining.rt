@@ -1,9 +1,12 @@
 // A monitor of a name joins the others, and begins to watch.
-ghost use Rattle.std.specs.Prelude.{◌≡◌, ◌≢◌, ◌↔◌, ℕ, IfErr, IfOk, Any, IsTrue, None, OnErr, OnOk, Err, Ok, option_map};
+ghost use Rattle.std.specs.Prelude.{◌≡◌, ◌≢◌, ◌↔◌, ℕ, IfErr, IfOk, Any, IsTrue, None, Option, OnErr, OnOk, Err, Ok, option_map};
 ghost use Rattle.client.specs.declared.client_refusal.Refusal.TheVariants.{Memory};
 ghost use Rattle.memory.specs.Watching.{IsAwaited};
 ghost use Rattle.asking.specs.Askers.{asker_changes, asker_earlier, asker_key, asker_known, asker_marks};
 ghost use Rattle.asking.specs.Exchanges.{ExchangesFrames};
+ghost use Rattle.monitor.specs.declared.monitor_refusal.Refusal.{Refusal as MonitorRefusal};
+ghost use Rattle.rootchain.specs.Promises.{signed_promise_bytes};
+ghost use Rattle.asking.specs.Asking.{HandsTo};
 ghost use Rattle.asking.specs.Joining.{first_expected, noted_for, own_for, AllHand, BeginsAt, BeginsSome, BeginsSomeAt, BeginsWatch, IsJoined, IsLaterPromise, IsLatest, IsLeftToWatch, RefusesOne, Retraces, RetracesOne, StartsFrom, watched_told, WatchesNew, WatchesSome};
 ghost use Rattle.asking.specs.Recalled.{TellsAlarms};
 ghost use Rattle.asking.specs.Reports.{report_of, Report, Tells};
@@ -433,7 +436,26 @@ where
     ensures { OnOk result (AllHand H.digest_of V.accepted S.verified promises.now monitor.old monitor.new) }
 {
     for signed in promises {
-        let _refused = hand_one(monitor, checks, signed, signed.write().bytes())?;
+        hand_written(checks, monitor, signed)?;
     }
+    Ok(())
+}
+
+/// Gives a monitor a promise, if it is one for its name. Only such a one is written.
+fn hand_written<H, V, S>(
+    checks: &mut Checks<H, V, S>,
+    monitor: &mut Monitor<H, V, S>,
+    signed: &SignedPromise,
+) -> Result<(), AllocError>
+where
+    H: NodeHash + Drop,
+    V: VufCheck + Drop,
+    S: Verifier + Drop,
+    ensures { OnOk result ((why : Option MonitorRefusal) × HandsTo H.digest_of V.accepted S.verified signed.now (signed_promise_bytes signed.now) monitor.old why monitor.new) }
+{
+    if *monitor.name() != signed.promise.name {
+        return Ok(());
+    }
+    let _refused = hand_one(monitor, checks, signed, signed.write().bytes())?;
     Ok(())
 }
