@@ -1454,7 +1454,7 @@ class Asking:
         self.run([f"watch {name} 6b31" for name in names], state=state)
         self.close()
         yield ["watched before", *self.watch_row(names, state, "6b31")]
-        self.run([f"watch {name} -" for name in names], state=state)
+        self.run([f"watch {name} 6b31" for name in names], state=state)
         self.run([f"change {name} 6b32" for name in names], state=state)
         self.close()
         yield ["with a change", *self.watch_row(names, state, "6b32")]
@@ -1465,7 +1465,7 @@ class Asking:
             none.append(self.run([f"watch {name} {key}" for name in names])[0])
             for end in ("", ".kept"):
                 shutil.copyfile(state + end, f"{state} {turn}{end}")
-            free.append(self.run([f"watch {name} -" for name in names], state=f"{state} {turn}", free=True)[0])
+            free.append(self.run([f"watch {name} {key}" for name in names], state=f"{state} {turn}", free=True)[0])
         none, free = Spread(none, len(names)), Spread(free, len(names))
         return [f"{len(names):,}", *none.cells(1e6, 1), *free.cells(1e6, 1), f"{free.least / none.least:.2f}"]
 
