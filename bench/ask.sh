@@ -1,7 +1,8 @@
 #!/usr/bin/env bash
 # Measures `directoryd ask` over loopback: runs of 100, 1,000 and 4,000 registrations without a state, with a state
-# whose syncs are free, and with one on the disk of this folder; and runs of 100 and 500 `watch` lines without a state
-# and with one whose syncs are free.
+# whose syncs are free, and with one on the disk of this folder. Without a state and with one whose syncs are free also
+# runs of 1,000 and 2,000 lines with a closing behind each registration; runs in which 100 and 500 names get other keys,
+# an epoch ends, and they are watched; and runs of as many `watch` lines.
 #
 #   bench/ask.sh
 #

@@ -59,8 +59,8 @@ CHAIN_ROUNDS, CHAIN_RUNS = {10_000: 200, 100_000: 20}, 10
 # which they look all up, how often they are reconciled in a run. And the runs.
 CLIENT_NAMES, CLIENT_SHARED = 100, {"all": 100, "one in ten": 10, "none": 0}
 CLIENT_ROUNDS, CLIENT_RUNS = {10: 500, 100: 50, 1_000: 5}, 3
-# The registrations of a run of `ask`, and how often it is measured.
-ASKED, WATCHED, ASKED_RUNS = (100, 1_000, 4_000), (100, 500), 5
+# The lines of the runs of `ask`, and how often each is measured.
+ASKED, CLOSED, WATCHED, ASKED_RUNS = (100, 1_000, 4_000), (1_000, 2_000), (100, 500), 5
 # The script of `play`: its names, of which so many are watched; its closings; its look-ups; and the runs.
 PLAY_NAMES, PLAY_WATCHED, PLAY_CLOSINGS, PLAY_LOOK_UPS, PLAY_RUNS = 10_000, 10, 100, 10_000, 15
 # The lengths of other texts that are digested: an empty node, a body, a body that is signed, and a value.
@@ -1446,6 +1446,41 @@ class Asking:
         row = [f"{count:,}", *none.cells(1e6, 1), *free.cells(1e6, 1), f"{free.least / none.least:.2f}"]
         return [*row, *synced.cells(1e6, 1)]
 
+    def closed(self, count, state):
+        """The seconds of each of so many lines, a closing behind each registration."""
+        lines = []
+        for name in self.names(count // 2):
+            self.epoch += 1
+            lines += [f"register {name} 6b31", f"close {self.epoch}"]
+        return self.run(lines, "--token", SERVE_KEYS["token"] * 32, state=state, free=state is not None)[0] / count
+
+    def closings(self, folder, count):
+        none, free = [], []
+        for turn in range(ASKED_RUNS):
+            none.append(self.closed(count, None))
+            free.append(self.closed(count, f"{folder}/closed {count} {turn}"))
+        none, free = Spread(none), Spread(free)
+        return ["closings behind registrations", f"{count:,}", *none.cells(1e6, 1), *free.cells(1e6, 1), f"{free.least / none.least:.2f}"]
+
+    def changed(self, names, state):
+        """The seconds of each line of a run in which names get other keys, an epoch ends, and they are watched."""
+        self.epoch += 1
+        lines = [f"change {name} {self.epoch:08x}" for name in names] + [f"close {self.epoch}"]
+        lines += [f"watch {name} {self.epoch:08x}" for name in names]
+        return self.run(lines, "--token", SERVE_KEYS["token"] * 32, state=state, free=state is not None)[0] / len(lines)
+
+    def changes(self, folder, count):
+        """The same questions, with a state that watched the names before and without one."""
+        others, names, state = self.names(count), self.names(count), f"{folder}/changed {count}"
+        for each in others, names:
+            self.run([f"register {name} 6b31" for name in each], state=state)
+        self.close()
+        none = Spread([self.changed(others, None) for _ in range(ASKED_RUNS)])
+        self.run([f"watch {name} 6b31" for name in names], state=state)
+        free = Spread([self.changed(names, state) for _ in range(ASKED_RUNS)])
+        row = ["changes, then watched", f"{2 * count + 1:,}", *none.cells(1e6, 1), *free.cells(1e6, 1)]
+        return [*row, f"{free.least / none.least:.2f}"]
+
     def watches(self, folder, count):
         """Rows of `watch` lines: of names that were watched before, and of those with a change that waits."""
         names, state = self.names(count), f"{folder}/watched {count}"
@@ -1453,11 +1488,11 @@ class Asking:
         self.close()
         self.run([f"watch {name} 6b31" for name in names], state=state)
         self.close()
-        yield ["watched before", *self.watch_row(names, state, "6b31")]
+        yield ["names watched before", *self.watch_row(names, state, "6b31")]
         self.run([f"watch {name} 6b31" for name in names], state=state)
         self.run([f"change {name} 6b32" for name in names], state=state)
         self.close()
-        yield ["with a change", *self.watch_row(names, state, "6b32")]
+        yield ["names with a change", *self.watch_row(names, state, "6b32")]
 
     def watch_row(self, names, state, key):
         none, free = [], []
@@ -1480,14 +1515,16 @@ def ask(folder):
     try:
         with tempfile.TemporaryDirectory(dir=".") as disk:
             rows = [asking.registrations(disk, count) for count in ASKED]
-            watched = [row for count in WATCHED for row in asking.watches(disk, count)]
+            others = [asking.closings(disk, count) for count in CLOSED]
+            others += [asking.changes(disk, count) for count in WATCHED]
+            others += [row for count in WATCHED for row in asking.watches(disk, count)]
     finally:
         server.kill()
     spread = ["median", "greatest"]
     head = ["lines", "no state", *spread, "state, syncs free", *spread, "ratio", "state", *spread]
     table("registrations in a run of directoryd ask, microseconds by the clock for each", head, rows)
-    head = ["names", "lines", "no state", *spread, "state, syncs free", *spread, "ratio"]
-    table("watch lines in a run of directoryd ask, microseconds by the clock for each", head, watched)
+    head = ["what", "lines", "no state", *spread, "state, syncs free", *spread, "ratio"]
+    table("closings, and watch lines, in a run of directoryd ask, microseconds by the clock for each", head, others)
 
 
 def main(which):

@@ -348,6 +348,12 @@ def epochs_end(provider, request, _reply):
     return reply
 
 
+def change_is_taken_between(provider, request, reply):
+    """One epoch ends before a change is taken, and one behind it."""
+    provider.hub.directory.waiting.clear()
+    return epochs_end(provider, request, reply)
+
+
 def epoch_is_hidden(provider, _request, reply):
     """An epoch ends, and the reply is the one from before it."""
     close(provider)
@@ -567,6 +573,11 @@ STORED_LIES = {
         lies(),
         [run_of_lines("register 61 6b31", "close 2"), run_of_lines("change 61 6b32", "close 3", "watch 61 6b31")],
         Ending(["promise 2", "root 3 after 2", "alarm 61 3 6b32"], 3, []),
+    ),
+    "a promise that is found kept before it is remembered": (
+        lies((1, "register", change_is_taken_between)),
+        [run_of_lines("register 61 6b31")],
+        Ending(["promise 2"], 0, [BEGINS]),
     ),
     # 3. What answers is not older than the head, and a monitor's refusal is told.
     "an old promise for a change": (

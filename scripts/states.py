@@ -1,6 +1,6 @@
 #!/usr/bin/env python3
-"""Runs `directoryd ask --state` that is killed, whose disk is full, or that finds another run at work, and compares the
-files of the state with what the model of the client remembers.
+"""Runs `directoryd ask --state` that is killed, whose disk is full, whose directory is slow, or that finds another run at
+work, and compares the files of the state with what the model of the client remembers.
 
     scripts/states.py PROGRAM [--kills N] [--seed N]
 
@@ -42,6 +42,8 @@ AT_ONCE = 8
 BESIDE = 4
 ANOTHER = "another run has it"
 AS_WRITTEN = "not as a run wrote it"
+# How many seconds a reply may take, and all those to the words of a run, and how many times as fast a clock runs.
+REPLY, WORDS, FAST = 60, 420, 30
 
 # What a client remembers ----------------------------------------------------------------------------------------
 
@@ -729,6 +731,48 @@ def ordered(program, library):
         yield calls("evidence", b"head\n", [*both, *keeps, "print", "print"], 3)
 
 
+def dripping(provider, listener):
+    """Answers a connection with one byte of the reply after another: each in time, and all of them in twice the time."""
+    with contextlib.suppress(ConnectionError), listener.accept()[0] as peer:
+        reply = provider.hub.bytes(0, peer.recv(65536))
+        for byte in reply:
+            time.sleep(2 * REPLY / FAST / len(reply))
+            peer.send(bytes([byte]))
+
+
+def slow_to_answer(_provider, request, reply):
+    """Each look-up takes a quarter of its time."""
+    if is_of(request, "lookup"):
+        time.sleep(REPLY / FAST / 4)
+    return reply
+
+
+def slow(program, library):
+    """A directory that does not answer in time is given up, and what was found before is told and kept."""
+    how = preloaded(library, FAST=FAST)
+    with socket.create_server(("127.0.0.1", 0)) as listener:
+        threading.Thread(target=dripping, args=(Provider(), listener), daemon=True).start()
+        words = [program, "ask", "--provider", PROVIDER_FILE, "127.0.0.1:%d" % listener.getsockname()[1], "head"]
+        run = subprocess.run(words, capture_output=True, timeout=SECONDS, **how)
+    yield different("a reply of many bytes", (b"", b"no reply\n", 1), (run.stdout, run.stderr, run.returncode))
+    with tempfile.TemporaryDirectory() as folder:
+        provider, state = Provider(slow_to_answer), f"{folder}/state"
+        ran(program, provider, "\n".join(BEGUN_LINES).encode(), state)
+        for epoch in range(3, 53):
+            provider.hub.directory.close(epoch)
+        output, errors, status = ran(program, provider, b"", state, ("watch", "61", "6b31"), **how)
+        # As many replies come in time.
+        last = 2 + len(output)
+        yield different("replies that take too long together", (kept_epochs(3, last), ["no reply"], 1), (output, errors, status))
+        yield None if 2 * WORDS / REPLY < len(output) <= 4 * WORDS / REPLY else f"{len(output)} replies came before the end"
+        output, errors, status = ran(program, provider, b"", state, ("watch", "61", "6b31"))
+        yield different("the next run", (kept_epochs(last + 1, 52), [], 0), (output, errors, status))
+        # Lines may take longer together.
+        script = b"lookup 61 52\n" * 30
+        output, errors, status = ran(program, provider, script, state, **how)
+        yield different("lines of input", (30, [], 0), (len(output), errors, status))
+
+
 def main():
     parser = argparse.ArgumentParser(usage=__doc__)
     parser.add_argument("program")
@@ -737,7 +781,8 @@ def main():
     words = parser.parse_args()
     program = os.path.abspath(words.program)
     with tempfile.TemporaryDirectory() as folder:
-        fail_disk, sync_order, fail_nth = (built(name, folder) for name in ("fail_disk", "sync_order", "fail_nth"))
+        names = "fail_disk", "sync_order", "fail_nth", "fast_clock"
+        fail_disk, sync_order, fail_nth, fast_clock = (built(name, folder) for name in names)
         runs = {
             "kills": lambda: kills(program, fail_disk, words.seed, words.kills),
             "full disk": lambda: full_disk(program, fail_disk),
@@ -751,6 +796,7 @@ def main():
             "old states": lambda: old_states(program, words.seed),
             "left over": lambda: left_over(program),
             "no memory": lambda: no_memory(program, fail_nth),
+            "slow": lambda: slow(program, fast_clock),
         }
         found = {name: list(run()) for name, run in runs.items()}
     failures = [(name, difference) for name, differences in found.items() for difference in differences if difference is not None]

@@ -240,7 +240,7 @@ class Trial:
         self.sh(self.block("Every ten minutes", "mkdir -p ~/.config")[0])
         units = sorted((self.home / ".config/systemd/user").iterdir())
         self.same("files of systemd", 4, len(units))
-        service = dict(line.split("=", 1) for line in units[-2].read_text().replace("%h", str(self.home)).replace("%%", "%").replace("$$", "$").splitlines() if "=" in line)
+        self.service = service = dict(line.split("=", 1) for line in units[-2].read_text().replace("%h", str(self.home)).replace("%%", "%").replace("$$", "$").splitlines() if "=" in line)
         self.prints("systemd's command", 0, "watched 616c696365 1\n", service["ExecStart"], where=service["WorkingDirectory"])
         tools = [shutil.which(tool, path=self.environment["PATH"]) for tool in ("systemd-analyze", "socat")]
         if all(tools):
@@ -279,6 +279,14 @@ def watched(trial):
     trial.cron("no socat for two hours", "status 3: cannot connect\nstale 3\n", later=7200)
     end = trial.tunnel(trial.crontab("@reboot"), trial.home)
     trial.cron("socat again", "")
+    away = trial.home / "away"
+    away.mkdir()
+    for name in "alice", "alice.kept":
+        (trial.watching / name).rename(away / name)
+    trial.cron("a state that is gone", "status 2: grep: alice.kept: No such file or directory\n")
+    trial.prints("the same by systemd", 2, "", trial.service["ExecStart"], where=trial.watching)
+    for name in "alice", "alice.kept":
+        (away / name).rename(trial.watching / name)
     return ask, directory, end
 
 

@@ -107,46 +107,46 @@ wrong_line asked texts =
     else (if is_some asked.after && not (has_last asked.words) then Some no_last else None)
 
 -- a directory is asked with the keys that are used, or they are not taken: a text that is no key is a fault before all else
-abbrev pub AsksFrom : AskOptions → AskTextValues → Option (List ℕ) → Option (List ℕ) → Option (List ℕ) → Option (List ℕ) → Option (List ℕ) → Result ℕ ProgramFault → Type 0
-AsksFrom asked texts input out out-new err err-new outcome =
+abbrev pub AsksFrom : Type 0 → AskOptions → AskTextValues → Option (List ℕ) → Option (List ℕ) → Option (List ℕ) → Option (List ℕ) → Option (List ℕ) → Result ℕ ProgramFault → Type 0
+AsksFrom Clock asked texts input out out-new err err-new outcome =
     (HasNoKeys Public texts.provider err err-new outcome × Keeps out out-new)
     ⊎ ((HasNoKeys Secret texts.keys err err-new outcome × Keeps out out-new)
     ⊎ ((public used : AskOptions) × Uses Public provided texts.provider asked public × Uses Secret ask_with texts.keys public used
     × ((outcome ≡ Err BadHex) ↔ (ask_keys_of used ≡ None)) × (outcome ≡ Err BadHex → Keeps out out-new × Keeps err err-new)
     × IfErr outcome (λ fault. (fault ≡ BadHex) ⊎ IsRunFault used input fault) × Grows out out-new
-    × IfOk outcome (λ status. AsksOverSocket used input status out out-new) × IfErr outcome (λ fault. FailsOverSocket used input fault out out-new)))
+    × IfOk outcome (λ status. AsksOverSocket Clock used input status out out-new) × IfErr outcome (λ fault. FailsOverSocket Clock used input fault out out-new)))
 
 -- such a line is told
 abbrev pub RefusesLine : List ℕ → Option (List ℕ) → Option (List ℕ) → Option (List ℕ) → Option (List ℕ) → Result ℕ ProgramFault → Type 0
 RefusesLine line out out-new err err-new outcome = Keeps out out-new × Prints WRONG_WORDS line err err-new outcome
 
 -- so with a name that is text, if it is among the words; or the words have no use for an option
-abbrev pub AsksUnless : Option (List ℕ) → AskOptions → AskTextValues → Option (List ℕ) → Option (List ℕ) → Option (List ℕ) → Option (List ℕ) → Option (List ℕ) → Result ℕ ProgramFault → Type 0
-AsksUnless (Some line) asked texts input out out-new err err-new outcome = RefusesLine line out out-new err err-new outcome
-AsksUnless None asked texts input out out-new err err-new outcome =
-    WantsMemory out out-new err err-new outcome ⊎ AsksFrom (texted texts.is_text asked) texts input out out-new err err-new outcome
+abbrev pub AsksUnless : Type 0 → Option (List ℕ) → AskOptions → AskTextValues → Option (List ℕ) → Option (List ℕ) → Option (List ℕ) → Option (List ℕ) → Option (List ℕ) → Result ℕ ProgramFault → Type 0
+AsksUnless Clock (Some line) asked texts input out out-new err err-new outcome = RefusesLine line out out-new err err-new outcome
+AsksUnless Clock None asked texts input out out-new err err-new outcome =
+    WantsMemory out out-new err err-new outcome ⊎ AsksFrom Clock (texted texts.is_text asked) texts input out out-new err err-new outcome
 
-abbrev pub AsksKeyed : AskOptions → AskTextValues → Option (List ℕ) → Option (List ℕ) → Option (List ℕ) → Option (List ℕ) → Option (List ℕ) → Result ℕ ProgramFault → Type 0
-AsksKeyed asked texts = AsksUnless (wrong_line asked texts) asked texts
+abbrev pub AsksKeyed : Type 0 → AskOptions → AskTextValues → Option (List ℕ) → Option (List ℕ) → Option (List ℕ) → Option (List ℕ) → Option (List ℕ) → Result ℕ ProgramFault → Type 0
+AsksKeyed Clock asked texts = AsksUnless Clock (wrong_line asked texts) asked texts
 
 -- What is ordered is done: a root is written, or the path of an index; an input is audited; a file is judged;
 -- a script is played; a directory begins, or goes on from its journal, and serves one session; one serves
 -- connections, and writes its address to the errors; or a directory is asked. The line about a journal is on
 -- the errors too.
-abbrev pub Obeys : Task → Option (List ℕ) → Option (List ℕ) → Option (List ℕ) → Option (List ℕ) → Option (List ℕ) → Result ℕ ProgramFault → Type 0
-Obeys (the_root asked) input out out-new err err-new outcome = EndsWithStatus 0 (λ input said. root_answer asked input ≡ said) input out out-new outcome × Keeps err err-new
-Obeys (the_path index asked) input out out-new err err-new outcome = EndsWithStatus 0 (Proves asked.hash (hex32_or_zeros asked.nonce) (hex32 index)) input out out-new outcome × Keeps err err-new
-Obeys (the_audit key) input out out-new err err-new outcome = IsZero outcome × Keeps err err-new
+abbrev pub Obeys : Type 0 → Task → Option (List ℕ) → Option (List ℕ) → Option (List ℕ) → Option (List ℕ) → Option (List ℕ) → Result ℕ ProgramFault → Type 0
+Obeys Clock (the_root asked) input out out-new err err-new outcome = EndsWithStatus 0 (λ input said. root_answer asked input ≡ said) input out out-new outcome × Keeps err err-new
+Obeys Clock (the_path index asked) input out out-new err err-new outcome = EndsWithStatus 0 (Proves asked.hash (hex32_or_zeros asked.nonce) (hex32 index)) input out out-new outcome × Keeps err err-new
+Obeys Clock (the_audit key) input out out-new err err-new outcome = IsZero outcome × Keeps err err-new
     × (left : Option (List ℕ)) × AuditsText key input left out (without_status outcome) out-new
-Obeys (the_verdict key file) input out out-new err err-new outcome = Keeps err err-new
+Obeys Clock (the_verdict key file) input out out-new err err-new outcome = Keeps err err-new
     × (verdict : Result Verdict ProgramFault) × (outcome ≡ verdict_outcome verdict) × JudgesAt key out verdict out-new
-Obeys the_script input out out-new err err-new outcome = IsZero outcome × Keeps err err-new
+Obeys Clock the_script input out out-new err err-new outcome = IsZero outcome × Keeps err err-new
     × PlaysTo (printed script_index script_salts) input out out-new (without_status outcome)
-Obeys (the_session asked keys) input out out-new err err-new outcome = IsZero outcome
+Obeys Clock (the_session asked keys) input out out-new err err-new outcome = IsZero outcome
     × ServesKeyed asked keys input out out-new err err-new (without_status outcome)
-Obeys (the_connections asked taken keys) input out out-new err err-new outcome = IsZero outcome × Keeps out out-new
+Obeys Clock (the_connections asked taken keys) input out out-new err err-new outcome = IsZero outcome × Keeps out out-new
     × ListensKeyed asked taken keys err err-new (without_status outcome)
-Obeys (the_questions asked texts) input out out-new err err-new outcome = AsksKeyed asked texts input out out-new err err-new outcome
+Obeys Clock (the_questions asked texts) input out out-new err err-new outcome = AsksKeyed Clock asked texts input out out-new err err-new outcome
 
 -- Words that order nothing are answered by a text of clap's, on the output with status 0, on the errors
 -- with any other. The other stream stays.
@@ -155,8 +155,8 @@ ShowsText zero out out-new err err-new outcome = ((text : List ℕ) × Prints 0 
 ShowsText (suc n) out out-new err err-new outcome = Keeps out out-new × ((text : List ℕ) × Prints (suc n) text err err-new outcome)
 
 -- what the words order is done
-abbrev pub DoesOrder : List Text → Option (List ℕ) → Option (List ℕ) → Option (List ℕ) → Option (List ℕ) → Option (List ℕ) → Result ℕ ProgramFault → Type 0
-DoesOrder words input out out-new err err-new outcome = (what : Task) × IsTask words what × Obeys what input out out-new err err-new outcome
+abbrev pub DoesOrder : Type 0 → List Text → Option (List ℕ) → Option (List ℕ) → Option (List ℕ) → Option (List ℕ) → Option (List ℕ) → Result ℕ ProgramFault → Type 0
+DoesOrder Clock words input out out-new err err-new outcome = (what : Task) × IsTask words what × Obeys Clock what input out out-new err err-new outcome
 
 -- clap refuses the words, or they ask for help
 abbrev pub Refused : List Text → Option (List ℕ) → Option (List ℕ) → Option (List ℕ) → Option (List ℕ) → Result ℕ ProgramFault → Type 0
@@ -164,9 +164,9 @@ Refused words out out-new err err-new outcome = (error : Error) × RefusesWords 
     × ShowsText (status_of (kind_of error)) out out-new err err-new outcome
 
 -- what comes of words and an input
-abbrev pub RunsProgram : List Text → Option (List ℕ) → Option (List ℕ) → Option (List ℕ) → Option (List ℕ) → Option (List ℕ) → Result ℕ ProgramFault → Type 0
-RunsProgram words input out out-new err err-new outcome =
-    DoesOrder words input out out-new err err-new outcome ⊎ (Refused words out out-new err err-new outcome ⊎ WantsMemory out out-new err err-new outcome)
+abbrev pub RunsProgram : Type 0 → List Text → Option (List ℕ) → Option (List ℕ) → Option (List ℕ) → Option (List ℕ) → Option (List ℕ) → Result ℕ ProgramFault → Type 0
+RunsProgram Clock words input out out-new err err-new outcome =
+    DoesOrder Clock words input out out-new err err-new outcome ⊎ (Refused words out out-new err err-new outcome ⊎ WantsMemory out out-new err err-new outcome)
 
 -- the line about words that are not UTF-8
 abbrev pub no_text : List ℕ
@@ -174,12 +174,12 @@ no_text = codes "error: invalid UTF-8 was detected in one or more arguments\n"
 
 -- what comes of what the process is given: the words, or why there are none; and the input, or none if
 -- memory ran out
-abbrev pub StartsProgram : {A B R : Type 0} → (R → Option (List ℕ)) → Result (Vec (String A) B) IoError → Result R IoError
+abbrev pub StartsProgram : {A B R : Type 0} → Type 0 → (R → Option (List ℕ)) → Result (Vec (String A) B) IoError → Result R IoError
     → Option (List ℕ) → Option (List ℕ) → Option (List ℕ) → Option (List ℕ) → Result ℕ ProgramFault → Type 0
-StartsProgram remaining (Err error) reader out out-new err err-new outcome = Keeps out out-new
+StartsProgram Clock remaining (Err error) reader out out-new err err-new outcome = Keeps out out-new
     × Prints WRONG_WORDS no_text err err-new outcome × ((outcome ≡ Err OutOfMemory) ↔ (error_kind error ≡ io.OutOfMemory))
-StartsProgram remaining (Ok words) (Err error) out out-new err err-new outcome = WantsMemory out out-new err err-new outcome
-StartsProgram remaining (Ok words) (Ok reader) out out-new err err-new outcome = RunsProgram (map string_bytes words.items) (remaining reader) out out-new err err-new outcome
+StartsProgram Clock remaining (Ok words) (Err error) out out-new err err-new outcome = WantsMemory out out-new err err-new outcome
+StartsProgram Clock remaining (Ok words) (Ok reader) out out-new err err-new outcome = RunsProgram Clock (map string_bytes words.items) (remaining reader) out out-new err err-new outcome
 
 -- a fault's line is written, whole or, if a write failed, less of it
 abbrev pub TellsFault : Bool → List ℕ → Option (List ℕ) → Option (List ℕ) → Type 0

@@ -69,7 +69,7 @@ where
     R: BufRead,
     W: Write,
     E: Write,
-    ensures { Obeys (values_in order.entry) (R.remaining reader.old) (W.contents writer.old) (W.contents writer.new)
+    ensures { Obeys N (values_in order.entry) (R.remaining reader.old) (W.contents writer.old) (W.contents writer.new)
         (E.contents errors.old) (E.contents errors.new) result }
 {
     match order {
@@ -103,7 +103,7 @@ where
     R: BufRead,
     W: Write,
     E: Write,
-    ensures { RunsProgram (map S.text words.now) (R.remaining reader.old) (W.contents writer.old) (W.contents writer.new)
+    ensures { RunsProgram N (map S.text words.now) (R.remaining reader.old) (W.contents writer.old) (W.contents writer.new)
         (E.contents errors.old) (E.contents errors.new) result }
 {
     match order(alloc, words) {
@@ -126,7 +126,7 @@ where
     R: BufRead,
     W: Write,
     E: Write,
-    ensures { StartsProgram R.remaining words.now reader.old (W.contents writer.old) (W.contents writer.new)
+    ensures { StartsProgram N R.remaining words.now reader.old (W.contents writer.old) (W.contents writer.new)
         (E.contents errors.old) (E.contents errors.new) result }
 {
     match words {
@@ -176,7 +176,7 @@ where
     W: Write,
     E: Write,
     ensures { (outcome : _) × (errors_between : _)
-        × StartsProgram R.remaining words.now reader.old (W.contents writer.old) (W.contents writer.new)
+        × StartsProgram N R.remaining words.now reader.old (W.contents writer.old) (W.contents writer.new)
         (E.contents errors.old) errors_between outcome
         × EndsAs outcome errors_between (E.contents errors.new) result }
 {

@@ -86,7 +86,7 @@ where
     R: BufRead,
     W: Write,
     E: Write,
-    ensures { AsksKeyed (ask_values order.entry) (texts_of texts.entry) (R.remaining reader.old) (W.contents writer.old) (W.contents writer.new)
+    ensures { AsksKeyed N (ask_values order.entry) (texts_of texts.entry) (R.remaining reader.old) (W.contents writer.old) (W.contents writer.new)
         (E.contents errors.old) (E.contents errors.new) result }
 {
     if let Some(line) = wrong_line(&order, &texts) {
@@ -116,7 +116,7 @@ where
     R: BufRead,
     W: Write,
     E: Write,
-    ensures { AsksFrom (ask_values order.entry) (texts_of texts.entry) (R.remaining reader.old) (W.contents writer.old) (W.contents writer.new)
+    ensures { AsksFrom N (ask_values order.entry) (texts_of texts.entry) (R.remaining reader.old) (W.contents writer.old) (W.contents writer.new)
         (E.contents errors.old) (E.contents errors.new) result }
 {
     let public = match keys_at(alloc, system, KeysKind::Public, texts.provider, errors) {

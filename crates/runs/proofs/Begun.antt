@@ -15,7 +15,7 @@ use Rattle.monitor.specs.Monitors.{Monitor}
 use Rattle.runs.specs.Owning.{Owns}
 use Rattle.runs.specs.Remembering.{AreWithin}
 use Rattle.runs.specs.Runs.{background_of, new_background, Background, IsSoundFor, KeepsAll}
-use Rattle.runs.specs.Saves.{noting, stored_nothing, Act, AreEarlier, Found, HasOneOfEachName, IsAsked, IsAskedChange, IsHeadEpoch, IsOwnPromise, Loads, WasOwn}
+use Rattle.runs.specs.Saves.{noting, stored_nothing, Act, AreEarlier, Found, HasOneOfEachName, IsAsked, IsAskedChange, IsDropped, IsHeadEpoch, IsOwnPromise, Loads, WasOwn}
 use Rattle.runs.specs.Standing.{standing, Fits, HasBegun, HasFailed, HasLoaded, HasNoChanges, IsCurrent, IsFresh, IsInStep, IsKept, IsLeft, IsReady, RunStands, Stands}
 use Rattle.wire.specs.Frames.{Frame}
 use Rattle.wire.specs.Requests.{RequestContent}
@@ -88,8 +88,8 @@ module _ (hash : List ℕ → List ℕ) (accepted verified : List ℕ → List �
     whole = whole;
     spells = spells;
     ahead = refl;
-    now = loads-kept hash accepted (IsAsked lines) (IsOwnPromise verified key lines start.known) (IsAskedChange lines) start [] start.roots refl;
-    next = loads-kept hash accepted (IsAsked lines) (IsOwnPromise verified key lines start.known) (IsAskedChange lines) start [] start.roots refl;
+    now = loads-kept hash accepted (IsAsked lines) (IsOwnPromise verified key lines start.known) (IsAskedChange lines) (IsDropped None) start [] start.roots refl;
+    next = loads-kept hash accepted (IsAsked lines) (IsOwnPromise verified key lines start.known) (IsAskedChange lines) (IsDropped None) start [] start.roots refl;
     early = λ mark has root among above below. among;
     low-start = fits;
     low = fits;

@@ -476,10 +476,10 @@ module _ (hash : List ℕ → List ℕ) (accepted verified : List ℕ → List �
 
 -- ---- a socket
 
-pub over_socket : (order : AskOrder) (key token : List ℕ) (socket socket' : Connection) (input old new : Option (List ℕ)) (ended : RunEnd) → ask_keys_of (ask_values order) ≡ Some (key, token)
-    → RunsAs sha256 KeyedAccepts KeyedVerifies (ExchangesFrames {T = Connection} (λ _. None) (λ _. None)) key token (ask_values order) (order.state ≡ None) socket socket' input ended old new
-    → AsksOverSocket (ask_values order) input (end_status ended) old new
-over_socket order key token socket socket' input old new ended are run =
+pub over_socket : {Clock : Type 0} (order : AskOrder) (key token : List ℕ) (socket socket' : Connection Clock) (input old new : Option (List ℕ)) (ended : RunEnd) → ask_keys_of (ask_values order) ≡ Some (key, token)
+    → RunsAs sha256 KeyedAccepts KeyedVerifies (ExchangesFrames {T = Connection Clock} (λ _. None) (λ _. None)) key token (ask_values order) (order.state ≡ None) socket socket' input ended old new
+    → AsksOverSocket Clock (ask_values order) input (end_status ended) old new
+over_socket {Clock} order key token socket socket' input old new ended are run =
     inr (
       key,
       token,
@@ -488,26 +488,26 @@ over_socket order key token socket socket' input old new ended are run =
       socket',
       ended,
       refl,
-      runs_with sha256 KeyedAccepts KeyedVerifies (ExchangesFrames {T = Connection} (λ _. None) (λ _. None)) key token (ask_values order) (order.state ≡ None) ((ask_values order).state ≡ None)
+      runs_with sha256 KeyedAccepts KeyedVerifies (ExchangesFrames {T = Connection Clock} (λ _. None) (λ _. None)) key token (ask_values order) (order.state ≡ None) ((ask_values order).state ≡ None)
           (none_before (λ text. text.now) order.state) (λ none. ap (λ (state : Option (Bor (List ℕ))). option_map (λ text. text.now) state) none) socket socket' input old new ended run,
     )
 
-pub fails_over_socket : (order : AskOrder) (key token : List ℕ) (socket : Connection) (input : Option (List ℕ)) (fault : ProgramFault) (old new : Option (List ℕ)) → ask_keys_of (ask_values order) ≡ Some (key, token)
-    → FailsAs sha256 KeyedAccepts KeyedVerifies (ExchangesFrames {T = Connection} (λ _. None) (λ _. None)) key token (ask_values order) (order.state ≡ None) socket input fault old new
-    → FailsOverSocket (ask_values order) input fault old new
-fails_over_socket order key token socket input fault old new are run =
+pub fails_over_socket : {Clock : Type 0} (order : AskOrder) (key token : List ℕ) (socket : Connection Clock) (input : Option (List ℕ)) (fault : ProgramFault) (old new : Option (List ℕ)) → ask_keys_of (ask_values order) ≡ Some (key, token)
+    → FailsAs sha256 KeyedAccepts KeyedVerifies (ExchangesFrames {T = Connection Clock} (λ _. None) (λ _. None)) key token (ask_values order) (order.state ≡ None) socket input fault old new
+    → FailsOverSocket Clock (ask_values order) input fault old new
+fails_over_socket {Clock} order key token socket input fault old new are run =
     inr (inr (
       key,
       token,
       are,
       socket,
-      fails_with sha256 KeyedAccepts KeyedVerifies (ExchangesFrames {T = Connection} (λ _. None) (λ _. None)) key token (ask_values order) (order.state ≡ None) ((ask_values order).state ≡ None)
+      fails_with sha256 KeyedAccepts KeyedVerifies (ExchangesFrames {T = Connection Clock} (λ _. None) (λ _. None)) key token (ask_values order) (order.state ≡ None) ((ask_values order).state ≡ None)
           (none_before (λ text. text.now) order.state) (λ none. ap (λ (state : Option (Bor (List ℕ))). option_map (λ text. text.now) state) none) socket input fault old new run,
     ))
 
-pub unwritten : (options : AskOptions) (input : Option (List ℕ)) (fault : ProgramFault) (old : Option (List ℕ)) → FailsOverSocket options input fault old old
-unwritten options input fault old = inl (Keeps-refl old)
+pub unwritten : (Clock : Type 0) (options : AskOptions) (input : Option (List ℕ)) (fault : ProgramFault) (old : Option (List ℕ)) → FailsOverSocket Clock options input fault old old
+unwritten Clock options input fault old = inl (Keeps-refl old)
 
-pub unwritten_fails : {A : Type 0} (options : AskOptions) (input old : Option (List ℕ)) (result : Result A ProgramFault) → IfErr result (λ fault. FailsOverSocket options input fault old old)
-unwritten_fails options input old (Ok done) = tt
-unwritten_fails options input old (Err fault) = unwritten options input fault old
+pub unwritten_fails : {A : Type 0} (Clock : Type 0) (options : AskOptions) (input old : Option (List ℕ)) (result : Result A ProgramFault) → IfErr result (λ fault. FailsOverSocket Clock options input fault old old)
+unwritten_fails Clock options input old (Ok done) = tt
+unwritten_fails Clock options input old (Err fault) = unwritten Clock options input fault old

@@ -5,6 +5,7 @@ use Rattle.std.proofs.lemmas.List.Elements.{All-contains, All-from_recursion, Co
 use Rattle.rootchain.specs.declared.signed_promise.SignedPromise.{SignedPromise}
 use Rattle.rootchain.specs.declared.signed_root.SignedRoot.{SignedRoot}
 use Rattle.memory.specs.Memories.{Memory}
+use Rattle.memory.specs.declared.alarm.Alarm.{Alarm}
 use Rattle.memory.specs.declared.mark.Mark.{Mark}
 use Rattle.runs.specs.Saves.{with_promises, Counts, Found, HasMark, IsOwnAhead, KeepsTold, WasOwn, WasStored}
 use Rattle.runs.specs.Told.{TellsEpoch}
@@ -16,9 +17,9 @@ none-new : (mark : Mark) (bound epoch : ℕ) → (mark.epoch ≤ mark.since) ⊎
 none-new mark bound epoch (inl none) new above below = omega (arith, none, above, below)
 none-new mark bound epoch (inr low) new above below = omega (arith, low, new, below)
 
-module _ (hash : List ℕ → List ℕ) (accepted : List ℕ → List ℕ → List ℕ → Type 0) (Given : List ℕ → Option (List ℕ) → Type 0) (Own Asked : SignedPromise → Type 0) where
+module _ (hash : List ℕ → List ℕ) (accepted : List ℕ → List ℕ → List ℕ → Type 0) (Given : List ℕ → Option (List ℕ) → Type 0) (Own Asked : SignedPromise → Type 0) (Drops : List ℕ → Type 0) where
   abbrev Keeps : Found → List ℕ → Found → Type 0
-  Keeps = KeepsTold hash accepted Given Own Asked
+  Keeps = KeepsTold hash accepted Given Own Asked Drops
 
   -- What is told of a root or was watched before, where promises count that were remembered before or are.
   abbrev pub IsToldOrStored : Found → Memory → List ℕ → List ℕ → SignedRoot → Type 0
@@ -49,24 +50,29 @@ module _ (hash : List ℕ → List ℕ) (accepted : List ℕ → List ℕ → Li
       → ((mark : Mark) → Contains known.marks mark → (root : SignedRoot) → Contains roots root → mark.since < root.body.epoch → root.body.epoch ≤ mark.epoch → IsToldOrStored start known text mark.name root)
       → ((signed : SignedPromise) → WasOwn known signed → WasOwn start.known signed ⊎ Asked signed)
       → ((signed : SignedPromise) → WasOwn start.known signed → WasOwn known signed)
-      → KeepsTold hash accepted Given Own Asked start text (record { roots = roots; known = known })
-  keeps-told start text roots more known grown stays told own still = record { grows = (more, grown); stays = stays; told = told; own = own; awaits = λ signed was awaited. still signed was }
+      → ((alarm : Alarm) → Contains start.known.alarms alarm → Contains known.alarms alarm ⊎ Drops alarm.name)
+      → ((line : List ℕ) → Contains start.known.evidence line → Contains known.evidence line)
+      → KeepsTold hash accepted Given Own Asked Drops start text (record { roots = roots; known = known })
+  keeps-told start text roots more known grown stays told own still alarms evidence =
+      record { grows = (more, grown); stays = stays; told = told; own = own; awaits = λ signed was awaited. still signed was; alarms = alarms; evidence = evidence }
 
   -- what a run loads is so at once
-  pub loads-kept : (start : Found) (text : List ℕ) (roots : List SignedRoot) → roots ≡ start.roots → KeepsTold hash accepted Given Own Asked start text (record { roots = roots; known = start.known })
+  pub loads-kept : (start : Found) (text : List ℕ) (roots : List SignedRoot) → roots ≡ start.roots → KeepsTold hash accepted Given Own Asked Drops start text (record { roots = roots; known = start.known })
   loads-kept start text roots same = record {
     grows = ([], same ∙ sym (append-nil start.roots));
     stays = λ old has. (old, has, refl, omega arith, λ root among low. low);
     told = λ mark has root among above below. inr (subst (λ (rs : List SignedRoot). Contains rs root) same among, (mark, has, refl, above, below));
     own = λ signed was. inl was;
     awaits = λ signed was awaited. was;
+    alarms = λ alarm has. inl has;
+    evidence = λ line has. has;
   }
 
-  module _ (start : Found) (text : List ℕ) (stored : Found) (keeps : KeepsTold hash accepted Given Own Asked start text stored) where
+  module _ (start : Found) (text : List ℕ) (stored : Found) (keeps : KeepsTold hash accepted Given Own Asked Drops start text stored) where
     -- new roots are of later epochs than the marks
     pub adds-roots-kept : (more : List SignedRoot) (bound : ℕ) → AllByRecursion (λ (root : SignedRoot). bound < root.body.epoch) more
         → ((mark : Mark) → Contains stored.known.marks mark → (mark.epoch ≤ mark.since) ⊎ (mark.epoch ≤ bound))
-        → KeepsTold hash accepted Given Own Asked start text (record { roots = stored.roots ++ more; known = stored.known })
+        → KeepsTold hash accepted Given Own Asked Drops start text (record { roots = stored.roots ++ more; known = stored.known })
     adds-roots-kept more bound new low = record {
       grows = (keeps.grows.0 ++ more, ap (λ (rs : List SignedRoot). rs ++ more) keeps.grows.1 ∙ append_assoc start.roots keeps.grows.0 more);
       stays = keeps.stays;
@@ -78,6 +84,8 @@ module _ (hash : List ℕ → List ℕ) (accepted : List ℕ → List ℕ → Li
       ];
       own = keeps.own;
       awaits = keeps.awaits;
+      alarms = keeps.alarms;
+      evidence = keeps.evidence;
     }
 
     -- new marks are of nothing watched, and no mark is above a promise that is new
@@ -86,8 +94,10 @@ module _ (hash : List ℕ → List ℕ) (accepted : List ℕ → List ℕ → Li
         → ((signed : SignedPromise) → WasOwn known signed → WasOwn start.known signed ⊎ Asked signed)
         → ((signed : SignedPromise) → WasOwn start.known signed → WasOwn known signed)
         → ((signed : SignedPromise) → WasOwn known signed → WasOwn stored.known signed ⊎ ((mark : Mark) → Contains stored.known.marks mark → (mark.epoch ≤ mark.since) ⊎ (mark.epoch ≤ signed.promise.epoch)))
-        → KeepsTold hash accepted Given Own Asked start text (record { roots = stored.roots; known = known })
-    remembers-kept known from stays own still late = record {
+        → ((alarm : Alarm) → Contains stored.known.alarms alarm → Contains known.alarms alarm)
+        → ((line : List ℕ) → Contains stored.known.evidence line → Contains known.evidence line)
+        → KeepsTold hash accepted Given Own Asked Drops start text (record { roots = stored.roots; known = known })
+    remembers-kept known from stays own still late alarms evidence = record {
       grows = keeps.grows;
       stays = stays;
       told = λ mark has root among above below. elim (from mark has) [
@@ -100,14 +110,37 @@ module _ (hash : List ℕ → List ℕ) (accepted : List ℕ → List ℕ → Li
       ];
       own = own;
       awaits = λ signed was awaited. still signed was;
+      alarms = λ alarm has. elim (keeps.alarms alarm has) [
+        | inl there ↦ inl (alarms alarm there)
+        | inr dropped ↦ inr dropped
+      ];
+      evidence = λ line has. evidence line (keeps.evidence line has);
     }
 
     -- more is written
-    pub text-kept : (more : List ℕ) → KeepsTold hash accepted Given Own Asked start (text ++ more) stored
+    pub text-kept : (more : List ℕ) → KeepsTold hash accepted Given Own Asked Drops start (text ++ more) stored
     text-kept more = record {
       grows = keeps.grows;
       stays = keeps.stays;
       told = λ mark has root among above below. told-more start stored.known text more mark.name root (keeps.told mark has root among above below);
       own = keeps.own;
       awaits = keeps.awaits;
+      alarms = keeps.alarms;
+      evidence = keeps.evidence;
     }
+
+-- what keeps the alarms of all names keeps all told whatever name is settled
+pub settling-kept : (hash : List ℕ → List ℕ) (accepted : List ℕ → List ℕ → List ℕ → Type 0) (Given : List ℕ → Option (List ℕ) → Type 0) (Own Asked : SignedPromise → Type 0) (Drops Drops' : List ℕ → Type 0) (start : Found) (text : List ℕ) (stored : Found)
+    → ((name : List ℕ) → Drops name → Drops' name) → KeepsTold hash accepted Given Own Asked Drops start text stored → KeepsTold hash accepted Given Own Asked Drops' start text stored
+settling-kept hash accepted Given Own Asked Drops Drops' start text stored more keeps = record {
+  grows = keeps.grows;
+  stays = keeps.stays;
+  told = keeps.told;
+  own = keeps.own;
+  awaits = keeps.awaits;
+  alarms = λ alarm has. elim (keeps.alarms alarm has) [
+    | inl there ↦ inl there
+    | inr dropped ↦ inr (more alarm.name dropped)
+  ];
+  evidence = keeps.evidence;
+}

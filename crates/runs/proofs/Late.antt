@@ -374,5 +374,5 @@ fails_unasked hash accepted verified exchanged key token options HasNoState stre
 fails_unasked hash accepted verified exchanged key token options HasNoState stream input old (Err fault) is = (emptied 0, old, (omega arith, inl (Appends-nil old)), inl (inl refl, refl, inl (inl is)))
 
 -- and nothing happened to what is kept
-pub leaves_unasked : (hash : List ℕ → List ℕ) (accepted verified : List ℕ → List ℕ → List ℕ → Type 0) (lines : Option (List (List ℕ))) (key old : List ℕ) (Has : List Act → Type 0) (acts : List Act) → Has acts → LeavesTold hash accepted verified lines key old (λ done. Has (done ++ acts))
-leaves_unasked hash accepted verified lines key old Has acts has = ([], has, inl refl)
+pub leaves_unasked : (hash : List ℕ → List ℕ) (accepted verified : List ℕ → List ℕ → List ℕ → Type 0) (lines : Option (List (List ℕ))) (settled : Option (List ℕ)) (key old : List ℕ) (Has : List Act → Type 0) (acts : List Act) → Has acts → LeavesTold hash accepted verified lines settled key old (λ done. Has (done ++ acts))
+leaves_unasked hash accepted verified lines settled key old Has acts has = ([], has, inl refl)

@@ -44,5 +44,6 @@ pub mod EveryStep
 pub mod Settled
 pub mod Shifted
 pub mod Standing
+pub mod Staying
 pub mod Stood
 pub mod Written

@@ -101,7 +101,7 @@ module _ {T : Type 0} (hash : List ℕ → List ℕ) (accepted verified : List �
     | inr (loaded, (tested, left, leaves, has)) ↦
         let lines = lines_asked options.words input in
         let spells = left-spelled (stored_after kept.acts).text kept.saved state.memory left [] tested kept.spells kept.ahead leaves in
-        let told = left-told hash accepted verified lines key old Before After acts out' start kept.text (stored_after kept.acts).roots state.memory left tested leaves kept.next in (
+        let told = left-told hash accepted verified lines key old Before After acts out' None start kept.text (stored_after kept.acts).roots state.memory left tested leaves kept.next in (
           run,
           (
             Writes (memory_text left) out' ∷ kept.acts,
@@ -158,17 +158,17 @@ module _ {T : Type 0} (hash : List ℕ → List ℕ) (accepted verified : List �
 
 -- ---- over runs
 
-module _ (hash : List ℕ → List ℕ) (accepted : List ℕ → List ℕ → List ℕ → Type 0) {X : Type 0} (Given : X → List ℕ → Option (List ℕ) → Type 0) (Own : X → Memory → SignedPromise → Type 0) (Asked : X → SignedPromise → Type 0) where
+module _ (hash : List ℕ → List ℕ) (accepted : List ℕ → List ℕ → List ℕ → Type 0) {X : Type 0} (Given : X → List ℕ → Option (List ℕ) → Type 0) (Own : X → Memory → SignedPromise → Type 0) (Asked : X → SignedPromise → Type 0) (Drops : X → List ℕ → Type 0) where
   -- from the first root of a monitor on, each was told, or is still to be watched
-  pub watched-over-runs : (first : Stored) (later earlier : List (StateRun X)) (run : StateRun X) (monitors : List Monitor) → AllRun hash accepted Given Own Asked first (later ++ run ∷ earlier) → StoresMarks (stored_after run.left) monitors
+  pub watched-over-runs : (first : Stored) (later earlier : List (StateRun X)) (run : StateRun X) (monitors : List Monitor) → AllRun hash accepted Given Own Asked Drops first (later ++ run ∷ earlier) → StoresMarks (stored_after run.left) monitors
       → (known : Memory) → Spells (left_by first (later ++ run ∷ earlier)).text (Ok known) → (monitor : Monitor) → Contains monitors monitor → (root : SignedRoot) → Contains (left_by first (later ++ run ∷ earlier)).roots root → IsFrom monitor root
       → WasTold hash accepted Given Own first (later ++ run ∷ earlier) monitor.name root ⊎ IsToWatch known.marks monitor.name root
   watched-over-runs first later earlier run monitors all (was, spells, have) known spelled monitor among root there (begin, at, from) =
       let (mark, has, named, low) = all-has (HasMarkOf was.marks) monitors monitor have among in
-      let (now, still, alike, less, far) = marks-over-runs hash accepted Given Own Asked first later (run ∷ earlier) all was known spells spelled mark has in
+      let (now, still, alike, less, far) = marks-over-runs hash accepted Given Own Asked Drops first later (run ∷ earlier) all was known spells spelled mark has in
       let above = low begin at in
       elim (cases_lt now.epoch root.body.epoch) [
         | inl left ↦ inr (now, still, alike ∙ named, left)
         | inr below ↦ inl (subst (λ (name : List ℕ). WasTold hash accepted Given Own first (later ++ run ∷ earlier) name root) (alike ∙ named)
-            (told-over-runs hash accepted Given Own Asked first (later ++ run ∷ earlier) all known spelled now still root there (omega (arith, above, less, from)) below))
+            (told-over-runs hash accepted Given Own Asked Drops first (later ++ run ∷ earlier) all known spelled now still root there (omega (arith, above, less, from)) below))
       ]

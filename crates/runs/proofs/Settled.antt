@@ -22,13 +22,13 @@ use Rattle.runs.proofs.Ran.{after_none}
 
 -- a run of `ask` that settles a name
 module _ (options : AskOptions) (input : Option (List ℕ)) (name : List ℕ) (is : IsSettling options name) (old new : Option (List ℕ)) where
-  pub settled_runs : {E : Type 0} (result : Result ℕ E) → IfOk result (λ status. Settles name status old new) → IfOk result (λ status. AsksOverSocket options input status old new)
-  settled_runs (Ok status) settles = inl (name, is, settles)
-  settled_runs (Err why) settles = tt
+  pub settled_runs : (Clock : Type 0) {E : Type 0} (result : Result ℕ E) → IfOk result (λ status. Settles name status old new) → IfOk result (λ status. AsksOverSocket Clock options input status old new)
+  settled_runs Clock (Ok status) settles = inl (name, is, settles)
+  settled_runs Clock (Err why) settles = tt
 
-  pub settled_fails : {A : Type 0} (result : Result A ProgramFault) → OnErr result (SettlesPart name old new) → IfErr result (λ fault. FailsOverSocket options input fault old new)
-  settled_fails (Ok done) part = tt
-  settled_fails (Err why) part = inr (inl (name, is, part))
+  pub settled_fails : (Clock : Type 0) {A : Type 0} (result : Result A ProgramFault) → OnErr result (SettlesPart name old new) → IfErr result (λ fault. FailsOverSocket Clock options input fault old new)
+  settled_fails Clock (Ok done) part = tt
+  settled_fails Clock (Err why) part = inr (inl (name, is, part))
 
   pub settled_faults : {A : Type 0} (result : Result A ProgramFault) → IfErr result IsFaultOfState → IfErr result (IsRunFault options input)
   settled_faults (Ok done) fault = tt

@@ -1,5 +1,5 @@
 -- How what a run keeps stays told, act by act.
-use Rattle.std.proofs.Common.{◌≡◌, ◌∙◌, ◌⊎◌, ℕ, suc, ◌<◌, ◌≤◌, Bool, true, false, List, [], ◌∷◌, ◌++◌, map, Contains, Option, Some, Ok, ap, append-nil, append_assoc, arith, inl, inr, refl, subst, sym}
+use Rattle.std.proofs.Common.{◌≡◌, ◌∙◌, ◌⊎◌, ℕ, suc, ◌<◌, ◌≤◌, Bool, true, false, List, [], ◌∷◌, ◌++◌, map, Contains, Option, None, Some, Ok, ap, append-nil, append_assoc, arith, inl, inr, refl, subst, sym}
 use Rattle.std.specs.Prelude.{if◌then◌else◌, nat_lt}
 use Rattle.std.specs.List.{AllByRecursion}
 use Rattle.std.proofs.lemmas.Bool.{ltb-true}
@@ -16,12 +16,13 @@ use Rattle.memory.proofs.Taken.{taken-append, unchanged-taken}
 use Rattle.memory.proofs.WholeLines.{spells-more, whole-more}
 use Rattle.monitor.specs.Monitors.{Monitor}
 use Rattle.runs.specs.Owning.{IsHeld, IsOwn, Owns, WasWatched}
-use Rattle.runs.specs.Saves.{found_in, own_promised, roots_above, stored_after, with_promises, noting, Act, AddsLines, AddsRoots, Counts, Found, IsAsked, IsAskedChange, IsAsFar, IsOwnAhead, IsOwnPromise, KeepsTold, WasOwn, WasStored}
+use Rattle.runs.specs.Saves.{found_in, own_promised, roots_above, stored_after, with_promises, noting, Act, AddsLines, AddsRoots, Counts, Found, IsAsked, IsAskedChange, IsAsFar, IsDropped, IsOwnAhead, IsOwnPromise, KeepsTold, WasOwn, WasStored}
 use Rattle.asking.specs.Scenes.{Scene}
 use Rattle.runs.specs.Standing.{standing, AddsOwn, Fits, IsKept, IsUpTo, KeepsMarks, Stands}
 use Rattle.runs.proofs.HeldMarks.{begun-held, moved-far, moved-held}
 use Rattle.runs.proofs.KeptTold.{adds-roots-kept, keeps-told, remembers-kept, text-kept, IsToldOrStored}
 use Rattle.runs.proofs.Noting.{noted-was, same-own, taken-own, tells-counted, was-cases, was-more}
+use Rattle.runs.proofs.Staying.{taken-alarms, taken-evidence}
 use Rattle.runs.proofs.PutMarks.{begun-marks, moved-once, moved-stays, EachPuts, IsBegun, IsMoved}
 
 -- ---- roots above an epoch
@@ -87,7 +88,7 @@ unchanged-adds changes before after same signed (promised, has, this, own) = inl
 
 module _ (hash : List ℕ → List ℕ) (accepted verified : List ℕ → List ℕ → List ℕ → Type 0) (lines : Option (List (List ℕ))) (key : List ℕ) (start : Found) (old : List ℕ) where
   abbrev Told : List ℕ → Found → Type 0
-  Told = KeepsTold hash accepted (IsAsked lines) (IsOwnPromise verified key lines start.known) (IsAskedChange lines) start
+  Told = KeepsTold hash accepted (IsAsked lines) (IsOwnPromise verified key lines start.known) (IsAskedChange lines) (IsDropped None) start
 
   module _ (Happened : List Act → Type 0) (epoch : ℕ) (known : Memory) (unsaved : List Item) (out : Option (List ℕ)) (kept : IsKept hash accepted verified lines key start old Happened epoch known unsaved out) where
     -- what was the owner's own is
@@ -108,11 +109,11 @@ module _ (hash : List ℕ → List ℕ) (accepted verified : List ℕ → List �
       spells = kept.spells;
       ahead = taken-append unsaved news kept.saved known known' kept.ahead takes;
       now = kept.now;
-      next = remembers-kept hash accepted (IsAsked lines) (IsOwnPromise verified key lines start.known) (IsAskedChange lines) start kept.text (found_in (stored_after kept.acts) known) kept.next known' marks.known
+      next = remembers-kept hash accepted (IsAsked lines) (IsOwnPromise verified key lines start.known) (IsAskedChange lines) (IsDropped None) start kept.text (found_in (stored_after kept.acts) known) kept.next known' marks.known
           (λ mark has. let (one, there, named, low, far) = kept.next.stays mark has in (one, marks.still one there, named, low, far))
           (asked-then lines start.known known known' own kept.next.own)
           (λ signed was. taken-own news known known' takes signed (still-known signed was))
-          (late-then lines start.known known known' own);
+          (late-then lines start.known known known' own) (taken-alarms news known known' takes) (taken-evidence news known known' takes);
       early = kept.early;
       low-start = kept.low-start;
       low = kept.low;
@@ -137,8 +138,8 @@ module _ (hash : List ℕ → List ℕ) (accepted verified : List ℕ → List �
       whole = kept.whole;
       spells = kept.spells;
       ahead = kept.ahead;
-      now = text-kept hash accepted (IsAsked lines) (IsOwnPromise verified key lines start.known) (IsAskedChange lines) start kept.text (found_in (stored_after kept.acts) kept.saved) kept.now more;
-      next = text-kept hash accepted (IsAsked lines) (IsOwnPromise verified key lines start.known) (IsAskedChange lines) start kept.text (found_in (stored_after kept.acts) known) kept.next more;
+      now = text-kept hash accepted (IsAsked lines) (IsOwnPromise verified key lines start.known) (IsAskedChange lines) (IsDropped None) start kept.text (found_in (stored_after kept.acts) kept.saved) kept.now more;
+      next = text-kept hash accepted (IsAsked lines) (IsOwnPromise verified key lines start.known) (IsAskedChange lines) (IsDropped None) start kept.text (found_in (stored_after kept.acts) known) kept.next more;
       early = kept.early;
       low-start = kept.low-start;
       low = kept.low;
@@ -150,7 +151,7 @@ module _ (hash : List ℕ → List ℕ) (accepted verified : List ℕ → List �
     -- roots are added
     module _ (Happened' : List Act → Type 0) (epoch' : ℕ) (roots : List SignedRoot) (up : epoch ≤ epoch') (goes : (acts : List Act) → Happened acts → Happened' (AddsRoots (roots_above epoch roots) out ∷ acts)) where
       pub adds : Told kept.text (record { roots = (stored_after kept.acts).roots ++ roots_above epoch roots; known = kept.saved })
-      adds = adds-roots-kept hash accepted (IsAsked lines) (IsOwnPromise verified key lines start.known) (IsAskedChange lines) start kept.text (found_in (stored_after kept.acts) kept.saved) kept.now (roots_above epoch roots) epoch (above-all epoch roots) kept.low
+      adds = adds-roots-kept hash accepted (IsAsked lines) (IsOwnPromise verified key lines start.known) (IsAskedChange lines) (IsDropped None) start kept.text (found_in (stored_after kept.acts) kept.saved) kept.now (roots_above epoch roots) epoch (above-all epoch roots) kept.low
 
       pub early-still : (mark : Mark) → Contains start.known.marks mark → (root : SignedRoot) → Contains ((stored_after kept.acts).roots ++ roots_above epoch roots) root → mark.since < root.body.epoch → root.body.epoch ≤ mark.epoch → Contains start.roots root
       early-still mark has root among above below = elim (Contains-append_cases (stored_after kept.acts).roots (roots_above epoch roots) root among) [
@@ -171,7 +172,7 @@ module _ (hash : List ℕ → List ℕ) (accepted verified : List ℕ → List �
         spells = kept.spells;
         ahead = kept.ahead;
         now = adds;
-        next = adds-roots-kept hash accepted (IsAsked lines) (IsOwnPromise verified key lines start.known) (IsAskedChange lines) start kept.text (found_in (stored_after kept.acts) known) kept.next
+        next = adds-roots-kept hash accepted (IsAsked lines) (IsOwnPromise verified key lines start.known) (IsAskedChange lines) (IsDropped None) start kept.text (found_in (stored_after kept.acts) known) kept.next
             (roots_above epoch roots) epoch (above-all epoch roots) kept.low-next;
         early = early-still;
         low-start = fits-up epoch epoch' start.known up kept.low-start;
@@ -334,7 +335,7 @@ module _ (hash : List ℕ → List ℕ) (accepted verified : List ℕ → List �
     own-so signed (promised, has, this, own) = stands.own signed (promised, subst (λ (all : List Promised). Contains all promised) same has, this, own)
 
     told-so : (mark : Mark) → Contains known'.marks mark → (root : SignedRoot) → Contains (stored_after stands.kept.acts).roots root → mark.since < root.body.epoch → root.body.epoch ≤ mark.epoch
-        → IsToldOrStored hash accepted (IsAsked lines) (IsOwnPromise verified key lines start.known) (IsAskedChange lines) start known' text mark.name root
+        → IsToldOrStored hash accepted (IsAsked lines) (IsOwnPromise verified key lines start.known) (IsAskedChange lines) (IsDropped None) start known' text mark.name root
     told-so mark has root among above below =
         elim ((held mark has).told root (all-in (Contains client.chain.roots) (stored_after stands.kept.acts).roots root stands.owns.stores among) above below) [
           | inl tells ↦ inl (tells-counted (IsAsked lines) (IsOwnAhead (IsOwnPromise verified key lines start.known) start.known) (Counts (noting start.known noted)) (Counts (with_promises start.known known'.promises)) mark.name hash accepted text root
@@ -373,10 +374,14 @@ module _ (hash : List ℕ → List ℕ) (accepted verified : List ℕ → List �
         spells = kept.spells;
         ahead = taken-append unsaved news kept.saved known known' kept.ahead takes;
         now = kept.now;
-        next = keeps-told hash accepted (IsAsked lines) (IsOwnPromise verified key lines start.known) (IsAskedChange lines) start text (stored_after kept.acts).roots kept.next.grows.0 known' kept.next.grows.1
+        next = keeps-told hash accepted (IsAsked lines) (IsOwnPromise verified key lines start.known) (IsAskedChange lines) (IsDropped None) start text (stored_after kept.acts).roots kept.next.grows.0 known' kept.next.grows.1
             (moved-stays monitors some start.roots start.known.marks known.marks known'.marks puts kept.once far-so kept.next.stays) told-so
             (asked-then lines start.known known known' (unchanged-own lines start.known known known' same) kept.next.own)
-            (λ signed was. same-own known known' same signed (still-known Happened epoch known unsaved out kept signed was));
+            (λ signed was. same-own known known' same signed (still-known Happened epoch known unsaved out kept signed was))
+            (λ alarm has. elim (kept.next.alarms alarm has) [
+              | inl there ↦ inl (taken-alarms news known known' takes alarm there)
+              | inr dropped ↦ inr dropped
+            ]) (λ line has. taken-evidence news known known' takes line (kept.next.evidence line has));
         early = kept.early;
         low-start = kept.low-start;
         low = kept.low;

@@ -234,16 +234,16 @@ module _ (hash : List ℕ → List ℕ) (accepted verified : List ℕ → List �
   RunsAs key token options HasNoState stream stream' input (Stale epoch) old new = EndsStale key token options HasNoState stream stream' input epoch old (λ now. Appends now new (stale_line epoch))
 
 -- A run over a connection, of which definitions know neither whether it came about, nor what it took or will give: a name is
--- settled, and nothing is asked; or the run is one for some frames that came.
-abbrev pub AsksOverSocket : AskOptions → Option (List ℕ) → ℕ → Option (List ℕ) → Option (List ℕ) → Type 0
-AsksOverSocket options input status old new = ((name : List ℕ) × IsSettling options name × Settles name status old new)
-    ⊎ ((key token : List ℕ) × (ask_keys_of options ≡ Some (key, token)) × (socket socket' : Connection) × (ended : RunEnd) × (status ≡ end_status ended)
-    × RunsAs sha256 KeyedAccepts KeyedVerifies (ExchangesFrames {T = Connection} (λ _. None) (λ _. None)) key token options (options.state ≡ None) socket socket' input ended old new)
+-- settled, and nothing is asked; or the run is one for some frames that came. The connection is timed by a clock of this type.
+abbrev pub AsksOverSocket : Type 0 → AskOptions → Option (List ℕ) → ℕ → Option (List ℕ) → Option (List ℕ) → Type 0
+AsksOverSocket Clock options input status old new = ((name : List ℕ) × IsSettling options name × Settles name status old new)
+    ⊎ ((key token : List ℕ) × (ask_keys_of options ≡ Some (key, token)) × (socket socket' : Connection Clock) × (ended : RunEnd) × (status ≡ end_status ended)
+    × RunsAs sha256 KeyedAccepts KeyedVerifies (ExchangesFrames {T = Connection Clock} (λ _. None) (λ _. None)) key token options (options.state ≡ None) socket socket' input ended old new)
 
 -- one that ends with a fault: nothing is written, or some of what settling a name tells, or the run is one for some
 -- frames that came
-abbrev pub FailsOverSocket : AskOptions → Option (List ℕ) → ProgramFault → Option (List ℕ) → Option (List ℕ) → Type 0
-FailsOverSocket options input fault old new = Keeps old new
+abbrev pub FailsOverSocket : Type 0 → AskOptions → Option (List ℕ) → ProgramFault → Option (List ℕ) → Option (List ℕ) → Type 0
+FailsOverSocket Clock options input fault old new = Keeps old new
     ⊎ (((name : List ℕ) × IsSettling options name × SettlesPart name old new)
-    ⊎ ((key token : List ℕ) × (ask_keys_of options ≡ Some (key, token)) × (socket : Connection)
-    × FailsAs sha256 KeyedAccepts KeyedVerifies (ExchangesFrames {T = Connection} (λ _. None) (λ _. None)) key token options (options.state ≡ None) socket input fault old new))
+    ⊎ ((key token : List ℕ) × (ask_keys_of options ≡ Some (key, token)) × (socket : Connection Clock)
+    × FailsAs sha256 KeyedAccepts KeyedVerifies (ExchangesFrames {T = Connection Clock} (λ _. None) (λ _. None)) key token options (options.state ≡ None) socket input fault old new))

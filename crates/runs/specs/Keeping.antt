@@ -80,8 +80,7 @@ IsKeptUp (Ok done) = ⊤
 IsKeptUp (Err (run.Ask fault)) = fault ≢ OutOfMemory
 IsKeptUp (Err (run.Program fault)) = ¬ IsFaultOfSaving fault
 
--- What is known to be still kept by the client: nothing, or just these promises. These are only where they are not as many as
--- the state counted, and the state was kept up.
+-- What is known to be still kept by the client: nothing, or just these promises, where the state was kept up.
 abbrev pub IsStillKept : {A : Type 0} → Option State → List SignedPromise → Result A RunFault → Option (List SignedPromise) → Type 0
 IsStillKept None promises asked kept = kept ≡ None
-IsStillKept (Some state) promises asked kept = (kept ≡ None) ⊎ (IsKeptUp asked × (length promises ≢ state.count) × (kept ≡ Some promises))
+IsStillKept (Some state) promises asked kept = (kept ≡ None) ⊎ (IsKeptUp asked × (kept ≡ Some promises))

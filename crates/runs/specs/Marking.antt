@@ -11,7 +11,7 @@ use Rattle.wire.specs.Frames.{Frame}
 use Rattle.wire.specs.Requests.{RequestContent}
 use Rattle.runs.specs.AskOptions.{AskOptions}
 use Rattle.runs.specs.Runs.{lines_asked, RunsWhole}
-use Rattle.runs.specs.Saves.{stored_after, Act, AllKeepTold, Found, IsAsked, IsAskedChange, IsOwnPromise, Stored}
+use Rattle.runs.specs.Saves.{stored_after, Act, AllKeepTold, Found, IsAsked, IsAskedChange, IsDropped, IsOwnPromise, Stored}
 use Rattle.runs.specs.Standing.{StateIsSaved}
 use Rattle.runs.specs.declared.state.State.{State}
 
@@ -66,5 +66,5 @@ module _ (hash : List ℕ → List ℕ) (accepted verified : List ℕ → List �
   abbrev pub LeavesMarked : Type 0
   LeavesMarked = (run : RunsWhole hash accepted verified exchanged key token options HasNoState stream stream' input status out out')
       × ((acts : List Act) × Happened acts × ((HasNoState × (acts ≡ [])) ⊎ ((start : Found) × (start.known.marks ≡ run.background.marks)
-      × AllKeepTold hash accepted (IsAsked (lines_asked options.words input)) (IsOwnPromise verified key (lines_asked options.words input) start.known) (IsAskedChange (lines_asked options.words input)) start old acts
+      × AllKeepTold hash accepted (IsAsked (lines_asked options.words input)) (IsOwnPromise verified key (lines_asked options.words input) start.known) (IsAskedChange (lines_asked options.words input)) (IsDropped None) start old acts
       × StoresMarks (stored_after acts) run.last.monitors)))

@@ -11,6 +11,7 @@ use Rattle.memory.specs.Lists.{HasNoRepeat}
 use Rattle.memory.specs.Memories.{name_of, Memory}
 use Rattle.memory.specs.Texts.{HasWholeLines, Spells}
 use Rattle.memory.specs.Watching.{IsAwaited}
+use Rattle.memory.specs.declared.alarm.Alarm.{Alarm}
 use Rattle.memory.specs.declared.mark.Mark.{Mark}
 use Rattle.memory.specs.declared.promised.Promised.{Promised}
 use Rattle.play.specs.Scripts.{line_of, Ask, ScriptLine, Watch}
@@ -70,6 +71,10 @@ IsAsked lines name given = IsSaid lines (Watch name given)
 -- one of these lines asks for the change that is promised
 abbrev pub IsAskedChange : Option (List (List ℕ)) → SignedPromise → Type 0
 IsAskedChange lines signed = (verb : Verb) × IsSaid lines (Ask (Put verb signed.promise.name signed.promise.key))
+
+-- the name is the one whose alarms are settled, if those of one are
+abbrev pub IsDropped : Option (List ℕ) → List ℕ → Type 0
+IsDropped settled name = settled ≡ Some name
 
 -- the promise is remembered as one for a change of the owner's own
 abbrev pub WasOwn : Memory → SignedPromise → Type 0
@@ -138,12 +143,13 @@ abbrev pub WasStored : Found → List ℕ → SignedRoot → Type 0
 WasStored before name root = Contains before.roots root
     × ((mark : Mark) × Contains before.known.marks mark × (mark.name ≡ name) × (mark.since < root.body.epoch) × (root.body.epoch ≤ mark.epoch))
 
-module _ (hash : List ℕ → List ℕ) (accepted : List ℕ → List ℕ → List ℕ → Type 0) (Given : List ℕ → Option (List ℕ) → Type 0) (Own Asked : SignedPromise → Type 0) where
+module _ (hash : List ℕ → List ℕ) (accepted : List ℕ → List ℕ → List ℕ → Type 0) (Given : List ℕ → Option (List ℕ) → Type 0) (Own Asked : SignedPromise → Type 0) (Drops : List ℕ → Type 0) where
   -- What is found where something else was before a run, and this text was written in it: roots are only added, and no mark
   -- that was there is lost, or goes back over a root (one between two roots may go to the lower of them); of each root above the
   -- begin of a mark, up to the mark, it was told, or the root's epoch had been watched before. What counts there are the promises
   -- for changes of the owner's own that were remembered or are now, and that a mark of before awaited. Each of them is an old one,
-  -- or was asked for; and each old one that a mark awaits is still there.
+  -- or was asked for; and each old one that a mark awaits is still there. So is each old alarm, unless those of its name are
+  -- dropped, and all old evidence.
   pub record KeepsTold (before : Found) (text : List ℕ) (after : Found) : Type 0 where
     pub grows : (more : List SignedRoot) × (after.roots ≡ before.roots ++ more)
     pub stays : (old : Mark) → Contains before.known.marks old → HasMark before.roots after.known.marks old
@@ -151,6 +157,8 @@ module _ (hash : List ℕ → List ℕ) (accepted : List ℕ → List ℕ → Li
         → TellsEpoch Given (IsOwnAhead Own before.known) (Counts (with_promises before.known after.known.promises)) hash accepted text mark.name root ⊎ WasStored before mark.name root
     pub own : (signed : SignedPromise) → WasOwn after.known signed → WasOwn before.known signed ⊎ Asked signed
     pub awaits : (signed : SignedPromise) → WasOwn before.known signed → Any (IsAwaited signed) after.known.marks → WasOwn after.known signed
+    pub alarms : (alarm : Alarm) → Contains before.known.alarms alarm → Contains after.known.alarms alarm ⊎ Drops alarm.name
+    pub evidence : (line : List ℕ) → Contains before.known.evidence line → Contains after.known.evidence line
 
   -- the text that is stored spells a memory, with which it is so
   abbrev pub SpellsTold : Found → List ℕ → Stored → Type 0
@@ -168,6 +176,6 @@ module _ (hash : List ℕ → List ℕ) (accepted : List ℕ → List ℕ → Li
       AllKeepTold before old acts × ((text : List ℕ) × (out ≡ Some (old ++ text)) × SpellsTold before text (stored_after (Writes anew out ∷ acts)))
 
 -- What happened in a run to what is kept: nothing, or acts after each of which all that it had watched was told. Some lines
--- were asked under this key, and the output had this text before.
-abbrev pub LeavesTold : (List ℕ → List ℕ) → (List ℕ → List ℕ → List ℕ → Type 0) → (List ℕ → List ℕ → List ℕ → Type 0) → Option (List (List ℕ)) → List ℕ → List ℕ → (List Act → Type 0) → Type 0
-LeavesTold hash accepted verified lines key old Happened = (acts : List Act) × Happened acts × ((acts ≡ []) ⊎ ((start : Found) × AllKeepTold hash accepted (IsAsked lines) (IsOwnPromise verified key lines start.known) (IsAskedChange lines) start old acts))
+-- were asked under this key, the alarms of one name or of none were settled, and the output had this text before.
+abbrev pub LeavesTold : (List ℕ → List ℕ) → (List ℕ → List ℕ → List ℕ → Type 0) → (List ℕ → List ℕ → List ℕ → Type 0) → Option (List (List ℕ)) → Option (List ℕ) → List ℕ → List ℕ → (List Act → Type 0) → Type 0
+LeavesTold hash accepted verified lines settled key old Happened = (acts : List Act) × Happened acts × ((acts ≡ []) ⊎ ((start : Found) × AllKeepTold hash accepted (IsAsked lines) (IsOwnPromise verified key lines start.known) (IsAskedChange lines) (IsDropped settled) start old acts))

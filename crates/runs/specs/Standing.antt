@@ -17,7 +17,7 @@ use Rattle.monitor.specs.Monitors.{Monitor}
 use Rattle.play.specs.Scripts.{line_of, ScriptLine}
 use Rattle.runs.specs.Owning.{Owns}
 use Rattle.runs.specs.Remembering.{AreWithin}
-use Rattle.runs.specs.Saves.{found_in, stored_after, stored_nothing, Act, AllKeepTold, AreEarlier, Found, HasOneOfEachName, IsAsked, IsAskedChange, IsHeadEpoch, IsOwnPromise, IsSaid, KeepsTold, Loads, LoadsFor, WasOwn, Writes, noting}
+use Rattle.runs.specs.Saves.{found_in, stored_after, stored_nothing, Act, AllKeepTold, AreEarlier, Found, HasOneOfEachName, IsAsked, IsAskedChange, IsDropped, IsHeadEpoch, IsOwnPromise, IsSaid, KeepsTold, Loads, LoadsFor, WasOwn, Writes, noting}
 use Rattle.asking.specs.Scenes.{Scene}
 use Rattle.runs.specs.Told.{HasBody}
 use Rattle.asking.specs.declared.asker.Asker.{Asker}
@@ -67,14 +67,14 @@ module _ (hash : List ℕ → List ℕ) (accepted verified : List ℕ → List �
     pub happened : Happened acts
     pub text : List ℕ
     pub is-out : out ≡ Some (old ++ text)
-    pub all : AllKeepTold hash accepted (IsAsked lines) (IsOwnPromise verified key lines start.known) (IsAskedChange lines) start old acts
+    pub all : AllKeepTold hash accepted (IsAsked lines) (IsOwnPromise verified key lines start.known) (IsAskedChange lines) (IsDropped None) start old acts
     pub saved : Memory
     pub had : (signed : SignedPromise) → WasOwn start.known signed → WasOwn saved signed
     pub whole : HasWholeLines (stored_after acts).text
     pub spells : Spells (stored_after acts).text (Ok saved)
     pub ahead : TakesAll unsaved saved known
-    pub now : KeepsTold hash accepted (IsAsked lines) (IsOwnPromise verified key lines start.known) (IsAskedChange lines) start text (found_in (stored_after acts) saved)
-    pub next : KeepsTold hash accepted (IsAsked lines) (IsOwnPromise verified key lines start.known) (IsAskedChange lines) start text (found_in (stored_after acts) known)
+    pub now : KeepsTold hash accepted (IsAsked lines) (IsOwnPromise verified key lines start.known) (IsAskedChange lines) (IsDropped None) start text (found_in (stored_after acts) saved)
+    pub next : KeepsTold hash accepted (IsAsked lines) (IsOwnPromise verified key lines start.known) (IsAskedChange lines) (IsDropped None) start text (found_in (stored_after acts) known)
     pub early : (mark : Mark) → Contains start.known.marks mark → (root : SignedRoot) → Contains (stored_after acts).roots root → mark.since < root.body.epoch → root.body.epoch ≤ mark.epoch → Contains start.roots root
     pub low-start : Fits epoch start.known
     pub low : Fits epoch saved

@@ -5,7 +5,7 @@ use Rattle.rootchain.specs.declared.signed_root.SignedRoot.{SignedRoot}
 use Rattle.memory.specs.Memories.{Memory}
 use Rattle.memory.specs.Texts.{Spells}
 use Rattle.memory.specs.Watching.{IsAwaited}
-use Rattle.runs.specs.Saves.{found_in, stored_after, Act, AddsLines, AddsRoots, AllKeepTold, Counts, Found, IsOwnAhead, Loads, Stored, WasOwn, WasStored, with_promises, Writes}
+use Rattle.runs.specs.Saves.{found_in, stored_after, Act, AddsLines, AddsRoots, AllKeepTold, Counts, Found, IsAsked, IsAskedChange, IsDropped, IsOwnAhead, IsOwnPromise, Loads, Stored, WasOwn, WasStored, with_promises, Writes}
 use Rattle.runs.specs.Told.{TellsEpoch}
 
 -- A run: what was asked in it, what the output had before it, and what it did to the files. What the next run finds is their
@@ -54,11 +54,11 @@ module _ (hash : List ℕ → List ℕ) (accepted : List ℕ → List ℕ → Li
       × ((text : List ℕ) × WasWritten run.old run.left text
       × TellsEpoch (Given run.asked) (IsOwnAhead (Own run.asked found) found) (Counts (with_promises found now.promises)) hash accepted text name root)) ⊎ WasTold first earlier name root
 
-  module _ (Asked : X → SignedPromise → Type 0) where
+  module _ (Asked : X → SignedPromise → Type 0) (Drops : X → List ℕ → Type 0) where
     -- each run finds what the files had after those before it, and keeps all told that it does to them
     abbrev pub AllRun : Stored → List (StateRun X) → Type 0
     AllRun first [] = ⊤
-    AllRun first (run ∷ earlier) = FirstLoads run.acts (left_by first earlier) × ((start : Found) × AllKeepTold hash accepted (Given run.asked) (Own run.asked start.known) (Asked run.asked) start run.old run.acts)
+    AllRun first (run ∷ earlier) = FirstLoads run.acts (left_by first earlier) × ((start : Found) × AllKeepTold hash accepted (Given run.asked) (Own run.asked start.known) (Asked run.asked) (Drops run.asked) start run.old run.acts)
         × AreFirst run.acts run.left × AreAdded (left_by first earlier).roots run.roots (stored_after run.left).roots × AllRun first earlier
 
 -- what the run left has a mark that awaits the promise
@@ -70,3 +70,26 @@ module _ {X : Type 0} (Asked : X → SignedPromise → Type 0) where
   abbrev pub WasAskedIn : Stored → List (StateRun X) → SignedPromise → Type 0
   WasAskedIn first [] signed = (known : Memory) × Spells first.text (Ok known) × WasOwn known signed
   WasAskedIn first (run ∷ earlier) signed = Asked run.asked signed ⊎ WasAskedIn first earlier signed
+
+-- the lines that a run asked, if they are known; and the name whose alarms it settled, if it did
+pub record RunOrder : Type 0 where
+  pub lines : Option (List (List ℕ))
+  pub settled : Option (List ℕ)
+
+-- the run does not settle the alarms of this name
+abbrev pub LeavesUnsettled : List ℕ → StateRun RunOrder → Type 0
+LeavesUnsettled name run = ¬ IsDropped run.asked.settled name
+
+module _ (hash : List ℕ → List ℕ) (accepted verified : List ℕ → List ℕ → List ℕ → Type 0) (key : List ℕ) where
+  -- so it is where the owner gave what the lines say, and promises are signed with this key
+  abbrev pub AllRunUnder : Stored → List (StateRun RunOrder) → Type 0
+  AllRunUnder = AllRun hash accepted (λ (order : RunOrder). IsAsked order.lines) (λ (order : RunOrder). IsOwnPromise verified key order.lines) (λ (order : RunOrder). IsAskedChange order.lines)
+      (λ (order : RunOrder). IsDropped order.settled)
+
+  -- and this is told
+  abbrev pub WasToldUnder : Stored → List (StateRun RunOrder) → List ℕ → SignedRoot → Type 0
+  WasToldUnder = WasTold hash accepted (λ (order : RunOrder). IsAsked order.lines) (λ (order : RunOrder). IsOwnPromise verified key order.lines)
+
+-- the change that is promised was asked for in one of these runs, or was remembered as the owner's own before all of them
+abbrev pub WasAskedFor : Stored → List (StateRun RunOrder) → SignedPromise → Type 0
+WasAskedFor = WasAskedIn (λ (order : RunOrder). IsAskedChange order.lines)

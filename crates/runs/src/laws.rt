@@ -5,6 +5,7 @@ ghost use Rattle.client.specs.declared.client_refusal.Refusal.TheVariants.{RootD
 ghost use Rattle.client.specs.declared.due.Due.TheVariants.{Broken};
 ghost use Rattle.memory.specs.Memories.{Memory};
 ghost use Rattle.memory.specs.Texts.{Spells};
+ghost use Rattle.memory.specs.declared.alarm.Alarm.{Alarm as Warned};
 ghost use Rattle.memory.specs.declared.mark.Mark.{Mark};
 ghost use Rattle.monitor.specs.Monitors.{Monitor};
 ghost use Rattle.monitor.specs.declared.step.Step.TheVariants.{Alarm};
@@ -21,8 +22,8 @@ ghost use Rattle.asking.specs.Recalled.{evidence_again, TellsAlarms};
 ghost use Rattle.asking.specs.Refused.{client_refuses};
 ghost use Rattle.asking.specs.Reports.{refused, told_after, Report};
 ghost use Rattle.runs.specs.Runs.{lines_asked, RunsWhole};
-ghost use Rattle.runs.specs.Saves.{stored_after, HasMark, IsAsked, IsAskedChange, IsOwnPromise, Stored, WasOwn};
-ghost use Rattle.runs.specs.StateRuns.{left_by, AllRun, LeavesAwaited, StateRun, WasAskedIn, WasTold};
+ghost use Rattle.runs.specs.Saves.{stored_after, HasMark, IsAsked, Stored, WasOwn};
+ghost use Rattle.runs.specs.StateRuns.{left_by, LeavesAwaited, LeavesUnsettled, AllRunUnder, WasToldUnder, RunOrder, StateRun, WasAskedFor};
 ghost use Rattle.asking.specs.Testing.{due_told};
 ghost use Rattle.runs.specs.Told.{TellsWatched};
 ghost use Rattle.asking.specs.Visiting.{HasMonitor, IsMarked};
@@ -58,33 +59,38 @@ pub fn watched_epochs_are_told<T: Read + Write, H: NodeHash, V: VufCheck, S: Ver
 
 /// Whatever runs there were over one state, and wherever each was stopped: what is saved loads as a memory. Each root of
 /// the state that a mark of it says was watched is told in the output of one of the runs, against what its owner expected
-/// there, before the last act of that run that is left; or it was watched before all of them. No root is lost, and no mark of an
-/// earlier run: the memory has one of its name that begins no later, and that is as far over the roots that were there. Each
-/// promise that it has for a change of the owner's own is for one that a line of some run asks for, or was remembered so before
-/// all of them; and none of these is lost as long as a mark awaits it. Where what a run left has marks for monitors, as it has
-/// for all those of a whole run without a stale epoch, each root from the first of such a monitor on was told for its name, or is
-/// still to be watched.
+/// there, before the last act of that run that is left; or it was watched before all of them. No root is lost, no mark of an
+/// earlier run, and no evidence that one stored: the memory has a mark of the same name that begins no later, and that is as far
+/// over the roots that were there. Nor is an alarm lost that one stored, unless a run settles those of its name. Each promise that it has for a change of the
+/// owner's own is for one that a line of some run asks for, or was remembered so before all of them; and none of these is lost as
+/// long as a mark awaits it. Where what a run left has marks for monitors, as it has for all those of a whole run without a stale
+/// epoch, each root from the first of such a monitor on was told for its name, or is still to be watched.
 pub fn stored_marks_are_told<H: NodeHash, V: VufCheck, S: Verifier>()
-    ensures loads { (key : List ℕ) (first : Stored) (runs : List (StateRun (Option (List (List ℕ))))) → AllRun H.digest_of V.accepted IsAsked (IsOwnPromise S.verified key) IsAskedChange first runs
+    ensures loads { (key : List ℕ) (first : Stored) (runs : List (StateRun RunOrder)) → AllRunUnder H.digest_of V.accepted S.verified key first runs
         → (before : Memory) → Spells first.text (Ok before) → (known : Memory) × Spells (left_by first runs).text (Ok known) }
-    ensures told { (key : List ℕ) (first : Stored) (runs : List (StateRun (Option (List (List ℕ))))) → AllRun H.digest_of V.accepted IsAsked (IsOwnPromise S.verified key) IsAskedChange first runs
+    ensures told { (key : List ℕ) (first : Stored) (runs : List (StateRun RunOrder)) → AllRunUnder H.digest_of V.accepted S.verified key first runs
         → (known : Memory) → Spells (left_by first runs).text (Ok known) → (mark : Mark) → Contains known.marks mark
         → (root : SignedRoot) → Contains (left_by first runs).roots root → mark.since < root.body.epoch → root.body.epoch ≤ mark.epoch
-        → WasTold H.digest_of V.accepted IsAsked (IsOwnPromise S.verified key) first runs mark.name root }
-    ensures grow { (key : List ℕ) (first : Stored) (later earlier : List (StateRun (Option (List (List ℕ))))) → AllRun H.digest_of V.accepted IsAsked (IsOwnPromise S.verified key) IsAskedChange first (later ++ earlier)
+        → WasToldUnder H.digest_of V.accepted S.verified key first runs mark.name root }
+    ensures grow { (key : List ℕ) (first : Stored) (later earlier : List (StateRun RunOrder)) → AllRunUnder H.digest_of V.accepted S.verified key first (later ++ earlier)
         → (more : List SignedRoot) × ((left_by first (later ++ earlier)).roots ≡ (left_by first earlier).roots ++ more) }
-    ensures stay { (key : List ℕ) (first : Stored) (later earlier : List (StateRun (Option (List (List ℕ))))) → AllRun H.digest_of V.accepted IsAsked (IsOwnPromise S.verified key) IsAskedChange first (later ++ earlier)
+    ensures stay { (key : List ℕ) (first : Stored) (later earlier : List (StateRun RunOrder)) → AllRunUnder H.digest_of V.accepted S.verified key first (later ++ earlier)
         → (before known : Memory) → Spells (left_by first earlier).text (Ok before) → Spells (left_by first (later ++ earlier)).text (Ok known) → (old : Mark) → Contains before.marks old → HasMark (left_by first earlier).roots known.marks old }
-    ensures own { (key : List ℕ) (first : Stored) (runs : List (StateRun (Option (List (List ℕ))))) → AllRun H.digest_of V.accepted IsAsked (IsOwnPromise S.verified key) IsAskedChange first runs
-        → (known : Memory) → Spells (left_by first runs).text (Ok known) → (signed : SignedPromise) → WasOwn known signed → WasAskedIn IsAskedChange first runs signed }
-    ensures awaits { (key : List ℕ) (first : Stored) (later earlier : List (StateRun (Option (List (List ℕ))))) → AllRun H.digest_of V.accepted IsAsked (IsOwnPromise S.verified key) IsAskedChange first (later ++ earlier)
+    ensures evidence { (key : List ℕ) (first : Stored) (later earlier : List (StateRun RunOrder)) → AllRunUnder H.digest_of V.accepted S.verified key first (later ++ earlier)
+        → (before known : Memory) → Spells (left_by first earlier).text (Ok before) → Spells (left_by first (later ++ earlier)).text (Ok known) → (line : List ℕ) → Contains before.evidence line → Contains known.evidence line }
+    ensures alarms { (key : List ℕ) (first : Stored) (later earlier : List (StateRun RunOrder)) → AllRunUnder H.digest_of V.accepted S.verified key first (later ++ earlier)
+        → (before known : Memory) → Spells (left_by first earlier).text (Ok before) → Spells (left_by first (later ++ earlier)).text (Ok known)
+        → (alarm : Warned) → Contains before.alarms alarm → AllByRecursion (LeavesUnsettled alarm.name) later → Contains known.alarms alarm }
+    ensures own { (key : List ℕ) (first : Stored) (runs : List (StateRun RunOrder)) → AllRunUnder H.digest_of V.accepted S.verified key first runs
+        → (known : Memory) → Spells (left_by first runs).text (Ok known) → (signed : SignedPromise) → WasOwn known signed → WasAskedFor first runs signed }
+    ensures awaits { (key : List ℕ) (first : Stored) (later earlier : List (StateRun RunOrder)) → AllRunUnder H.digest_of V.accepted S.verified key first (later ++ earlier)
         → (before known : Memory) → Spells (left_by first earlier).text (Ok before) → Spells (left_by first (later ++ earlier)).text (Ok known)
         → (signed : SignedPromise) → WasOwn before signed → AllByRecursion (LeavesAwaited signed) later → WasOwn known signed }
-    ensures watched { (key : List ℕ) (first : Stored) (later earlier : List (StateRun (Option (List (List ℕ))))) (run : StateRun (Option (List (List ℕ)))) (monitors : List Monitor)
-        → AllRun H.digest_of V.accepted IsAsked (IsOwnPromise S.verified key) IsAskedChange first (later ++ run ∷ earlier) → StoresMarks (stored_after run.left) monitors
+    ensures watched { (key : List ℕ) (first : Stored) (later earlier : List (StateRun RunOrder)) (run : StateRun RunOrder) (monitors : List Monitor)
+        → AllRunUnder H.digest_of V.accepted S.verified key first (later ++ run ∷ earlier) → StoresMarks (stored_after run.left) monitors
         → (known : Memory) → Spells (left_by first (later ++ run ∷ earlier)).text (Ok known) → (monitor : Monitor) → Contains monitors monitor
         → (root : SignedRoot) → Contains (left_by first (later ++ run ∷ earlier)).roots root → IsFrom monitor root
-        → WasTold H.digest_of V.accepted IsAsked (IsOwnPromise S.verified key) first (later ++ run ∷ earlier) monitor.name root ⊎ IsToWatch known.marks monitor.name root }
+        → WasToldUnder H.digest_of V.accepted S.verified key first (later ++ run ∷ earlier) monitor.name root ⊎ IsToWatch known.marks monitor.name root }
 {}
 
 /// Each name that a line of a whole run asks to be watched has a monitor at its end, or a mark of an earlier run.

@@ -1,5 +1,5 @@
 // A run: each line of the input is asked, what is told of it is written, and the state is kept.
-ghost use Rattle.std.specs.Prelude.{◌≡◌, ◌≢◌, ◌⊎◌, ◌↔◌, ◌<◌, ◌≤◌, ◌++◌, List, ℕ, [], false, true, Err, IfErr, IfOk, IfSome, IsTrue, MatchOption, None, Ok, OnErr, OnOk, Option, Some, option_map, ⊤};
+ghost use Rattle.std.specs.Prelude.{◌≡◌, ◌≢◌, ◌⊎◌, ◌↔◌, ◌<◌, ◌≤◌, ◌++◌, List, ℕ, [], false, true, Err, IfErr, IfOk, IfSome, IsTrue, None, Ok, OnErr, OnOk, Option, Some, option_map, ⊤};
 ghost use Rattle.std.specs.Io.KnownBytes.{Appends};
 ghost use Rattle.textio.specs.Lines.{lines_of};
 ghost use Rattle.textio.specs.Output.{WritesSome};
@@ -36,7 +36,7 @@ use crate::keeper::Keeper;
 use crate::lateness::Limit;
 use crate::run_fault::RunFault;
 use crate::settling::tell_settled;
-use crate::state::State;
+use crate::state::{State, copies_of};
 use crate::{AskKeys, AskOrder};
 use asking::{AskFault, Asker, CAUGHT, Checks, MAX_LISTS, REFUSED, Reply, Said};
 use encoding::Name;
@@ -255,7 +255,7 @@ impl Run {
             ((self.old).state ≡ None) stream.old (R.remaining reader.old) (W.contents writer.old) (λ after last. (self.new).limit.last ≡ Some last)
             (LoadsNone ((self.old).state ≡ None) result (self.old).limit (self.new).limit (self.new).said.status) (HoldsBack (result ≡ Err (Program CannotWrite)) (W.contents writer.new) (self.new).said)) }
         ensures kept { IsFresh (self.old).state → (old : List ℕ) (acts : List Act) → W.contents writer.old ≡ Some old → K.has keeper.old acts
-            → LeavesTold H.digest_of V.accepted S.verified (lines_asked (ask_values order.entry).words (R.remaining reader.old)) keys.now.signing_key old (λ done. K.has keeper.new (done ++ acts)) }
+            → LeavesTold H.digest_of V.accepted S.verified (lines_asked (ask_values order.entry).words (R.remaining reader.old)) None keys.now.signing_key old (λ done. K.has keeper.new (done ++ acts)) }
         ensures marks { OnOk result (IsFresh (self.old).state → IsUnlooked (self.old).state → report_of (self.old).said ≡ emptied 0 → (old : List ℕ) (acts : List Act) → W.contents writer.old ≡ Some old → K.has keeper.old acts
             → LeavesMarked H.digest_of V.accepted S.verified (ExchangesFrames T.contents T.remaining) keys.now.signing_key keys.now.token (ask_values order.entry) ((self.old).state ≡ None) stream.old stream.new (R.remaining reader.old) (self.new).said.status
             (W.contents writer.old) (W.contents writer.new) old (λ done. K.has keeper.new (done ++ acts))) }
@@ -334,7 +334,7 @@ impl Run {
         }
     }
 
-    /// Notes which promises the client still keeps, if it dropped some: they were tested. Where a write failed or memory ran out,
+    /// Notes which promises the client still keeps: those that it dropped were tested. Where a write failed or memory ran out,
     /// nothing is noted: the root under which one was found kept may not be in the state. Returns what came of the questions.
     fn note_kept<H, V, S>(
         &self,
@@ -350,9 +350,7 @@ impl Run {
         ensures kept { IsStillKept (self.now).state asker.now.client.promises asked (option_map (λ copies. copies.items) still_kept.new) }
     {
         *still_kept = match &self.state {
-            Some(state) if is_kept_up(&asked) => state
-                .still_kept(asker.client.promises())
-                .unwrap_or(None),
+            Some(_) if is_kept_up(&asked) => { copies_of(self.alloc, asker.client.promises()).ok() }
             _ => None,
         };
         asked
@@ -972,7 +970,7 @@ impl Run {
         ensures drops { OnOk result (IsFresh (self.old).state → report_of (self.old).said ≡ emptied 0
             → IfSome (self.new).state (λ state. (count : ℕ) × ((self.new).said.text.items ≡ settled_text state.memory name.now count) × ((self.new).said.status ≡ (evidence_again state.memory).status))) }
         ensures kept { IsFresh (self.old).state → (lines : Option (List (List ℕ))) (old : List ℕ) (acts : List Act) → W.contents writer.now ≡ Some old → K.has keeper.old acts
-            → LeavesTold H.digest_of V.accepted S.verified lines keys.now.signing_key old (λ done. K.has keeper.new (done ++ acts)) }
+            → LeavesTold H.digest_of V.accepted S.verified lines (Some name.now) keys.now.signing_key old (λ done. K.has keeper.new (done ++ acts)) }
         ensures err { IfErr result IsFaultOfState }
     {
         self.recall(keeper, checks, keys)?;

@@ -66,8 +66,8 @@ where
     ensures unread { (result ≡ Err BadHex) ⊎ (¬ AsksInput (ask_values order.entry).words) → reader.new ≡ reader.old }
     ensures faults { IfErr result (λ fault. (fault ≡ BadHex) ⊎ IsRunFault (ask_values order.entry) (R.remaining reader.old) fault) }
     ensures grows { Grows (W.contents writer.old) (W.contents writer.new) }
-    ensures runs { IfOk result (λ status. AsksOverSocket (ask_values order.entry) (R.remaining reader.old) status (W.contents writer.old) (W.contents writer.new)) }
-    ensures fails { IfErr result (λ fault. FailsOverSocket (ask_values order.entry) (R.remaining reader.old) fault (W.contents writer.old) (W.contents writer.new)) }
+    ensures runs { IfOk result (λ status. AsksOverSocket N (ask_values order.entry) (R.remaining reader.old) status (W.contents writer.old) (W.contents writer.new)) }
+    ensures fails { IfErr result (λ fault. FailsOverSocket N (ask_values order.entry) (R.remaining reader.old) fault (W.contents writer.old) (W.contents writer.new)) }
 {
     match keys_of(&order) {
         Ok(keys) => ask_under(alloc, system, keys, order, reader, writer, errors),
@@ -107,9 +107,9 @@ where
     ensures unread { ¬ AsksInput (ask_values order.entry).words → reader.new ≡ reader.old }
     ensures grows { Grows (W.contents writer.old) (W.contents writer.new) }
     ensures runs { ask_keys_of (ask_values order.entry) ≡ Some (keys.signing_key, keys.token)
-        → IfOk result (λ status. AsksOverSocket (ask_values order.entry) (R.remaining reader.old) status (W.contents writer.old) (W.contents writer.new)) }
+        → IfOk result (λ status. AsksOverSocket N (ask_values order.entry) (R.remaining reader.old) status (W.contents writer.old) (W.contents writer.new)) }
     ensures fails { ask_keys_of (ask_values order.entry) ≡ Some (keys.signing_key, keys.token)
-        → IfErr result (λ fault. FailsOverSocket (ask_values order.entry) (R.remaining reader.old) fault (W.contents writer.old) (W.contents writer.new)) }
+        → IfErr result (λ fault. FailsOverSocket N (ask_values order.entry) (R.remaining reader.old) fault (W.contents writer.old) (W.contents writer.new)) }
 {
     if let Some(name) = name_to_settle(alloc, &order)? {
         let mut keeper = StateFiles::new(alloc, system, order.state.unwrap_or(""))?;
@@ -138,11 +138,11 @@ where
     ensures unread { ¬ AsksInput (ask_values order.entry).words → reader.new ≡ reader.old }
     ensures grows { Grows (W.contents writer.old) (W.contents writer.new) }
     ensures runs { ask_keys_of (ask_values order.entry) ≡ Some (keys.signing_key, keys.token)
-        → IfOk result (λ status. AsksOverSocket (ask_values order.entry) (R.remaining reader.old) status (W.contents writer.old) (W.contents writer.new)) }
+        → IfOk result (λ status. AsksOverSocket N (ask_values order.entry) (R.remaining reader.old) status (W.contents writer.old) (W.contents writer.new)) }
     ensures fails { ask_keys_of (ask_values order.entry) ≡ Some (keys.signing_key, keys.token)
-        → IfErr result (λ fault. FailsOverSocket (ask_values order.entry) (R.remaining reader.old) fault (W.contents writer.old) (W.contents writer.new)) }
+        → IfErr result (λ fault. FailsOverSocket N (ask_values order.entry) (R.remaining reader.old) fault (W.contents writer.old) (W.contents writer.new)) }
 {
-    let mut connection = Connection::to(alloc, system, order.address);
+    let mut connection = Connection::to(alloc, system, &order);
     let silence = if connection.is_there() {
         NO_REPLY
     } else {
@@ -196,7 +196,7 @@ where
     ensures fails { IfErr result (λ fault. FailsAs H.digest_of V.accepted S.verified (ExchangesFrames T.contents T.remaining) keys.signing_key keys.token (ask_values order.entry)
         (order.entry.state ≡ None) stream.old (R.remaining reader.old) fault (W.contents writer.old) (W.contents writer.new)) }
     ensures keeps { (old : List ℕ) (acts : List Act) → W.contents writer.old ≡ Some old → K.has keeper.old acts
-        → LeavesTold H.digest_of V.accepted S.verified (lines_asked (ask_values order.entry).words (R.remaining reader.old)) keys.signing_key old (λ done. K.has keeper.new (done ++ acts)) }
+        → LeavesTold H.digest_of V.accepted S.verified (lines_asked (ask_values order.entry).words (R.remaining reader.old)) None keys.signing_key old (λ done. K.has keeper.new (done ++ acts)) }
     ensures marks { (status : ℕ) → result ≡ Ok (Whole status) → (old : List ℕ) (acts : List Act) → W.contents writer.old ≡ Some old → K.has keeper.old acts
         → LeavesMarked H.digest_of V.accepted S.verified (ExchangesFrames T.contents T.remaining) keys.signing_key keys.token (ask_values order.entry) (order.entry.state ≡ None) stream.old stream.new (R.remaining reader.old) status
         (W.contents writer.old) (W.contents writer.new) old (λ done. K.has keeper.new (done ++ acts)) }
@@ -236,7 +236,7 @@ where
     ensures fails { IsNewFor (ask_values order.entry) run.old → IfErr result (λ fault. FailsAs H.digest_of V.accepted S.verified (ExchangesFrames T.contents T.remaining) keys.signing_key keys.token (ask_values order.entry)
         (order.entry.state ≡ None) stream.old (R.remaining reader.old) fault (W.contents writer.old) (W.contents writer.new)) }
     ensures keeps { IsNewFor (ask_values order.entry) run.old → (old : List ℕ) (acts : List Act) → W.contents writer.old ≡ Some old → K.has keeper.old acts
-        → LeavesTold H.digest_of V.accepted S.verified (lines_asked (ask_values order.entry).words (R.remaining reader.old)) keys.signing_key old (λ done. K.has keeper.new (done ++ acts)) }
+        → LeavesTold H.digest_of V.accepted S.verified (lines_asked (ask_values order.entry).words (R.remaining reader.old)) None keys.signing_key old (λ done. K.has keeper.new (done ++ acts)) }
     ensures marks { IsNewFor (ask_values order.entry) run.old → (status : ℕ) → result ≡ Ok (Whole status) → (old : List ℕ) (acts : List Act) → W.contents writer.old ≡ Some old → K.has keeper.old acts
         → LeavesMarked H.digest_of V.accepted S.verified (ExchangesFrames T.contents T.remaining) keys.signing_key keys.token (ask_values order.entry) (order.entry.state ≡ None) stream.old stream.new (R.remaining reader.old) status
         (W.contents writer.old) (W.contents writer.new) old (λ done. K.has keeper.new (done ++ acts)) }
@@ -276,7 +276,7 @@ where
     ensures fails { IsNewFor (ask_values order.entry) run.old → IfErr result (λ fault. FailsLate H.digest_of V.accepted S.verified (ExchangesFrames T.contents T.remaining) keys.signing_key keys.token (ask_values order.entry)
         (order.entry.state ≡ None) stream.old (R.remaining reader.old) (λ after last. (run.new).limit.last ≡ Some last) (IsUnknown (order.entry.state ≡ None) fault × ((run.new).limit.last ≡ None)) fault (W.contents writer.old) (W.contents writer.new)) }
     ensures keeps { IsNewFor (ask_values order.entry) run.old → (old : List ℕ) (acts : List Act) → W.contents writer.old ≡ Some old → K.has keeper.old acts
-        → LeavesTold H.digest_of V.accepted S.verified (lines_asked (ask_values order.entry).words (R.remaining reader.old)) keys.signing_key old (λ done. K.has keeper.new (done ++ acts)) }
+        → LeavesTold H.digest_of V.accepted S.verified (lines_asked (ask_values order.entry).words (R.remaining reader.old)) None keys.signing_key old (λ done. K.has keeper.new (done ++ acts)) }
     ensures marks { IsNewFor (ask_values order.entry) run.old → (status : ℕ) → result ≡ Ok (Whole status) → (old : List ℕ) (acts : List Act) → W.contents writer.old ≡ Some old → K.has keeper.old acts
         → LeavesMarked H.digest_of V.accepted S.verified (ExchangesFrames T.contents T.remaining) keys.signing_key keys.token (ask_values order.entry) (order.entry.state ≡ None) stream.old stream.new (R.remaining reader.old) status
         (W.contents writer.old) (W.contents writer.new) old (λ done. K.has keeper.new (done ++ acts)) }

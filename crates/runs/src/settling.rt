@@ -77,7 +77,7 @@ where
     ensures part { OnErr result (SettlesPart name.now (W.contents writer.old) (W.contents writer.new)) }
     ensures err { IfErr result IsFaultOfState }
     ensures keeps { (lines : Option (List (List ℕ))) (old : List ℕ) (acts : List Act) → W.contents writer.old ≡ Some old → K.has keeper.old acts
-        → LeavesTold H.digest_of V.accepted S.verified lines keys.now.signing_key old (λ done. K.has keeper.new (done ++ acts)) }
+        → LeavesTold H.digest_of V.accepted S.verified lines (Some name.now) keys.now.signing_key old (λ done. K.has keeper.new (done ++ acts)) }
     ensures grows { Grows (W.contents writer.old) (W.contents writer.new) }
 {
     let mut run = Run::new(alloc, true, Limit::none(), b"");
@@ -108,7 +108,7 @@ where
         × ((run.new).said.status ≡ (evidence_again known).status) × WritesSome (W.contents writer.old) (W.contents writer.new) (settled_text known name.now count)) }
     ensures err { IfErr result IsFaultOfState }
     ensures kept { IsFresh (run.old).state → (lines : Option (List (List ℕ))) (old : List ℕ) (acts : List Act) → W.contents writer.old ≡ Some old → K.has keeper.old acts
-        → LeavesTold H.digest_of V.accepted S.verified lines keys.now.signing_key old (λ done. K.has keeper.new (done ++ acts)) }
+        → LeavesTold H.digest_of V.accepted S.verified lines (Some name.now) keys.now.signing_key old (λ done. K.has keeper.new (done ++ acts)) }
     ensures grows { Grows (W.contents writer.old) (W.contents writer.new) }
 {
     let settled = run.settle_alarms(keeper, checks, keys, name, writer);

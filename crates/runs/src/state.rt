@@ -1,12 +1,12 @@
 // The state of a run: what is remembered, and what of it was handed on to be kept. Each line is handed on before more is
 // told.
-ghost use Rattle.std.specs.Prelude.{◌≡◌, ◌≢◌, ◌⊎◌, ◌+◌, ◌<◌, ◌≤◌, ◌++◌, ◌∷◌, ◌||◌, ℕ, [], false, true, if◌then◌else◌, List, None, Option, Some, Contains, drop, length, option_map, IfErr, IfOk, IsTrue, OnErr, OnOk};
+ghost use Rattle.std.specs.Prelude.{◌≡◌, ◌⊎◌, ◌+◌, ◌<◌, ◌≤◌, ◌++◌, ◌∷◌, ◌||◌, ℕ, [], false, true, if◌then◌else◌, List, None, Option, Some, Contains, drop, length, map, option_map, IfErr, IfOk, IsTrue, OnErr, OnOk};
 ghost use Rattle.std.specs.List.{AllByRecursion};
 ghost use Rattle.rootchain.specs.Promises.{IsSignedPromise};
 ghost use Rattle.rootchain.specs.declared.signed_promise.SignedPromise.{SignedPromise as Signed};
 ghost use Rattle.memory.specs.Leaving.{Leaves, Settles};
 ghost use Rattle.memory.specs.Learning.{Each, MarksOne};
-ghost use Rattle.memory.specs.Memories.{nothing, Memory as Known};
+ghost use Rattle.memory.specs.Memories.{nothing, signed_of, Memory as Known};
 ghost use Rattle.memory.specs.Texts.{items_text, memory_text, TakesAll};
 ghost use Rattle.memory.specs.declared.item.Item.{Item as Remembered};
 ghost use Rattle.monitor.specs.Monitors.{Monitor as Watcher};
@@ -21,7 +21,7 @@ ghost use Rattle.runs.specs.Standing.{standing, AddsNoOwn, AddsOwn, AreAsked, Ar
 use crate::keeper::{Keeper, Loaded};
 use asking::{Asker, Checks, Said};
 use encoding::{Hash32, Name};
-use memory::{Kind, Memory};
+use memory::{Kind, Memory, Promised};
 use nodehash::NodeHash;
 use rootchain::SignedPromise;
 use sigiface::Verifier;
@@ -44,8 +44,6 @@ pub(crate) struct State {
     size: Option<usize>,
     /// How many changes of this run were looked at.
     changes: usize,
-    /// How many promises the client kept when it was last looked, or more than it can have once it dropped some.
-    count: usize,
     /// The head, and how many monitors there were, when it was last looked.
     head: u64,
     monitors: usize,
@@ -60,20 +58,11 @@ fn behind<A>(elements: &[A], count: usize) -> &[A]
     elements.split_at(count.min(elements.len())).1
 }
 
-/// How many promises a client keeps, if none was dropped: it keeps those of before, and these that are new. Else more than it
-/// can have.
-fn counted(before: usize, fresh: usize, now: usize) -> usize
-    ensures same { before + fresh ≡ now → result ≡ now }
-    ensures other { before + fresh ≢ now → now < 18446744073709551615 → now < result }
-{
-    if before.saturating_add(fresh) == now {
-        return now;
-    }
-    usize::MAX
-}
-
 /// Copies of promises.
-fn copies_of(alloc: Global, promises: &[SignedPromise]) -> Result<Vec<SignedPromise>, AllocError>
+pub(crate) fn copies_of(
+    alloc: Global,
+    promises: &[SignedPromise],
+) -> Result<Vec<SignedPromise>, AllocError>
     ensures { IfOk result (λ copies. copies.items ≡ promises.now) }
 {
     let mut copies = Vec::new(alloc);
@@ -81,6 +70,21 @@ fn copies_of(alloc: Global, promises: &[SignedPromise]) -> Result<Vec<SignedProm
         copies.push(signed.copied())?;
     }
     Ok(copies)
+}
+
+/// Whether these are the promises that are remembered, in the same order. If so, none was tested, and the slower search is not
+/// needed.
+fn are_remembered(remembered: &[Promised], kept: &[SignedPromise]) -> bool
+    ensures { IsTrue result → map signed_of remembered.now ≡ kept.now }
+{
+    let mut rest = kept;
+    for promised in remembered {
+        match rest.split_first() {
+            Some((signed, more)) if promised.signed == *signed => rest = more,
+            _ => return false,
+        }
+    }
+    rest.is_empty()
 }
 
 impl State {
@@ -96,7 +100,6 @@ impl State {
             memory: Memory::new(alloc),
             size: Some(0),
             changes: 0,
-            count: 0,
             head: 0,
             monitors: 0,
             was_new: false,
@@ -147,7 +150,6 @@ impl State {
                 self.epoch = asker.head();
                 self.memory = memory;
                 self.size = Some(size);
-                self.count = asker.client.promises().len();
                 self.head = asker.head();
                 Ok(Ok(asker))
             }
@@ -263,21 +265,6 @@ impl State {
         Ok(())
     }
 
-    /// Copies of the promises that the client still keeps, or `None` if none was tested.
-    pub(crate) fn still_kept(
-        &self,
-        promises: &[SignedPromise],
-    ) -> Result<Option<Vec<SignedPromise>>, AllocError>
-        ensures all { length promises.now ≡ (self.now).count → result ≡ Ok None }
-        ensures some { length promises.now ≢ (self.now).count → IfOk result (λ kept. option_map (λ copies. copies.items) kept ≡ Some promises.now) }
-    {
-        if promises.len() == self.count {
-            return Ok(None);
-        }
-        let copies = copies_of(self.alloc, promises)?;
-        Ok(Some(copies))
-    }
-
     /// Drops the alarms of a name, and returns how many there were.
     pub(crate) fn settle(&mut self, name: &Name) -> usize
         ensures settles { Settles name.now (self.old).memory (self.new).memory }
@@ -317,7 +304,6 @@ impl State {
         self.memory.learn_promises(own, true, lines)?;
         self.memory.learn_promises(fresh, false, lines)?;
         self.changes = asker.changes.len();
-        self.count = counted(self.count, fresh.len(), asker.client.promises().len());
         Ok(())
     }
 
@@ -419,10 +405,13 @@ impl State {
     ) -> Result<Vec<SignedPromise>, AllocError>
         ensures { IfOk result (λ tested. AreTested (self.now).memory (option_map (λ copies. copies.items) still_kept) tested.items) }
     {
-        match still_kept {
-            Some(kept) => self.memory.gone(self.alloc, &kept),
-            None => Ok(Vec::new(self.alloc)),
+        let Some(kept) = still_kept else {
+            return Ok(Vec::new(self.alloc));
+        };
+        if are_remembered(self.memory.promises(), &kept) {
+            return Ok(Vec::new(self.alloc));
         }
+        self.memory.gone(self.alloc, &kept)
     }
 
     /// Hands lines on to be kept, behind so many bytes, if that is known.

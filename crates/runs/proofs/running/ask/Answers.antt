@@ -20,4 +20,4 @@ pub returns-in-Ok-clause-fails : goal.returns-in-Ok-clause-fails
 returns-in-Ok-clause-fails g c = c.ask_under.ensures.fails c.in-Ok.ensures
 
 pub returns-in-Err-clause-fails : goal.returns-in-Err-clause-fails
-returns-in-Err-clause-fails g c = unwritten (ask_values c.args.order) (g.R.Read.remaining c.args.reader.now) _ (g.W.Write.contents c.args.writer.now)
+returns-in-Err-clause-fails g c = unwritten _ (ask_values c.args.order) (g.R.Read.remaining c.args.reader.now) _ (g.W.Write.contents c.args.writer.now)

@@ -10,10 +10,10 @@ returns-clause-runs g c = λ are.
     c.in_ok-ended.ended are (c.in_ok-ended.ensures.runs c.in_ok-run.ensures))
 
 pub returns-in_err-keeper-clause-fails : goal.returns-in_err-keeper-clause-fails
-returns-in_err-keeper-clause-fails g c = λ are. unwritten_fails (ask_values c.args.order) (g.R.Read.remaining c.args.reader.now) (g.W.Write.contents c.args.writer.now) _
+returns-in_err-keeper-clause-fails g c = λ are. unwritten_fails _ (ask_values c.args.order) (g.R.Read.remaining c.args.reader.now) (g.W.Write.contents c.args.writer.now) _
 
 pub returns-in_err-run-clause-fails : goal.returns-in_err-run-clause-fails
-returns-in_err-run-clause-fails g c = λ are. unwritten_fails (ask_values c.args.order) (g.R.Read.remaining c.args.reader.now) (g.W.Write.contents c.args.writer.now) _
+returns-in_err-run-clause-fails g c = λ are. unwritten_fails _ (ask_values c.args.order) (g.R.Read.remaining c.args.reader.now) (g.W.Write.contents c.args.writer.now) _
 
 pub returns-in_err-keeper-clause-grows : goal.returns-in_err-keeper-clause-grows
 returns-in_err-keeper-clause-grows g c = grows_not (g.W.Write.contents c.args.writer.now)

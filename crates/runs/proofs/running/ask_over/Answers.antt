@@ -14,7 +14,7 @@ returns-in_err-run-clause-fails g c =
     (memory_only c.from_residual.result passed)
 
 pub returns-in_err-run-clause-keeps : goal.returns-in_err-run-clause-keeps
-returns-in_err-run-clause-keeps g c = λ old acts is has. leaves_unasked g.H.NodeHash.digest_of g.V.VufCheck.accepted g.S.Verifier.verified (lines_asked (ask_values c.args.order).words (g.R.Read.remaining c.args.reader.now)) c.args.keys.signing_key old (g.K.Keeper.has c.args.keeper.now) acts has
+returns-in_err-run-clause-keeps g c = λ old acts is has. leaves_unasked g.H.NodeHash.digest_of g.V.VufCheck.accepted g.S.Verifier.verified (lines_asked (ask_values c.args.order).words (g.R.Read.remaining c.args.reader.now)) None c.args.keys.signing_key old (g.K.Keeper.has c.args.keeper.now) acts has
 
 pub returns-in_err-run-clause-marks : goal.returns-in_err-run-clause-marks
 returns-in_err-run-clause-marks g c = λ status is.

@@ -56,7 +56,7 @@ returns-in_err-tell_settled-clause-kept g c = λ fresh lines old acts is has.
 
 pub returns-in_err-recall-clause-kept : goal.returns-in_err-recall-clause-kept
 returns-in_err-recall-clause-kept g c = λ fresh lines old acts is has.
-    leaves_same g.H.NodeHash.digest_of g.V.VufCheck.accepted g.S.Verifier.verified lines c.args.keys.now.signing_key old (g.K.Keeper.has c.recall.new.keeper) acts (Some old) c.recall.new.self.state (c.recall.ensures.left fresh lines old acts has)
+    leaves_same g.H.NodeHash.digest_of g.V.VufCheck.accepted g.S.Verifier.verified lines (Some c.args.name.now) c.args.keys.now.signing_key old (g.K.Keeper.has c.recall.new.keeper) acts (Some old) c.recall.new.self.state (c.recall.ensures.left fresh lines old acts has)
 
 pub returns-clause-drops : goal.returns-clause-drops
 returns-clause-drops g c = λ fresh empty.
