@@ -182,13 +182,12 @@ NAMES, KEYS = ("61", "62", "616c696365"), ("6b31", "6b32", "6b33")
 
 
 def drawn_line(rng, epoch):
-    name, key, policy = rng.choice(NAMES), rng.choice(KEYS), rng.choice(["open", "open", "final"])
+    name, key = rng.choice(NAMES), rng.choice(KEYS)
     return rng.choice([
         f"register {name} {key}", f"register {name} {key}", f"change {name} {key}", f"promise {name}",
         f"lookup {name} {rng.choice([0, 0, 1, epoch])}", "head",
         f"history {rng.choice([0, 1, 2, epoch // 2, epoch])} {rng.choice([1, 2, 64])}",
         f"close {epoch}", f"close {epoch}", f"rotate {epoch} {'05' * 32}", f"watch {name} {key}", f"watch {name} -",
-        f"register2 {name} {key} {policy}", f"change2 {name} {key} {policy}", f"watch2 {name} {key} {policy}",
     ])
 
 
@@ -198,7 +197,6 @@ def owner_line(rng, epoch):
     return rng.choice([
         "register 61 6b31", f"change 61 {key}", f"change 61 {key}", f"change 61 {key}", "promise 61", "lookup 61 0", "head",
         f"close {epoch}", f"close {epoch}", f"close {epoch}", "watch 61 6b31", f"watch 61 {key}",
-        f"change2 61 {key} open", f"watch2 61 {key} open", f"change2 61 {key} {rng.choice(['open', 'open', 'open', 'final'])}",
     ])
 
 
@@ -375,12 +373,6 @@ def directory_goes_back(epochs):
     return act
 
 
-def policy_is_left_out(_provider, _request, _reply):
-    """The promise of a directory that was asked for the key without a policy."""
-    directory = keyed_directory(1, ZERO32, SIGNING_KEY, VUF_KEY, SALT_KEY)
-    return response_frame(PROMISE, directory.register(b"a", b"k1"))
-
-
 def nothing_is_kept(provider, _request, reply):
     provider.hub.directory.waiting.clear()
     return reply
@@ -495,8 +487,6 @@ def kept_epochs(first, last):
 
 BEGUN_LINES = "register 61 6b31", "close 2", "watch 61 6b31"
 BEGUN = run_of_lines(*BEGUN_LINES)
-FINAL = run_of_lines("register2 61 6b31 final", "close 2", "watch2 61 6b31 final")
-IS_FINAL = "refused 25: the binding of the name on the latest page is final"
 BEGUN_LATER = run_of_lines("close 5", "close 6")
 THREE_ROOTS = [run_of_lines("close 2", "close 3"), run_of_words("history 1 64")]
 ALL_ROOTS = [BEGUN_LATER, run_of_words("history 1 64")]
@@ -1010,47 +1000,6 @@ STORED_LIES = {
         [BEGUN, run_of_words("watch 6 6b31", 9)],
         Ending([], 1, ["line 1: not a command"]),
     ),
-    # 12. A policy belongs to the key: in what is asked, told and remembered, and in what an owner expects.
-    "a policy that the owner does not expect": (
-        lies(),
-        [run_of_lines("register2 61 6b31 open", "close 2", "watch 61 6b31"), WATCH],
-        Ending(["alarm 61 2 6b31 open", "watched 61 2"], 3, ["watching 61 at epoch 2: alarm of an earlier run"]),
-    ),
-    "another policy than the owner expects": (
-        lies(),
-        [run_of_lines("register2 61 6b31 open", "close 2", "watch2 61 6b31 final"), SETTLE],
-        Ending(["settled 61 1"], 0, []),
-    ),
-    "a change to a final key whose monitor was held up": (
-        lies((2, "lookup", memory_runs_out_for(3))),
-        [BEGUN, run_of_lines("watch 61 6b31", "change2 61 6b32 final", "close 3"), WATCH],
-        Ending(["kept 61 3"], 0, []),
-    ),
-    "changes of a final key": (
-        lies(),
-        [FINAL, run_of_lines("change 61 6b32", "change2 61 6b31 final", "close 3", "watch2 61 6b31 final")],
-        Ending(["refused 25", "refused 25", "root 3 after 2", "kept 61 3"], 1, [IS_FINAL, IS_FINAL]),
-    ),
-    "a promise with no policy where one was asked for": (
-        lies((1, "register2", policy_is_left_out)),
-        [run_of_words("register2 61 6b31 final")],
-        Ending(["client refuses reply 25"], 1, [BEGINS, REPLY_25]),
-    ),
-    "a final key, and no new epoch": (
-        lies(),
-        [FINAL, run_of_words("watch2 61 6b31 final", 2)],
-        Ending(["watched 61 2", "stale 2"], 3, []),
-    ),
-    "a final key, and an epoch that is late enough": (
-        lies(),
-        [FINAL, run_of_lines("close 3"), run_of_words("watch2 61 6b31 final", 2)],
-        Ending(["kept 61 3"], 0, []),
-    ),
-    "a policy of no key, and an epoch that is wanted": (
-        lies(),
-        [FINAL, run_of_words("watch2 61 - final", 9)],
-        Ending([], 1, ["line 1: not a command"]),
-    ),
 }
 
 
@@ -1350,10 +1299,7 @@ def names_as_text(program):
     return None if got == wanted else f"names as text: wanted {wanted}, got {got}"
 
 
-BAD_SETTLES = (
-    ["settle"], ["settle", "6"], ["settle", "0g"], ["settle", "-"], ["settle", "61" * 256], ["settle", "61", "61"],
-    ["settle", "61", "61", "61"],
-)
+BAD_SETTLES = ["settle"], ["settle", "6"], ["settle", "0g"], ["settle", "-"], ["settle", "61" * 256], ["settle", "61", "61"]
 
 
 def settled_badly(program):

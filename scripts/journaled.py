@@ -243,7 +243,7 @@ class Answered:
             if epoch >= roots_from and roots.get(epoch) != body:
                 yield f"the root of epoch {epoch} is gone or another"
         self.roots.update(roots)
-        salts = {record[2:4]: record[1] for record in records_of(server.journal)[1:] if record[0] in VERBS}
+        salts = {record[2:]: record[1] for record in records_of(server.journal)[1:] if record[0] in VERBS}
         questions = [question for name in names for question in self.questions(name)]
         answers = server.ask([request for request, *_ in questions])
         if len(answers) < len(questions):

@@ -14,10 +14,8 @@ from dataclasses import replace
 
 from formats import (
     MAX_ROOTS,
-    POLICIES,
     PROMISE,
     REFUSED,
-    REQUESTS,
     REQUEST_KINDS,
     ROOT,
     ROOTS,
@@ -28,7 +26,6 @@ from formats import (
     frame,
     read_request,
     read_response,
-    request_frame,
     response_frame,
     sha256,
     split_frames,
@@ -47,7 +44,6 @@ from sessions import (
 
 OTHER_KEY = bytes([9]) * 32
 EVIL = b"ev"
-BINDING = "register", "change", "register2", "change2"
 
 class Provider:
     """A directory that answers frames, of which a lie may alter what is sent. The same one serves a connection and
@@ -190,7 +186,7 @@ def promised_before(place, seed):
         if kind != PROMISE:
             return reply
         signed = read_response(kind, body)
-        before = given.setdefault((signed.promise.name, signed.promise.statement()), signed)
+        before = given.setdefault((signed.promise.name, signed.promise.key), signed)
         if provider.count < place:
             return reply
         return frame(PROMISE, rng.choice([before, over(provider, rng.choice(provider.hub.directory.pages), signed)]).write())
@@ -424,27 +420,10 @@ def promised_twice(_place, _seed):
     """Drops what waits before each change, so that two changes of one epoch are promised."""
 
     def lie(provider, request, reply):
-        if not is_of(request, "change", "change2"):
+        if not is_of(request, "change"):
             return reply
-        provider.hub.directory.waiting.pop(words_of(request)[-2], None)
+        provider.hub.directory.waiting.pop(words_of(request)[0], None)
         return provider.hub.bytes(0, request)
-
-    return lie
-
-
-def of_another_policy(place, seed):
-    """From this reply on, often takes a key with another policy than was asked for, or in the other version."""
-    rng = random.Random(seed)
-
-    def lie(provider, request, reply):
-        if provider.count < place or not is_of(request, *BINDING) or rng.randrange(3) == 0:
-            return reply
-        name, key = words_of(request)[-2:]
-        verb, directory = REQUESTS[request[4]][0].removesuffix("2"), provider.hub.directory
-        if reply[4] == PROMISE:
-            directory.waiting.pop(name, None)
-        policy = rng.choice([None, *POLICIES])
-        return provider.hub.bytes(0, request_frame(verb, name, key) if policy is None else request_frame(f"{verb}2", policy, name, key))
 
     return lie
 
@@ -487,7 +466,7 @@ def both(one, other):
 
 LIES = [
     nothing, altered, altered, altered, cut, bad_length, replayed, forked, forgetful,
-    promised_before, promised_twice, of_another_policy, older_head, older_head, older_among, roots_altered, roots_altered, closed_between, gone_back, robbed, held_up, out_of_memory,
+    promised_before, promised_twice, older_head, older_head, older_among, roots_altered, roots_altered, closed_between, gone_back, robbed, held_up, out_of_memory,
     *[both(robbed, other) for other in (altered, older_head, older_among, roots_altered, closed_between, gone_back, held_up, out_of_memory)],
     *[both(held_up, other) for other in (promised_before, promised_twice, forgetful, forked, older_among)],
 ]

@@ -11,7 +11,6 @@ from session_scripts import (
     HEAD,
     TOP,
     change,
-    change2,
     closing,
     hexed,
     key_of,
@@ -20,11 +19,9 @@ from session_scripts import (
     piece,
     promise,
     register,
-    register2,
     rotation,
     split,
     watch,
-    watch2,
 )
 from sessions import TOKEN
 
@@ -280,12 +277,6 @@ class Drawing:
         rare = [b"", b"k" * 2048, b"k" * 2049]
         return self.rng.choice(rare) if self.rng.randrange(25) == 0 else b"k%d" % self.rng.randrange(4)
 
-    def policy(self):
-        return self.rng.choice(list(POLICIES.values()))
-
-    def policy_byte(self):
-        return self.rng.choice([0, 3, 255]) if self.rng.randrange(12) == 0 else self.rng.choice(list(POLICIES))
-
     def old_epoch(self):
         near = [self.epoch, max(self.epoch - self.rng.randrange(8), 0), min(self.epoch + 1, TOP)]
         return self.rng.choice([0, 0, *near])
@@ -316,11 +307,7 @@ class Drawing:
     def command(self):
         """A command through session 0."""
         rng = self.rng
-        match rng.randrange(13):
-            case 10:
-                return register2(self.name(), self.key(), self.policy())
-            case 11 | 12:
-                return change2(self.name(), self.key(), self.policy())
+        match rng.randrange(10):
             case 0 | 1:
                 return register(self.name(), self.key())
             case 2 | 3:
@@ -338,11 +325,7 @@ class Drawing:
     def request(self):
         """The frame of a message: a request, or a frame that is none."""
         rng = self.rng
-        match rng.randrange(20):
-            case 16 | 17:
-                return request_frame("register2", self.policy_byte(), self.name(), self.key())
-            case 18 | 19:
-                return request_frame("change2", self.policy_byte(), self.name(), self.key())
+        match rng.randrange(16):
             case 0 | 1 | 2:
                 return request_frame("register", self.name(), self.key())
             case 3 | 4 | 5:
@@ -376,10 +359,7 @@ class Drawing:
         rng = self.rng
         match rng.randrange(20):
             case 0 | 1:
-                return rng.choice([
-                    watch(self.name(), rng.choice([b"", b"", self.key()])),
-                    watch2(self.name(), self.key() or b"k", self.policy()),
-                ])
+                return watch(self.name(), rng.choice([b"", b"", self.key()]))
             case 2:
                 return f"end {rng.choice([1, 2, 3, 4294967295])}"
             case 3:

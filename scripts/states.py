@@ -184,18 +184,16 @@ class Life:
         return life
 
     def line(self):
-        kinds = ["register", "register", "register2", "change", "change", "change2", "close", "close", "close", "close"]
-        kind = self.rng.choice([*kinds, "watch", "watch", "watch2", "lookup", "lookup", "head", "head"])
+        kind = self.rng.choice(["register", "register", "change", "close", "close", "watch", "lookup", "head"])
         if kind == "close":
             self.epoch += 1
             return f"close {self.epoch}"
         if kind == "head":
             return kind
-        policy, key = self.rng.choice(["open", "open", "final"]), self.rng.choice(["6b31", "6b32"])
-        if kind in ("register", "register2") or not self.names:
+        if kind == "register" or not self.names:
             self.names.append(f"{len(self.names):04x}")
-            return f"register2 {self.names[-1]} 6b31 {policy}" if kind == "register2" else f"register {self.names[-1]} 6b31"
-        words = {"lookup": "0", "watch": "6b31", "watch2": f"6b31 {policy}", "change": key, "change2": f"{key} {policy}"}
+            return f"register {self.names[-1]} 6b31"
+        words = {"lookup": "0", "watch": "6b31", "change": self.rng.choice(["6b31", "6b32"])}
         return f"{kind} {self.rng.choice(self.names)} {words[kind]}"
 
     def script(self):
@@ -563,8 +561,7 @@ def bad_items(program):
             f"change  {promise[7:]}", promise[:-2], promise[:-1], f"{promise}00", f"{promise[:-1]}g", changed_digit(promise), "promise", "change ",
             "watched 61 1 x", "watched 61 1 ", "watched 61 -1 2", "alarm", "alarm 61", "alarm 61 2", "alarm 61 2 ", "alarm 6 2 6b31",
             "alarm 61 x 6b31", "alarm 61 2 6b3", "alarm 61 2 none", "alarm 61 2 absent 2", "alarm 61 18446744073709551616 6b31",
-            f"alarm {'61' * 256} 2 6b31", f"alarm 61 2 {'61' * 2049}", "alarm 61 2 6b31 ", "alarm 61 2 6b31 Open", "alarm 61 2 absent open",
-            "alarm 61 2 6b3 open", "alarm 61 2 6b31 open final", f"alarm 61 2 {'61' * 2049} final", "{", "{}", '{"first":"","kind":"fork","second":""}',
+            f"alarm {'61' * 256} 2 6b31", f"alarm 61 2 {'61' * 2049}", "{", "{}", '{"first":"","kind":"fork","second":""}',
         ]
         for bad in lines:
             for number in (1, 2, 3):

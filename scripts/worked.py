@@ -193,8 +193,8 @@ def in_words(reply):
         return f"promise over epoch {value.promise.epoch}"
     if kind == ROOT:
         return f"root of epoch {value.epoch}"
-    found = value.statement()
-    return f"epoch {value.body.epoch}, " + ("no key" if found is None else f"key {found.key.decode()}")
+    key = value.statement()
+    return f"epoch {value.body.epoch}, " + ("no key" if key is None else f"key {key.decode()}")
 
 
 # A directory that listens ------------------------------------------------------------------------------

@@ -1,4 +1,4 @@
--- What shows anyone that a provider cheated (CONIKS, section 4, equivocation).
+-- What shows anyone that a provider cheated (CONIKS, section 4).
 use Rattle.std.specs.Prelude.{ℕ, List}
 use Rattle.rootchain.specs.Evidence.{IsRootEvidence}
 use Rattle.proofs.specs.BrokenPromises.{IsBrokenPromise}

@@ -11,7 +11,6 @@ pub mod Growing
 pub mod Honesty
 pub mod Joining
 pub mod Keeping
-pub mod Keys
 pub mod Members
 pub mod OneRoot
 pub mod PathEnds

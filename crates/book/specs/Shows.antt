@@ -46,7 +46,7 @@ module _ (provider : Provider) where
   abbrev pub index_of : List ℕ → List ℕ
   index_of name = provider.hash (provider.value name)
 
-  -- each name's index, and the commitment to its salt and key, with its policy if it has one
+  -- each name's index, and the commitment to its salt and key
   abbrev pub placement : Map Binding → Items
   placement bindings =
       put_all [] (map (λ entry. (index_of entry.0, provider.hash (commitment_bytes entry.1.salt entry.0 entry.1.key))) bindings)
@@ -85,7 +85,7 @@ module _ (provider : Provider) where
   abbrev pub IsRootOf : Book → Page → SignedRoot → Type 0
   IsRootOf book page root = Contains (sealed_pages book) (record { page = page; root = root })
 
-  -- the promise, over this body, to bind the key to the name, with its policy if it has one
+  -- the promise, over this body, to bind the key to the name
   abbrev pub promise : Body → List ℕ → Binding → Promise
   promise body name binding = record {
     epoch = body.epoch;

@@ -232,7 +232,6 @@ fn ask_order<'a>(found: &ArgMatches<'a>) -> AskOrder<'a>
         command: found.get_str("command"),
         first: found.get_str("first"),
         second: found.get_str("second"),
-        third: found.get_str("third"),
         after: after(found),
     }
 }

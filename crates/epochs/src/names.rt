@@ -120,7 +120,7 @@ impl Names {
     ///
     /// # Errors
     ///
-    /// `NoSuchName`, `FinalBinding`, `PendingExists`, `Memory`, `KeepFailed`: the first that applies. All then stays as it was.
+    /// `NoSuchName`, `PendingExists`, `Memory`, `KeepFailed`: the first that applies. All then stays as it was.
     pub(crate) fn change<H: NodeHash, K: Keeper>(
         &mut self,
         commitments: &mut HashMap<Index, Hash32, Seeded>,

@@ -98,9 +98,8 @@ fn text_ahead(ahead: &mut Cursor<'_>) -> Option<NodeText> {
             salt,
             name,
             key,
-            policy,
             ..
-        } => short_commit_text(&salt, name, key, policy),
+        } => short_commit_text(&salt, name, key),
         Later::Turned { .. } => None,
     }
 }

@@ -84,7 +84,6 @@ fn write_frame(run: &Run, kind: Kind, entry: &Entry, stream: &mut Vec<u8>) {
             verb: Verb::Register,
             name,
             key,
-            policy: None,
         }),
     };
     if !request.fits() || request.write(stream).is_err() {

@@ -4,7 +4,6 @@ pub mod Left
 pub mod Joined
 pub mod Indexed
 pub mod OneWord
-pub mod FoundTexts
 pub mod OneItem
 pub mod SaidLines
 pub mod Least

@@ -6,9 +6,9 @@ ghost use Rattle.encoding.specs.Limits.{IsKeyData, IsName};
 ghost use Rattle.hex.specs.Hex.{decode_of, encode_lower};
 ghost use Rattle.rootchain.specs.Promises.{SpellsPromise};
 ghost use Rattle.memory.specs.Finding.{Finds};
-ghost use Rattle.memory.specs.Words.{HasNoSpace, IsFoundText, IsHexOf, IsNameWord, IsNumberWord, IsPolicyWord, IsPromiseWord};
+ghost use Rattle.memory.specs.Words.{IsFoundWord, IsHexOf, IsNameWord, IsNumberWord, IsPromiseWord};
 
-use encoding::{BoundKey, KeyData, Name, Policy};
+use encoding::{KeyData, Name};
 use hex::FromHexError;
 use itoa::Buffer;
 use rootchain::SignedPromise;
@@ -95,67 +95,25 @@ fn name_of(bytes: &[u8]) -> Option<Name>
     }
 }
 
-/// The key that a text writes, with its policy if it has one, or that there was none.
-pub(crate) fn read_found(alloc: Global, text: &[u8]) -> Result<Option<Option<BoundKey>>, AllocError>
-    ensures { IfOk result (Finds (IsFoundText text.now)) }
-{
-    match first_part(text, b' ') {
-        (word, Some(behind)) => read_key_with(alloc, word, behind),
-        (word, None) => read_key(alloc, word),
-    }
-}
-
-/// `KEY POLICY`
-fn read_key_with(
-    alloc: Global,
-    word: &[u8],
-    behind: &[u8],
-) -> Result<Option<Option<BoundKey>>, AllocError>
-    requires { HasNoSpace word.now }
-    ensures { IfOk result (Finds (IsFoundText (word.now ++ 32 ∷ behind.now))) }
-{
-    let Some(policy) = read_policy(behind) else {
-        return Ok(None);
-    };
-    match read_hex(alloc, word)? {
-        Some(bytes) => Ok(key_of(&bytes, Some(policy))),
-        None => Ok(None),
-    }
-}
-
-/// `KEY`, or `absent`
-fn read_key(alloc: Global, word: &[u8]) -> Result<Option<Option<BoundKey>>, AllocError>
-    requires { HasNoSpace word.now }
-    ensures { IfOk result (Finds (IsFoundText word.now)) }
+/// The key that a word writes, or that there was none.
+pub(crate) fn read_found(alloc: Global, word: &[u8]) -> Result<Option<Option<KeyData>>, AllocError>
+    ensures { IfOk result (Finds (IsFoundWord word.now)) }
 {
     if word == b"absent".as_slice() {
         return Ok(Some(None));
     }
     match read_hex(alloc, word)? {
-        Some(bytes) => Ok(key_of(&bytes, None)),
+        Some(bytes) => Ok(key_of(&bytes)),
         None => Ok(None),
     }
 }
 
-/// The policy that a word names.
-fn read_policy(word: &[u8]) -> Option<Policy>
-    ensures { Finds (IsPolicyWord word.now) result }
-{
-    if word == b"open".as_slice() {
-        return Some(Policy::Open);
-    }
-    if word == b"final".as_slice() {
-        return Some(Policy::Final);
-    }
-    None
-}
-
-/// The key of these bytes with this policy, as what was found.
-fn key_of(bytes: &[u8], policy: Option<Policy>) -> Option<Option<BoundKey>>
-    ensures { MatchOption result (¬ IsKeyData bytes.now) (λ found. IsKeyData bytes.now × (found ≡ Some (record { value = bytes.now; policy = policy }))) }
+/// The key of these bytes, as what was found.
+fn key_of(bytes: &[u8]) -> Option<Option<KeyData>>
+    ensures { MatchOption result (¬ IsKeyData bytes.now) (λ found. IsKeyData bytes.now × (found ≡ Some bytes.now)) }
 {
     match KeyData::new(bytes) {
-        Ok(value) => Some(Some(BoundKey { value, policy })),
+        Ok(key) => Some(Some(key)),
         Err(_) => None,
     }
 }

@@ -18,7 +18,6 @@ pub mod Parties
 pub mod Played
 pub mod PlayedLines
 pub mod Plays
-pub mod Policies
 pub mod Printing
 pub mod Reading
 pub mod Rotations

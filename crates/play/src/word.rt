@@ -2,9 +2,8 @@
 
 ghost use Rattle.std.specs.Prelude.{◌≡◌, ◌∷◌, IfOk, option_map};
 ghost use Rattle.std.specs.Int.NonZero.{non_zero_u32_get};
-ghost use Rattle.play.specs.Scripts.{count_word, epoch_word, hex_word, number_word, one_of, policy_word, session_word, three_of, two_of, words, words_behind};
+ghost use Rattle.play.specs.Scripts.{count_word, epoch_word, hex_word, number_word, one_of, session_word, two_of, words, words_behind};
 
-use encoding::Policy;
 use hex::FromHexError;
 use itoa::Buffer;
 use std::alloc::{AllocError, Global};
@@ -39,28 +38,6 @@ pub(crate) fn two_words(behind: Option<&[u8]>) -> Option<(&[u8], &[u8])>
 {
     let (one, more) = first_word(behind?);
     Some((one, one_word(more)?))
-}
-
-/// The words, if there are three.
-pub(crate) fn three_words(behind: Option<&[u8]>) -> Option<(&[u8], &[u8], &[u8])>
-    ensures { option_map (λ all. (all.0.now, all.1.now, all.2.now)) result ≡ three_of (words_behind (option_map (λ text. text.now) behind.entry)) }
-{
-    let (one, more) = first_word(behind?);
-    let (two, three) = two_words(more)?;
-    Some((one, two, three))
-}
-
-/// The policy of this name.
-pub(crate) fn read_policy(word: &[u8]) -> Option<Policy>
-    ensures { result ≡ policy_word word.now }
-{
-    if word == b"open".as_slice() {
-        return Some(Policy::Open);
-    }
-    if word == b"final".as_slice() {
-        return Some(Policy::Final);
-    }
-    None
 }
 
 /// The number that a word writes in decimal digits, with no zero in front, if it is at most this.

@@ -1,7 +1,7 @@
 ghost use Rattle.std.specs.Prelude.{◌≤◌};
 
 use crate::word::{Word, number};
-use encoding::{BoundKey, Hash32, Index, KeyData, Name, Policy, Small};
+use encoding::{Hash32, Index, KeyData, Name, Small};
 use sha2::{Digest, Sha256};
 use std::alloc::Global;
 use std::fmt::Display;
@@ -232,34 +232,6 @@ impl<'a> Case<'a> {
                 self.spoil();
                 some_key()
             }
-        }
-    }
-
-    /// The next word, the name of a policy.
-    pub fn policy(&mut self) -> Policy {
-        match self.word() {
-            b"open" => Policy::Open,
-            b"final" => Policy::Final,
-            _ => {
-                self.spoil();
-                Policy::Open
-            }
-        }
-    }
-
-    /// The next word's bytes, as a key without a policy.
-    pub fn plain_key(&mut self) -> BoundKey {
-        BoundKey {
-            value: self.key(),
-            policy: None,
-        }
-    }
-
-    /// The next two words: a key's bytes and its policy.
-    pub fn key_with_policy(&mut self) -> BoundKey {
-        BoundKey {
-            value: self.key(),
-            policy: Some(self.policy()),
         }
     }
 

@@ -1,4 +1,4 @@
--- What two signed roots show of a provider that told two histories (CONIKS, section 4, equivocation).
+-- What two signed roots show of a provider that told two histories (CONIKS, section 4).
 use Rattle.std.specs.Prelude.{◌≡◌, ◌≢◌, ◌⊎◌, ℕ, ◌<◌, List}
 use Rattle.rootchain.specs.Bodies.{body_bytes}
 use Rattle.rootchain.specs.Chains.{Verifies}

@@ -98,7 +98,6 @@ pub(crate) fn line_of_words(alloc: Global, order: AskOrder<'_>) -> Result<Vec<u8
     push_word(&mut line, order.command)?;
     push_word(&mut line, order.first)?;
     push_word(&mut line, order.second)?;
-    push_word(&mut line, order.third)?;
     Ok(line)
 }
 

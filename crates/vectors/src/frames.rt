@@ -71,19 +71,10 @@ fn say_query(case: &mut Case<'_>, query: &Query<'_>) {
 }
 
 fn say_put(case: &mut Case<'_>, put: &Put<'_>) {
-    match put.policy {
-        None => case.say(match put.verb {
-            Verb::Register => "register",
-            Verb::Change => "change",
-        }),
-        Some(policy) => {
-            case.say(match put.verb {
-                Verb::Register => "register2",
-                Verb::Change => "change2",
-            });
-            case.say_shown(policy);
-        }
-    }
+    case.say(match put.verb {
+        Verb::Register => "register",
+        Verb::Change => "change",
+    });
     case.say_bytes(put.name);
     case.say_bytes(put.key);
 }

@@ -1,7 +1,7 @@
 //! Of `proofs`: replies that are made.
 
 use crate::ways::{path_of, siblings};
-use encoding::Small;
+use encoding::{KeyData, Small};
 use proofs::{End, make};
 use questions::Case;
 use rootchain::Body;
@@ -13,21 +13,16 @@ pub(crate) fn make_reply(case: &mut Case<'_>) {
     };
     let value = case.small();
     match case.word() {
-        b"present" => make_present(case, &body, &value, false),
-        b"present2" => make_present(case, &body, &value, true),
+        b"present" => make_present(case, &body, &value),
         b"empty" => make_ended(case, &body, &value, &End::Empty),
         b"other" => make_other(case, &body, &value),
         _ => case.spoil(),
     }
 }
 
-fn make_present(case: &mut Case<'_>, body: &Body, value: &Small, has_policy: bool) {
+fn make_present(case: &mut Case<'_>, body: &Body, value: &Small) {
     let salt = case.hash();
-    let key = if has_policy {
-        case.key_with_policy()
-    } else {
-        case.plain_key()
-    };
+    let key: KeyData = case.key();
     make_ended(case, body, value, &End::Present { salt, key: &key });
 }
 

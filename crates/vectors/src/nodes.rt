@@ -10,8 +10,7 @@ pub(crate) fn answer(case: &mut Case<'_>) {
         b"empty" => empty(case),
         b"leaf" => leaf(case),
         b"interior" => interior(case),
-        b"commit" => committed(case, false),
-        b"commit2" => committed(case, true),
+        b"commit" => committed(case),
         verb => digests::answer(case, verb),
     }
 }
@@ -40,15 +39,11 @@ fn interior(case: &mut Case<'_>) {
     case.say_bytes(interior_text(&zero, &one).bytes());
 }
 
-/// `commit SALT NAME KEY`, `commit2 SALT NAME KEY POLICY`: the text, and its digests by SHA-256 and by sums.
-fn committed(case: &mut Case<'_>, has_policy: bool) {
+/// `commit SALT NAME KEY`: the text, and its digests by SHA-256 and by sums.
+fn committed(case: &mut Case<'_>) {
     let salt = case.hash();
     let name = case.name();
-    let key = if has_policy {
-        case.key_with_policy()
-    } else {
-        case.plain_key()
-    };
+    let key = case.key();
     case.say_bytes(commit_text(&salt, &name, &key).bytes());
     case.say_bytes(commit(&mut Sha256Hash::new(), &salt, &name, &key).bytes());
     case.say_bytes(commit(&mut SumHash::new(), &salt, &name, &key).bytes());

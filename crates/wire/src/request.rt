@@ -35,10 +35,6 @@ const CLOSE: u8 = 7;
 
 const ROTATE: u8 = 8;
 
-const REGISTER_WITH_POLICY: u8 = 10;
-
-const CHANGE_WITH_POLICY: u8 = 11;
-
 /// What a session asks of a directory: a command, where a new page has the operator's token beside it.
 #[derive(Debug, Drop)]
 pub enum Request<'a> {
@@ -84,11 +80,7 @@ impl<'a> Request<'a> {
             Request::Query(Query::Lookup { name, .. }) => name.len() < MAX_FRAME_LEN - 10,
             Request::Query(Query::History { .. } | Query::Head) => true,
             Request::Put(put) => {
-                let len = put.name.len().saturating_add(put.key.len());
-                match put.policy {
-                    None => len < MAX_FRAME_LEN - 4,
-                    Some(_) => len < MAX_FRAME_LEN - 5,
-                }
+                put.name.len().saturating_add(put.key.len()) < MAX_FRAME_LEN - 4
             }
             // Always so: a token and a nonce have 32 bytes, which their `bytes` ensures.
             Request::Turn {
@@ -115,45 +107,19 @@ impl<'a> Request<'a> {
     {
         match self {
             Request::Query(query) => write_query(query, output),
-            Request::Put(put) => write_put(put, output),
+            Request::Put(put) => append_frame(
+                output,
+                put_kind(put.verb),
+                &length_bytes(put.name),
+                put.name,
+                &length_bytes(put.key),
+                put.key,
+            ),
             Request::Turn {
                 token,
                 epoch,
                 nonce,
             } => write_turn(token, *epoch, nonce, output),
-        }
-    }
-}
-
-/// Appends the frame of a key that is put to a name.
-fn write_put(put: &Put<'_>, output: &mut Vec<u8>) -> Result<(), AllocError>
-    requires { frame_size (request_frame (asks.Put put.now.verb put.now.name.now (put.now.key.now, put.now.policy))) ≤ MAX_FRAME_LEN }
-    ensures ok { OnOk result (output.new.items ≡ output.old.items ++ frame_bytes (request_frame (asks.Put put.now.verb put.now.name.now (put.now.key.now, put.now.policy)))) }
-    ensures err { OnErr result (output.new.items ≡ output.old.items) }
-    ensures room { vec_len output.old + 4 + frame_size (request_frame (asks.Put put.now.verb put.now.name.now (put.now.key.now, put.now.policy))) ≤ vec_capacity output.old → IsOk result }
-    ensures form { IsAsked (asks.Put put.now.verb put.now.name.now (put.now.key.now, put.now.policy)) × IsFrame (request_frame (asks.Put put.now.verb put.now.name.now (put.now.key.now, put.now.policy))) }
-{
-    match put.policy {
-        None => append_frame(
-            output,
-            put_kind(put.verb),
-            &length_bytes(put.name),
-            put.name,
-            &length_bytes(put.key),
-            put.key,
-        ),
-        Some(policy) => {
-            let mut front = FixedText::<3>::new();
-            front.push(policy);
-            front.push_slice(&length_bytes(put.name));
-            append_frame(
-                output,
-                policy_kind(put.verb),
-                front.bytes(),
-                put.name,
-                &length_bytes(put.key),
-                put.key,
-            )
         }
     }
 }
@@ -223,16 +189,6 @@ fn put_kind(verb: Verb) -> u8
     }
 }
 
-/// The kind byte of a key with a policy that is put to a name.
-fn policy_kind(verb: Verb) -> u8
-    ensures { result ≡ asks.policy_kind verb }
-{
-    match verb {
-        Verb::Register => REGISTER_WITH_POLICY,
-        Verb::Change => CHANGE_WITH_POLICY,
-    }
-}
-
 /// The parts of a request of this kind, from the front of a body.
 #[tactic(auto, unfolding(crate::specs::Requests::read_request))]
 fn read_parts<'a>(kind: u8, cursor: &mut Cursor<'a>) -> Result<Request<'a>, ReadRefusal>
@@ -241,13 +197,11 @@ fn read_parts<'a>(kind: u8, cursor: &mut Cursor<'a>) -> Result<Request<'a>, Read
     Ok(match kind {
         REGISTER => Request::Put(Put {
             verb: Verb::Register,
-            policy: None,
             name: cursor.counted(0, MAX_COUNTED_LEN)?,
             key: cursor.counted(0, MAX_COUNTED_LEN)?,
         }),
         CHANGE => Request::Put(Put {
             verb: Verb::Change,
-            policy: None,
             name: cursor.counted(0, MAX_COUNTED_LEN)?,
             key: cursor.counted(0, MAX_COUNTED_LEN)?,
         }),
@@ -274,18 +228,6 @@ fn read_parts<'a>(kind: u8, cursor: &mut Cursor<'a>) -> Result<Request<'a>, Read
             epoch: cursor.u64()?,
             nonce: Some(cursor.hash32()?),
         },
-        REGISTER_WITH_POLICY => Request::Put(Put {
-            verb: Verb::Register,
-            policy: Some(cursor.u8()?),
-            name: cursor.counted(0, MAX_COUNTED_LEN)?,
-            key: cursor.counted(0, MAX_COUNTED_LEN)?,
-        }),
-        CHANGE_WITH_POLICY => Request::Put(Put {
-            verb: Verb::Change,
-            policy: Some(cursor.u8()?),
-            name: cursor.counted(0, MAX_COUNTED_LEN)?,
-            key: cursor.counted(0, MAX_COUNTED_LEN)?,
-        }),
         _ => return Err(ReadRefusal::BadKind),
     })
 }

@@ -73,12 +73,11 @@ A script has one directory, a client that checks look-ups, an auditor, and monit
 memory, with keys that are always the same. Each line is a command, and prints what comes of it:
 
     register NAME KEY, change NAME KEY, promise NAME, lookup NAME EPOCH, history FROM COUNT, head,
-    register2 NAME KEY POLICY, change2 NAME KEY POLICY, close EPOCH, rotate EPOCH NONCE, watch NAME KEY,
-    watch2 NAME KEY POLICY, bytes SESSION HEX, end SESSION
+    close EPOCH, rotate EPOCH NONCE, watch NAME KEY, bytes SESSION HEX, end SESSION
 
 NAME, KEY and HEX are hexadecimal digits, or `-` for no bytes; the key of `watch` is the one that is
-expected, or `-` for none. NONCE is 64 digits, POLICY `open` or `final`. A look-up at epoch 0 asks for the latest
-one. A line that is empty or begins with `#` prints nothing. The first line that is no command ends the run:
+expected, or `-` for none. NONCE is 64 digits. A look-up at epoch 0 asks for the latest one. A line that
+is empty or begins with `#` prints nothing. The first line that is no command ends the run:
 `line N: not a command`.
 
 In this script alice (616c696365) registers the key 6b31, and her monitor finds it in epoch 2:
@@ -122,12 +121,10 @@ Asks the directory that listens on ADDR what the words ask, or without words eac
 checks each reply as a client, and prints the line that `play` prints:
 
     register NAME KEY, change NAME KEY, promise NAME, lookup NAME EPOCH, history FROM COUNT, head,
-    register2 NAME KEY POLICY, change2 NAME KEY POLICY, close EPOCH, rotate EPOCH NONCE, watch NAME KEY,
-    watch2 NAME KEY POLICY
+    close EPOCH, rotate EPOCH NONCE, watch NAME KEY
 
-NAME and KEY are hexadecimal digits, here and in what is printed: alice is 616c696365. POLICY is `open` or
-`final`. With --text, NAME of the words is text, and KEY still digits. Lines of standard input have no text:
---text without words is refused.
+NAME and KEY are hexadecimal digits, here and in what is printed: alice is 616c696365. With --text, NAME of the
+words is text, and KEY still digits. Lines of standard input have no text: --text without words is refused.
 
 --provider is all that a user needs: a file with the line `provider` and 64 hexadecimal digits, and no secret
 key. `close` and `rotate` are the operator's, who gives --keys, a file with `provider` and `token`, or --token.
@@ -137,9 +134,8 @@ which `audit` reads too, and FILE.kept what is remembered beside it; without the
 directory's latest root. Evidence and alarms of earlier runs are told again; the words `settle NAME` drop the
 alarms of a name from FILE.kept, and ask ADDR nothing.
 
-With --after EPOCH the words `watch NAME KEY`, `watch2 NAME KEY POLICY` and `head` end with the line `stale E` and
-status 3 if E, the last epoch that was watched of the name, or the head's, is not above EPOCH. Before any was
-watched, E is 0.
+With --after EPOCH the words `watch NAME KEY` and `head` end with the line `stale E` and status 3 if E, the last
+epoch that was watched of the name, or the head's, is not above EPOCH. Before any was watched, E is 0.
 
 Status 3: the provider was caught, by evidence or a promise that was not kept, a name is not as expected, or an
 epoch is stale.
@@ -356,7 +352,7 @@ pub(super) static SUBCOMMANDS: [Subcommand; 8] = [
             Argument {
                 name: "after",
                 value: "EPOCH",
-                help: "Tell with status 3 if no later epoch is known, of the name of `watch` or `watch2`, or of `head`",
+                help: "Tell with status 3 if no later epoch is known, of the name of `watch` or of `head`",
                 kind: Kind::Optional(0, u64::MAX),
             },
             Argument {
@@ -381,12 +377,6 @@ pub(super) static SUBCOMMANDS: [Subcommand; 8] = [
                 name: "second",
                 value: "WORD",
                 help: "Its second word",
-                kind: Kind::Word,
-            },
-            Argument {
-                name: "third",
-                value: "WORD",
-                help: "Its third word",
                 kind: Kind::Word,
             },
         ],
