@@ -7,7 +7,7 @@ use thiserror::Error;
 /// Why a question stops.
 #[derive(Clone, Copy, Debug, PartialEq, Eq, Error)]
 pub enum AskFault {
-    /// The stream ended, failed or was silent before a reply was whole.
+    /// The stream ended, failed or reached its time limit before a reply was whole.
     #[error("no reply")]
     NoReply,
     /// The chain does not begin, or does not get as far as a reply: roots do not come or are refused, which is told. Callers that

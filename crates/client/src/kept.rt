@@ -1,5 +1,5 @@
-// The promises that a client keeps. Those that are tested stand at the front, as a rule. They are passed over, and their room
-// is given back once it is more than half of all, so that the others are seldom moved.
+// The promises that a client keeps. Those that are tested stand at the front, as a rule. They are passed over, and removed
+// together once they are more than half of all, so that the others are seldom moved.
 ghost use Rattle.std.specs.Prelude.{◌≡◌, ◌<◌, ◌≤◌, ◌++◌, ◌∷◌, [], OnErr, OnOk, drop, length, remove};
 
 use rootchain::SignedPromise;
@@ -102,7 +102,7 @@ fn drop_at(list: &mut Vec<SignedPromise>, gone: usize, place: usize) -> usize
     0
 }
 
-/// Gives back the room of the first promises of a list.
+/// Removes the first promises of a list.
 fn cut(list: &mut Vec<SignedPromise>, gone: usize)
     requires { gone ≤ length list.old.items }
     ensures { list.new.items ≡ drop gone list.old.items }
