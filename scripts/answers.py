@@ -178,11 +178,19 @@ class Words:
         except Refusal:
             raise BadQuestion from None
 
-    def end(self, words):
-        """An end: `present` and these words, `empty`, or `other INDEX COMMITMENT`."""
+    def policy(self):
+        """`open` or `final`."""
         word = self.word()
-        if word == "present":
-            return words()
+        for policy, name in POLICIES.items():
+            if word == name:
+                return policy
+        raise BadQuestion
+
+    def end(self, **leaves):
+        """An end: a leaf by its word, with these words; `empty`; or `other INDEX COMMITMENT`."""
+        word = self.word()
+        if word in leaves:
+            return leaves[word]()
         if word == "empty":
             return Empty()
         if word == "other":
@@ -190,10 +198,13 @@ class Words:
         raise BadQuestion
 
     def node_end(self):
-        return self.end(lambda: Present(self.hash()))
+        return self.end(present=lambda: Present(self.hash()))
 
     def reply_end(self):
-        return self.end(lambda: Opening(self.hash(), self.key()))
+        def opening():
+            return Opening(self.hash(), self.key())
+
+        return self.end(present=opening, present2=lambda: opening()._replace(policy=self.policy()))
 
 
 class Lines:
@@ -237,7 +248,12 @@ def body_words(body):
 
 def promise_words(promise):
     parts = (promise.body_hash, promise.index, promise.name, promise.key)
-    return [str(promise.epoch), *map(told, parts)]
+    return [str(promise.epoch), *map(told, parts), *policy_words(promise.policy)]
+
+
+def policy_words(policy):
+    """The name of a policy, or nothing in version 1."""
+    return [] if policy is None else [POLICIES[policy]]
 
 
 def list_words(roots):
@@ -256,8 +272,8 @@ def place_words(place):
     return [place]
 
 
-def statement_words(key):
-    return ["absent"] if key is None else ["present", told(key)]
+def statement_words(statement):
+    return ["absent"] if statement is None else ["present", told(statement.key), *policy_words(statement.policy)]
 
 
 def end_words(end):
@@ -480,10 +496,17 @@ class Answers(Lines):
         """`interior ZERO ONE`"""
         return [told(interior_text(w.hash(), w.hash()))]
 
+    @staticmethod
+    def text_and_digests(text):
+        return [told(text), told(sha256(text)), told(byte_sum(text))]
+
     def nodes_commit(self, w):
         """`commit SALT NAME KEY`: the text, and its digest by SHA-256 and by sums."""
-        text = commitment_text(w.hash(), w.name(), w.key())
-        return [told(text), told(sha256(text)), told(byte_sum(text))]
+        return self.text_and_digests(commitment_text(w.hash(), w.name(), w.key()))
+
+    def nodes_commit2(self, w):
+        """`commit2 SALT NAME KEY POLICY`, POLICY `open` or `final`: the same in version 2."""
+        return self.text_and_digests(commitment_text(w.hash(), w.name(), w.key(), w.policy()))
 
     # stand-ins: values and signatures
 
@@ -534,7 +557,7 @@ class Answers(Lines):
         return [*body_words(root.body), *written, yes(root.verifies(KEY))]
 
     def roots_promise(self, w):
-        """`promise BYTES`"""
+        """`promise BYTES`: its fields, with the policy if it has one, and the bytes written again."""
         promise = Promise.read(w.bytes())
         return [*promise_words(promise), told(promise.write())]
 
@@ -803,8 +826,12 @@ class Answers(Lines):
         return [*parts, *statement_words(got.statement())] * 2
 
     def replies_binds(self, w):
-        """`binds KEY REPLY`: whether it states this key."""
-        return [yes(w.key() == Reply.read(w.bytes()).statement())]
+        """`binds KEY REPLY`: whether it states this key, in version 1."""
+        return [yes(Statement(w.key()) == Reply.read(w.bytes()).statement())]
+
+    def replies_binds2(self, w):
+        """`binds2 KEY POLICY REPLY`: whether it states this key with this policy."""
+        return [yes(Statement(w.key(), w.policy()) == Reply.read(w.bytes()).statement())]
 
     def compared_replies(self, digest, vuf, w):
         body, name, accepted = w.form(Body.read), w.name(), []
@@ -834,7 +861,8 @@ class Answers(Lines):
         return place_words(same_or_collision(byte_sum, *accepted))
 
     def replies_make(self, w):
-        """`make BODY VALUE END.. SIBLINGS`: END is `present SALT KEY`, `empty` or `other INDEX COMMITMENT`."""
+        """`make BODY VALUE END.. SIBLINGS`: END is `present SALT KEY`, `present2 SALT KEY POLICY`, `empty` or
+        `other INDEX COMMITMENT`."""
         body, value, end = w.form(Body.read), w.small(), w.reply_end()
         return [told(Reply(body, value, end, tuple(w.hashes())).write())]
 
@@ -906,6 +934,18 @@ class Answers(Lines):
         """`change ROOM SALT NAME KEY`"""
         room = w.number(JOURNAL_ROOM)
         return self.kept_twice(room, bound_record("change", w.hash(), w.name(), w.key()))
+
+    def bound_twice(self, verb, w):
+        room = w.number(JOURNAL_ROOM)
+        return self.kept_twice(room, bound_record(verb, w.hash(), w.name(), w.key(), w.policy()))
+
+    def journal_register2(self, w):
+        """`register2 ROOM SALT NAME KEY POLICY`"""
+        return self.bound_twice("register", w)
+
+    def journal_change2(self, w):
+        """`change2 ROOM SALT NAME KEY POLICY`"""
+        return self.bound_twice("change", w)
 
     def journal_turn(self, w):
         """`turn ROOM EPOCH`"""

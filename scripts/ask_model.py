@@ -16,6 +16,7 @@ from typing import NamedTuple
 from formats import (
     BAD_LINK,
     BEFORE_START,
+    BINDING,
     KNOWN,
     MAX_KEY,
     MAX_NAME,
@@ -35,6 +36,7 @@ from formats import (
     RootRefusal,
     SignedPromise,
     SignedRoot,
+    Statement,
     evidence_json,
     linked,
     lines_of,
@@ -54,6 +56,7 @@ from sessions import (
     NotACommand,
     command_of,
     hex_word,
+    looked_line,
     request_of,
     response_line,
     step_line,
@@ -208,14 +211,14 @@ class Told:
     def raise_again(self, alarms):
         """Tells alarms of earlier runs."""
         for line in alarms:
-            _, name, epoch, _ = line.split(" ")
+            _, name, epoch, *_ = line.split(" ")
             self.text.append(line)
             self.explain(f"watching {name} at epoch {epoch}", "alarm of an earlier run", 3)
 
 
 # What is asked ----------------------------------------------------------------------------------------------
 
-EXPECTED = {PROMISE: ("register", "change", "promise"), PROOF: ("lookup",), ROOTS: ("history",), ROOT: ("head", "close", "rotate")}
+EXPECTED = {PROMISE: (*BINDING, "promise"), PROOF: ("lookup",), ROOTS: ("history",), ROOT: ("head", "close", "rotate")}
 
 
 def answers(request, kind, value, head):
@@ -226,7 +229,9 @@ def answers(request, kind, value, head):
         return False
     match request:
         case "register" | "change", name, key:
-            return (value.promise.name, value.promise.key) == (name, key) and value.promise.epoch >= head
+            return is_promise_of(value, name, Statement(key), head)
+        case "register2" | "change2", policy, name, key:
+            return is_promise_of(value, name, Statement(key, policy), head)
         case "promise", name:
             return value.promise.name == name and value.promise.epoch >= head
         case "lookup", 0, name:
@@ -240,6 +245,17 @@ def answers(request, kind, value, head):
         case "rotate", _, epoch, nonce:
             return (value.epoch, value.body.nonce) == (epoch, nonce)
     return True
+
+
+def is_promise_of(signed, name, statement, head):
+    """Whether a promise is of a name and what it shall have, over no older root than that of an epoch."""
+    promise = signed.promise
+    return (promise.name, promise.statement()) == (name, statement) and promise.epoch >= head
+
+
+def is_watch(name, key, policy):
+    """Whether a name and a key can be watched, with these words behind them: no policy is of no key."""
+    return 1 <= len(name) <= MAX_NAME and (key != b"" or not policy) and len(key) <= MAX_KEY
 
 
 def epoch_of(value):
@@ -335,8 +351,7 @@ class Followed(Told):
         """The line for a response, to a request that was asked at a head of the epoch `before`."""
         match value:
             case Reply():
-                key = self.client.look(request[2], value.body.epoch, body)
-                return f"absent {value.body.epoch}" if key is None else f"present {value.body.epoch} {key.hex()}"
+                return looked_line(value.body.epoch, self.client.look(request[2], value.body.epoch, body))
             case SignedPromise():
                 self.client.keep_promise(body)
             case SignedRoot():
@@ -393,7 +408,7 @@ class Asked(Followed):
     def __init__(self, provider, roots=None, kept=(), path="state", after=None):
         super().__init__(provider)
         self.saved, self.found, self.path, self.after = roots or [], Memory.read(kept), path, after
-        self.changes, self.settled = [], None
+        self.changes, self.settled, self.is_answered = [], None, False
 
     def run(self, script, words=()):
         """Asks the lines of a script, or the words of the command line, of which the script is then the only line."""
@@ -432,7 +447,7 @@ class Asked(Followed):
 
     def tell_stale(self, line):
         """Tells the last epoch that was watched of the name of a line, or the head's, if it is not above the one that is
-        wanted. A line that is neither `watch` nor `head` has none."""
+        wanted. A line that is neither `watch`, `watch2` nor `head` has none."""
         last = self.last_of(line)
         if last is not None and last <= self.after:
             self.text.append(f"stale {last}")
@@ -445,7 +460,7 @@ class Asked(Followed):
             match command_of(line):
                 case "head", []:
                     return self.head_epoch()
-                case "watch", [name, key] if 1 <= len(name) <= MAX_NAME and len(key) <= MAX_KEY:
+                case "watch" | "watch2", [name, key, *policy] if is_watch(name, key, policy):
                     since, epoch = self.memory().marks.get(name, Mark(0, 0))
                     return epoch if epoch > since else 0
         return None
@@ -481,7 +496,7 @@ class Asked(Followed):
         command, words = command_of(line)
         if command in ("bytes", "end"):
             raise NotACommand
-        if command == "watch":
+        if command in ("watch", "watch2"):
             return self.watch(*words)
         before = self.head_epoch()
         self.answer(request_of(command, words))
@@ -500,6 +515,7 @@ class Asked(Followed):
     def answer(self, request, is_told=True):
         """Asks a request, and tells what comes back: at the beginning only where it is refused."""
         before, got = self.head_epoch(), self.ask(*request)
+        self.is_answered = True
         if got is None:
             return
         kind, value, body = got
@@ -513,7 +529,7 @@ class Asked(Followed):
             return self.refuse(REFUSED_THINGS[kind], refusal)
         if is_told:
             self.text.append(line)
-        if request[0] in ("register", "change"):
+        if request[0] in BINDING:
             self.hand_out(value, body)
 
     def hand_out(self, signed, body):
@@ -521,7 +537,7 @@ class Asked(Followed):
         self.changes.append(signed)
         for monitor in self.monitors_of(signed.promise.name):
             try:
-                monitor.expect_change(signed.promise.key, body)
+                monitor.expect(signed.promise.statement(), body)
             except Refusal as refusal:
                 self.refuse("promise", refusal, f"watching {monitor.name.hex()}: ")
 
@@ -564,8 +580,8 @@ class Asked(Followed):
     def monitors_of(self, name):
         return [monitor for monitor in self.monitors if monitor.name == name]
 
-    def watch(self, name, key):
-        if not 1 <= len(name) <= MAX_NAME or len(key) > MAX_KEY:
+    def watch(self, name, key, policy=None):
+        if not is_watch(name, key, [] if policy is None else [policy]):
             raise NotACommand
         self.raise_again(self.found.alarms_of(name))
         mark = self.found.marks.get(name)
@@ -573,22 +589,24 @@ class Asked(Followed):
         if first is None:
             self.text.append(f"watched {name.hex()} {mark.epoch}")
             return
-        self.monitors.append(self.monitor(first, name, key or None))
+        self.monitors.append(self.monitor(first, name, Statement(key, policy) if key else None))
         self.steps(self.monitors[-1])
         self.test_promises_of(name)
 
-    def monitor(self, first, name, key):
-        """A monitor from this root of the chain on. It expects the own changes that count for it, and before them this key.
-        Of those from before the root the last takes the place of the key, if the mark awaits it."""
+    def monitor(self, first, name, start):
+        """A monitor from this root of the chain on. It expects the own changes that count for it, and before them what is
+        given. Of those from before the root the last takes the place of that, if the mark awaits it."""
         client = Client(PROVIDER, first.write(), sha256, KeyedVuf(PROVIDER))
         while (root := self.client.chain.after(client.head().epoch)) is not None:
             client.update(write_list([root]))
         promised = self.promised(name)
         before = [signed for signed in promised if signed.promise.epoch < first.epoch and not self.found.is_watched(signed)]
-        monitor = Monitor(client, name, max(before, key=lambda signed: signed.promise.epoch).promise.key if before else key)
+        if before:
+            start = max(before, key=lambda signed: signed.promise.epoch).promise.statement()
+        monitor = Monitor.from_start(client, name, start)
         for signed in promised:
             with contextlib.suppress(Refusal):
-                monitor.expect_change(signed.promise.key, signed.write())
+                monitor.expect(signed.promise.statement(), signed.write())
         return monitor
 
     def promised(self, name):
@@ -612,7 +630,8 @@ class Asked(Followed):
 
     def state(self):
         """The lines of the two files after the run."""
-        roots = self.saved if self.client is None else [root.write() for root in self.client.chain.roots]
+        # The root at which a chain begins is kept once the directory has answered again.
+        roots = [root.write() for root in self.client.chain.roots] if self.is_answered else self.saved
         return [root.hex() for root in roots], self.memory().write()
 
     def memory(self):

@@ -8,10 +8,10 @@ The scripts are those of `play` without its lines about other sessions, and N dr
 `directoryd listen`: what they print is the text of `play`. As many honest directories follow, whose epochs end at any
 time: none of their lists of roots may be refused. Then come N times (400 unless given) some runs over one state, of a
 directory that may lie: it alters or cuts a reply, answers with what was right earlier, leaves roots out, signs another
-history, breaks its promises, or lets others change keys. The runs that are stored have to end as it says here too.
-Runs that go on from the states in scripts/version1 do what is stored there. One more directory is silent, and one takes
-no connection: each is given up after a minute. The last line is `N passed, M failed`, and the status is 0 where none
-failed.
+history, breaks its promises, or lets others change keys, also final ones. The runs that are stored have to end as it
+says here too. Runs that go on from the states in scripts/version1 do what is stored there. One more directory is silent,
+and one takes no connection: each is given up after a minute. The last line is `N passed, M failed`, and the status is 0
+where none failed.
 """
 
 import argparse
@@ -182,12 +182,13 @@ NAMES, KEYS = ("61", "62", "616c696365"), ("6b31", "6b32", "6b33")
 
 
 def drawn_line(rng, epoch):
-    name, key = rng.choice(NAMES), rng.choice(KEYS)
+    name, key, policy = rng.choice(NAMES), rng.choice(KEYS), rng.choice(["open", "open", "final"])
     return rng.choice([
         f"register {name} {key}", f"register {name} {key}", f"change {name} {key}", f"promise {name}",
         f"lookup {name} {rng.choice([0, 0, 1, epoch])}", "head",
         f"history {rng.choice([0, 1, 2, epoch // 2, epoch])} {rng.choice([1, 2, 64])}",
         f"close {epoch}", f"close {epoch}", f"rotate {epoch} {'05' * 32}", f"watch {name} {key}", f"watch {name} -",
+        f"register2 {name} {key} {policy}", f"change2 {name} {key} {policy}", f"watch2 {name} {key} {policy}",
     ])
 
 
@@ -197,6 +198,7 @@ def owner_line(rng, epoch):
     return rng.choice([
         "register 61 6b31", f"change 61 {key}", f"change 61 {key}", f"change 61 {key}", "promise 61", "lookup 61 0", "head",
         f"close {epoch}", f"close {epoch}", f"close {epoch}", "watch 61 6b31", f"watch 61 {key}",
+        f"change2 61 {key} open", f"watch2 61 {key} open", f"change2 61 {key} {rng.choice(['open', 'open', 'open', 'final'])}",
     ])
 
 
@@ -288,6 +290,27 @@ def key_is_robbed(provider, _request, reply):
     return reply
 
 
+def binding_becomes(key, policy):
+    """The name has this key and policy from the next epoch on, whatever it has."""
+
+    def act(provider, _request, reply):
+        provider.hub.directory.let_wait(b"a", key, None, policy)
+        return reply
+
+    return act
+
+
+def promised_key_is_opened(provider, _request, reply):
+    """The key that was promised as final is shown as open."""
+    let_wait_as_open(provider.hub.directory, b"a")
+    return reply
+
+
+def let_wait_as_open(directory, name):
+    """What waits for a name is open, whatever was promised."""
+    directory.waiting[name] = directory.waiting[name]._replace(policy=OPEN)
+
+
 def key_is_changed_and_put_back(provider, request, _reply):
     """Another device of the owner's changes the key, and somebody puts the old one back."""
     close(provider)
@@ -371,6 +394,12 @@ def directory_goes_back(epochs):
         return provider.hub.bytes(0, request)
 
     return act
+
+
+def policy_is_left_out(_provider, _request, _reply):
+    """The promise of a directory that was asked for the key without a policy."""
+    directory = keyed_directory(1, ZERO32, SIGNING_KEY, VUF_KEY, SALT_KEY)
+    return response_frame(PROMISE, directory.register(b"a", b"k1"))
 
 
 def nothing_is_kept(provider, _request, reply):
@@ -480,6 +509,14 @@ def promise_and_root(epochs=1):
     return evidence_json(BrokenPromise(promise, roots[0], directory.lookup(b"a", 2).write()))
 
 
+def final_promise_and_root():
+    """The evidence of a key that was promised as final, and is shown as open."""
+    directory = keyed_directory(1, ZERO32, SIGNING_KEY, VUF_KEY, SALT_KEY)
+    promise = directory.register2(b"a", b"k1", FINAL)
+    let_wait_as_open(directory, b"a")
+    return evidence_json(BrokenPromise(promise, directory.close(2), directory.lookup(b"a", 2).write()))
+
+
 def kept_epochs(first, last):
     """What is told of a name that is watched in these epochs."""
     return [f"kept 61 {epoch}" for epoch in range(first, last + 1)]
@@ -487,6 +524,9 @@ def kept_epochs(first, last):
 
 BEGUN_LINES = "register 61 6b31", "close 2", "watch 61 6b31"
 BEGUN = run_of_lines(*BEGUN_LINES)
+BEGUN_FINAL = run_of_lines("register2 61 6b31 final", "close 2", "watch2 61 6b31 final")
+WATCH_FINAL = run_of_lines("close 3", "watch2 61 6b31 final")
+IS_FINAL = "refused 25: the binding of the name on the latest page is final"
 BEGUN_LATER = run_of_lines("close 5", "close 6")
 THREE_ROOTS = [run_of_lines("close 2", "close 3"), run_of_words("history 1 64")]
 ALL_ROOTS = [BEGUN_LATER, run_of_words("history 1 64")]
@@ -1000,6 +1040,84 @@ STORED_LIES = {
         [BEGUN, run_of_words("watch 6 6b31", 9)],
         Ending([], 1, ["line 1: not a command"]),
     ),
+    # 12. A policy belongs to the key: in what is asked, told and remembered, and in what an owner expects.
+    "a policy that the owner does not expect": (
+        lies(),
+        [run_of_lines("register2 61 6b31 open", "close 2", "watch 61 6b31"), WATCH],
+        Ending(["alarm 61 2 6b31 open", "watched 61 2"], 3, ["watching 61 at epoch 2: alarm of an earlier run"]),
+    ),
+    "another policy than the owner expects": (
+        lies(),
+        [run_of_lines("register2 61 6b31 open", "close 2", "watch2 61 6b31 final"), SETTLE],
+        Ending(["settled 61 1"], 0, []),
+    ),
+    "a change to a final key whose monitor was held up": (
+        lies((2, "lookup", memory_runs_out_for(3))),
+        [BEGUN, run_of_lines("watch 61 6b31", "change2 61 6b32 final", "close 3"), WATCH],
+        Ending(["kept 61 3"], 0, []),
+    ),
+    "changes of a final key": (
+        lies(),
+        [BEGUN_FINAL, run_of_lines("change 61 6b32", "change2 61 6b31 final", "close 3", "watch2 61 6b31 final")],
+        Ending(["refused 25", "refused 25", "root 3 after 2", "kept 61 3"], 1, [IS_FINAL, IS_FINAL]),
+    ),
+    "a promise with no policy where one was asked for": (
+        lies((1, "register2", policy_is_left_out)),
+        [run_of_words("register2 61 6b31 final")],
+        Ending(["client refuses reply 25"], 1, [BEGINS, REPLY_25]),
+    ),
+    "a final key, and no new epoch": (
+        lies(),
+        [BEGUN_FINAL, run_of_words("watch2 61 6b31 final", 2)],
+        Ending(["watched 61 2", "stale 2"], 3, []),
+    ),
+    "a final key, and an epoch that is late enough": (
+        lies(),
+        [BEGUN_FINAL, run_of_lines("close 3"), run_of_words("watch2 61 6b31 final", 2)],
+        Ending(["kept 61 3"], 0, []),
+    ),
+    "a policy of no key, and an epoch that is wanted": (
+        lies(),
+        [BEGUN_FINAL, run_of_words("watch2 61 - final", 9)],
+        Ending([], 1, ["line 1: not a command"]),
+    ),
+    # 13. A provider that cheats can show another key for a final binding, and the owner finds it by watching. What was
+    # promised as final, and is not, is evidence.
+    "another key in the place of a final one": (
+        lies((2, None, key_is_robbed)),
+        [BEGUN_FINAL, WATCH_FINAL],
+        Ending(["root 3 after 2", ALARM], 3, []),
+    ),
+    "another key in the place of a final one, and a run later": (
+        lies((2, None, key_is_robbed)),
+        [BEGUN_FINAL, WATCH_FINAL, run_of_words("watch2 61 6b31 final")],
+        Ending([ALARM, "watched 61 3"], 3, [EARLIER_ALARM]),
+    ),
+    "another final key in the place of a final one": (
+        lies((2, None, binding_becomes(EVIL, FINAL))),
+        [BEGUN_FINAL, WATCH_FINAL],
+        Ending(["root 3 after 2", "alarm 61 3 6576 final"], 3, []),
+    ),
+    "a final key that is shown as open": (
+        lies((2, None, binding_becomes(b"k1", OPEN))),
+        [BEGUN_FINAL, WATCH_FINAL],
+        Ending(["root 3 after 2", "alarm 61 3 6b31 open"], 3, []),
+    ),
+    "a final key that is shown without a policy": (
+        lies((2, None, binding_becomes(b"k1", None))),
+        [BEGUN_FINAL, WATCH_FINAL],
+        Ending(["root 3 after 2", "alarm 61 3 6b31"], 3, []),
+    ),
+    "a final key that was promised, and is shown as open": (
+        lies((1, "register2", promised_key_is_opened)),
+        [run_of_lines("register2 61 6b31 final", "close 2")],
+        Ending(["promise 1", "root 2 after 1", final_promise_and_root()], 3, [BEGINS, "promise for 61: it was not kept"]),
+    ),
+    "a broken promise of a final key that was told": (
+        lies((1, "register2", promised_key_is_opened)),
+        [run_of_lines("register2 61 6b31 final", "close 2"), SETTLE],
+        Ending([final_promise_and_root(), "settled 61 0"], 3, [EARLIER_EVIDENCE]),
+    ),
 }
 
 
@@ -1284,7 +1402,10 @@ WITH_TEXT = [
     (("lookup", "alice", "0"), b"present 2 6b31\n"), (("watch", "alice", "6b31"), b"kept 616c696365 2\n"),
     (("change", "alice", "6b32"), b"promise 2\n"), (("rotate", "3", "05" * 32), b"root 3 after 2\n"), (("head",), b"root 3 after 2\n"),
     (("history", "1", "2"), b"roots 1 2\n"), (("lookup", "616c696365", "0"), b"absent 3\n"),
-    (("register", "Zo\u00eb 1", "6b"), b"promise 3\n"), (("settle", "alice"), b"settled 616c696365 0\n"),
+    (("register", "Zo\u00eb 1", "6b"), b"promise 3\n"), (("register2", "bob", "6b31", "final"), b"promise 3\n"),
+    (("change2", "alice", "6b33", "open"), b"promise 3\n"), (("close", "4"), b"root 4 after 3\n"),
+    (("lookup", "bob", "0"), b"present 4 6b31 final\n"), (("watch2", "bob", "6b31", "final"), b"kept 626f62 4\n"),
+    (("settle", "alice"), b"settled 616c696365 0\n"),
 ]
 
 
@@ -1299,7 +1420,10 @@ def names_as_text(program):
     return None if got == wanted else f"names as text: wanted {wanted}, got {got}"
 
 
-BAD_SETTLES = ["settle"], ["settle", "6"], ["settle", "0g"], ["settle", "-"], ["settle", "61" * 256], ["settle", "61", "61"]
+BAD_SETTLES = (
+    ["settle"], ["settle", "6"], ["settle", "0g"], ["settle", "-"], ["settle", "61" * 256], ["settle", "61", "61"],
+    ["settle", "61", "61", "61"],
+)
 
 
 def settled_badly(program):

@@ -1,8 +1,9 @@
 #!/usr/bin/env python3
 """Asks a directory that listens over many connections at once, in one of these ways.
 
-    scripts/crowds.py HOST:PORT checked COUNT SILENT  COUNT clients register and look up names, all at once, beside so many
-                                                      that are silent; each reply is checked as a client checks it
+    scripts/crowds.py HOST:PORT checked COUNT SILENT  COUNT clients register, look up and change names, all at once, beside
+                                                      so many that are silent; each reply is checked as a client checks it.
+                                                      The bindings of a client have no policy, are open, or are final
     scripts/crowds.py HOST:PORT kept COUNT            the names of `checked` are there, in a server that began with its journal
     scripts/crowds.py HOST:PORT slow                  a client that sends one byte a second, and others beside it
     scripts/crowds.py HOST:PORT deaf                  one that asks and takes no reply, others beside it, and then its replies
@@ -121,6 +122,16 @@ def names_of(count):
     return [[b"name %d of %d" % (k, n) for k in range(NAMES)] for n in range(count)]
 
 
+def binding_of(n):
+    """What a client binds its names to."""
+    return Statement(b"key of %d" % n, (None, OPEN, FINAL)[n % 3])
+
+
+def bind_frame(verb, name, bound):
+    """The frame of a request to bind a name so."""
+    return request_frame(*bind_request(verb, name, *bound))
+
+
 def checked(address, count, silent):
     count = int(count)
     still = [connected(address) for _ in range(int(silent))]
@@ -131,10 +142,10 @@ def checked(address, count, silent):
     users = [Client(SIGNING_KEY, first.write(), sha256, KeyedVuf(VUF_KEY)) for _ in range(count)]
     for k in range(NAMES):
         for n, client in enumerate(clients):
-            frame = request_frame("register", names[n][k], b"key of %d" % n)
+            frame = bind_frame("register", names[n][k], binding_of(n))
             client.sendall(frame[:7])
         for n, client in enumerate(clients):
-            frame = request_frame("register", names[n][k], b"key of %d" % n)
+            frame = bind_frame("register", names[n][k], binding_of(n))
             client.sendall(frame[7:] + request_frame("lookup", 0, names[n][k]))
     for n, client in enumerate(clients):
         told = answers(client, 2 * NAMES)
@@ -153,13 +164,32 @@ def checked(address, count, silent):
         for name, reply in zip(names[n], replies):
             if users[n].due(name, reply.write()) != "kept":
                 yield f"client {n}: a promise is not kept"
-            if users[n].look(name, 0, reply.write()) != b"key of %d" % n:
-                yield f"client {n}: another key"
+            if users[n].look(name, 0, reply.write()) != binding_of(n):
+                yield f"client {n}: another binding"
         other = (n + 1) % count
-        if users[n].look(names[other][0], 0, replies[-1].write()) != b"key of %d" % other:
-            yield f"client {n}: another key of the next client"
+        if users[n].look(names[other][0], 0, replies[-1].write()) != binding_of(other):
+            yield f"client {n}: another binding of the next client"
+    yield from changed_by_each(clients, users, names)
     for client in [operator, *clients, *still]:
         client.close()
+
+
+def changed_by_each(clients, users, names):
+    """Each client changes its first name, to an open binding or one without a policy."""
+    changed = [Statement(b"other key of %d" % n, (None, OPEN)[n % 2]) for n in range(len(clients))]
+    for n, client in enumerate(clients):
+        client.sendall(bind_frame("change", names[n][0], changed[n]))
+    for n, client in enumerate(clients):
+        (told,) = answers(client, 1)
+        if binding_of(n).policy == FINAL:
+            if told != FINAL_BINDING:
+                yield f"client {n}: a final binding is changed"
+        elif not isinstance(told, SignedPromise):
+            yield f"client {n}: a change is refused"
+        else:
+            users[n].keep_promise(told.write())
+            if (told.promise.name, told.promise.statement()) != (names[n][0], changed[n]):
+                yield f"client {n}: the promise of another change"
 
 
 def kept(address, count):
@@ -168,8 +198,8 @@ def kept(address, count):
         for n, names in enumerate(names_of(int(count))):
             client.sendall(b"".join(request_frame("lookup", 0, name) for name in names))
             for name, reply in zip(names, answers(client, NAMES), strict=True):
-                if user.look(name, 0, reply.write()) != b"key of %d" % n:
-                    yield f"another key of {name.decode()}"
+                if user.look(name, 0, reply.write()) != binding_of(n):
+                    yield f"another binding of {name.decode()}"
 
 
 def slow(address):
@@ -238,7 +268,7 @@ def late(address, seconds):
         for number in (1, 2):
             ask(beside, "head")
             start = time.monotonic()
-            client.sendall(request_frame("register", b"name %d" % number, b"key"))
+            client.sendall(bind_frame("register", b"name %d" % number, binding_of(number)))
             time.sleep(0.2 * seconds)
             beside.sendall(HEAD)
             if len(answers(client, 1)) != 1:

@@ -204,9 +204,9 @@ class LossyDirectory(sessions.Directory):
         if self.records - 1 == self.lost:
             raise sessions.DirectoryRefusal(19)
 
-    def let_wait(self, name, key, salt):
+    def let_wait(self, name, *binding):
         self.keep()
-        return super().let_wait(name, key, salt)
+        return super().let_wait(name, *binding)
 
     def turn(self, epoch, nonce):
         if epoch > self.head().epoch:
@@ -644,6 +644,55 @@ def of_journals(q):
     ask(100, [("register", b"n" * 255, b"k" * 2048), ("close", TOKEN, 2), ("change", b"n" * 255, b"k")])
 
 
+# Each command with a policy, some of them refused; and a session that finalises a watched name.
+POLICIES_PLAYED = b"""watch 61 -
+register2 61 6b open
+close 2
+watch2 61 6b open
+change2 61 6c final
+lookup 61 0
+bytes 1 000000080b0200016100016d
+close 3
+change 61 6d
+lookup 61 0
+"""
+POLICY_OPERATIONS = [
+    "register2 61 6b open", "register2 62 6c final", "register 63 6d", "promise 62", "register2 62 6c final", "close 2",
+    "promise 61", "lookup 61 0", "lookup 62 0", "change2 61 6d final", "change2 62 6d open", "change 62 6d", "change2 63 6e open",
+    "promise 61", "close 3", "change 61 6e", "change 63 6f", "change2 63 6f final", "lookup 61 0", "lookup 61 2", "lookup 63 0",
+    "rotate 4 " + "07" * 32, "lookup 62 0", "lookup 63 0", "history 0 64",
+]
+POLICIES_RECORDED = [
+    ("register2", OPEN, b"a", b"k"), ("register2", FINAL, b"bb", b"kk"), ("close", TOKEN, 2), ("change2", FINAL, b"a", b"l"),
+    ("close", TOKEN, 5), ("rotate", TOKEN, 6, SIGNING_KEY),
+]
+
+
+def of_short_policies(q):
+    q.ask("play never 64", POLICIES_PLAYED)
+
+
+def of_policies(q):
+    q.note("A session.")
+    frames = [request_frame(*request) for request in messages_of(POLICY_OPERATIONS)]
+    talk = q.let("talk", b"".join(frames[:12]))
+    for devices in READS + WRITES:
+        q.ask("sessions", devices, 50, talk)
+    q.note("What a script prints is written before a read that may wait. At a failure it is a beginning.")
+    script = q.let("script", POLICIES_PLAYED)
+    for devices in READS + WRITES:
+        q.ask("play", devices, 40, script)
+    q.note("A record that is not kept: that call is refused and changes nothing, and its salt serves the next one.")
+    bad = [request_frame("register2", 3, b"a", b"k"), request_frame("change2", 0, b"a", b"k")]
+    q.ask("directory", *(frame[4:] for frame in [*frames[:7], *bad, *frames[7:]]))
+    q.ask("hub 4096", b"".join(frames))
+    q.ask("hub 1", b"".join(frames))
+    q.note("A journal that stops at each byte, or before each record, opens to a beginning of the run.")
+    for piece in [1, 7, 4096]:
+        messages = [request_frame(*request)[4:] for request in [*POLICIES_RECORDED, *SHOWN]]
+        q.ask("journal", piece, len(POLICIES_RECORDED), *messages)
+
+
 SUBJECTS = {
     "texts": of_texts,
     "items": of_items,
@@ -655,6 +704,8 @@ SUBJECTS = {
     "keepers of records": of_keepers,
     "journals": of_journals,
     "many connections at once": crowd_questions.ask_all,
+    "in a few lines: a script with policies": of_short_policies,
+    "bindings with a policy": of_policies,
 }
 
 

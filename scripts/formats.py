@@ -65,6 +65,11 @@ MAX_ROOTS = 64  # of a root list
 MAX_FRAME = 65536  # kind and body
 MAX_EPOCH = 2**64 - 1
 
+# What a binding of version 2 promises. One of version 1 has no policy, which is neither of these.
+
+OPEN, FINAL = 1, 2
+POLICIES = {OPEN: "open", FINAL: "final"}
+
 # Refusals ----------------------------------------------------------------------------------------
 
 
@@ -217,6 +222,15 @@ class Cursor:
 
     def small(self):
         return self.counted(1, MAX_SMALL)
+
+    def policy(self):
+        """The byte of a policy that there is, which is tested before anything behind it is read."""
+        ahead = self.copied()
+        policy = ahead.u8()
+        if policy not in POLICIES:
+            raise Fault(OUT_OF_RANGE)
+        self.at = ahead.at
+        return policy
 
     def end(self):
         if self.left():
@@ -394,9 +408,15 @@ def interior_text(zero, one):
     return zero + one
 
 
-def commitment_text(salt, name, key):
-    """43, 01, salt, counted name, counted key: 38 bytes and the two."""
-    return b"C\x01" + salt + counted(name) + counted(key)
+def versioned(policy):
+    """01 for a text without a policy, or 02 and the policy."""
+    return b"\x01" if policy is None else b"\x02" + u8(policy)
+
+
+def commitment_text(salt, name, key, policy=None):
+    """43, 01, salt, counted name, counted key: 38 bytes and the two. With a policy 43, 02, policy, and the same from
+    the salt on."""
+    return b"C" + versioned(policy) + salt + counted(name) + counted(key)
 
 
 # The tree ------------------------------------------------------------------------------------------
@@ -616,28 +636,37 @@ def read_list(data):
 
 @dataclass(frozen=True)
 class Promise:
-    """50, 01, epoch, hash of the root's body, index, counted name, counted key: at most 2,381 bytes."""
+    """50, 01, epoch, hash of the root's body, index, counted name, counted key: at most 2,381 bytes. With a policy 50,
+    02, and the policy behind the index."""
 
     epoch: int
     body_hash: bytes
     index: bytes
     name: bytes
     key: bytes
+    policy: int | None = None
 
     def write(self):
-        hashes = self.body_hash + self.index
-        return b"P\x01" + u64(self.epoch) + hashes + counted(self.name) + counted(self.key)
+        version, *policy = versioned(self.policy)
+        hashes = self.body_hash + self.index + bytes(policy)
+        return b"P" + u8(version) + u64(self.epoch) + hashes + counted(self.name) + counted(self.key)
 
     @staticmethod
     def take(cursor):
         """The epoch is at least 1."""
-        if cursor.take(2) != b"P\x01":
+        front = cursor.take(2)
+        if front not in (b"P\x01", b"P\x02"):
             raise Fault(OUT_OF_RANGE)
         epoch, body_hash, index = cursor.u64(), cursor.hash32(), cursor.hash32()
-        promise = Promise(epoch, body_hash, index, cursor.name(), cursor.key())
+        policy = cursor.policy() if front == b"P\x02" else None
+        promise = Promise(epoch, body_hash, index, cursor.name(), cursor.key(), policy)
         if epoch == 0:
             raise Fault(OUT_OF_RANGE)
         return promise
+
+    def statement(self):
+        """What the next page has to state of the name."""
+        return Statement(self.key, self.policy)
 
     @staticmethod
     def read(data):
@@ -844,11 +873,19 @@ def compare_chains(one, other):
 # Replies to a look-up ----------------------------------------------------------------------------------
 
 
+class Statement(NamedTuple):
+    """The key that a name has, and its policy, None in version 1. In its place None states absence."""
+
+    key: bytes
+    policy: int | None = None
+
+
 class Opening(NamedTuple):
-    """The leaf of the asked name, opened: the salt and the key of its commitment."""
+    """The leaf of the asked name, opened: the salt and the key of its commitment, and the policy if it is of version 2."""
 
     salt: bytes
     key: bytes
+    policy: int | None = None
 
 
 @dataclass(frozen=True)
@@ -885,13 +922,14 @@ class Reply:
         return reply
 
     def statement(self):
-        """The key that it states, or None for absence."""
-        return self.end.key if isinstance(self.end, Opening) else None
+        """What it states of the name, or None for absence."""
+        return Statement(self.end.key, self.end.policy) if isinstance(self.end, Opening) else None
 
 
 def write_end(end):
     if isinstance(end, Opening):
-        return b"\x01" + end.salt + counted(end.key)
+        front = b"\x01" if end.policy is None else b"\x04" + u8(end.policy)
+        return front + end.salt + counted(end.key)
     return b"\x02" if isinstance(end, Empty) else b"\x03" + end.index + end.commitment
 
 
@@ -903,6 +941,9 @@ def take_end(cursor):
         return Empty()
     if kind == 3:
         return Other(cursor.hash32(), cursor.hash32())
+    if kind == 4:
+        policy = cursor.policy()
+        return Opening(cursor.hash32(), cursor.key(), policy)
     raise Fault(OUT_OF_RANGE)
 
 
@@ -924,7 +965,8 @@ class Accepted(NamedTuple):
         return end_text(nonce, self.index, len(self.reply.siblings), end)
 
     def opened_text(self):
-        return commitment_text(self.reply.end.salt, self.name, self.reply.end.key)
+        end = self.reply.end
+        return commitment_text(end.salt, self.name, end.key, end.policy)
 
     def texts(self, digest):
         """The node texts on its way, from the root down."""
@@ -979,14 +1021,15 @@ def same_or_collision(digest, first, second):
     return Collision(first.opened_text(), second.opened_text())
 
 
-def opened(end, salt, key):
-    """The end of a reply from that of a path: where the leaf is the name's, its salt and key."""
-    return Opening(salt, key) if isinstance(end, Present) else end
+def opened(end, salt, key, policy=None):
+    """The end of a reply from that of a path: where the leaf is the name's, its salt, key and policy."""
+    return Opening(salt, key, policy) if isinstance(end, Present) else end
 
 
 # Journal records ---------------------------------------------------------------------------------------
 
 VERBS = {"register": 1, "change": 2}
+VERBS_2 = {"register": 3, "change": 4}
 
 
 def start_record(epoch, nonce, signing_key, vuf_key):
@@ -994,9 +1037,11 @@ def start_record(epoch, nonce, signing_key, vuf_key):
     return b"N\x01" + u64(epoch) + nonce + signing_key + vuf_key
 
 
-def bound_record(verb, salt, name, key):
-    """4f, the verb, salt, counted name, counted key: 38 bytes, and those of name and key."""
-    return b"O" + u8(VERBS[verb]) + salt + counted(name) + counted(key)
+def bound_record(verb, salt, name, key, policy=None):
+    """4f, the verb, salt, counted name, counted key: 38 bytes, and those of name and key. With a policy it stands behind
+    the verb, which is then one of version 2."""
+    front = u8(VERBS[verb]) if policy is None else u8(VERBS_2[verb]) + u8(policy)
+    return b"O" + front + salt + counted(name) + counted(key)
 
 
 def turned_record(epoch):
@@ -1016,16 +1061,17 @@ def take_start_record(cursor):
 
 
 def take_later_record(cursor):
-    """A verb, a salt, a name and a key; `turn` and an epoch; or `rotate`, an epoch and a nonce."""
+    """A verb, a salt, a name, a key and a policy or None; `turn` and an epoch; or `rotate`, an epoch and a nonce."""
     kind = cursor.u8()
     if kind == 0x43:
         return "turn", cursor.u64()
     if kind == 0x4B:
         return "rotate", cursor.u64(), cursor.hash32()
-    verbs = {byte: verb for verb, byte in VERBS.items()}
-    if kind != 0x4F or (byte := cursor.u8()) not in verbs:
+    verbs, verbs_2 = ({byte: verb for verb, byte in some.items()} for some in (VERBS, VERBS_2))
+    if kind != 0x4F or (byte := cursor.u8()) not in verbs | verbs_2:
         raise Fault(OUT_OF_RANGE)
-    return verbs[byte], cursor.hash32(), cursor.name(), cursor.key()
+    policy = cursor.policy() if byte in verbs_2 else None
+    return (verbs | verbs_2)[byte], cursor.hash32(), cursor.name(), cursor.key(), policy
 
 
 def count_records(data):
@@ -1049,9 +1095,11 @@ def is_cut_record(data):
     for head, size in (b"C", 9), (b"K", 41):
         if data[:1] == head:
             return len(data) < size
-    if not any(head.startswith(data[:2]) for head in (b"C", b"O\x01", b"O\x02")):
+    fronts = [b"C", b"O\x01", b"O\x02", *(b"O" + bytes([verb, policy]) for verb in VERBS_2.values() for policy in POLICIES)]
+    front = next((front for front in fronts if front.startswith(data[: len(front)])), None)
+    if front is None:
         return False
-    rest = data[34:]
+    rest = data[len(front) + 32 :]
     for most in (MAX_NAME, MAX_KEY):
         if not any(u16(size).startswith(rest[:2]) for size in range(1, most + 1)):
             return False
@@ -1070,7 +1118,7 @@ def frame(kind, body):
     return u32(1 + len(body)) + u8(kind) + body
 
 
-# The fields of each kind of request: numbers by their size, `counted` bytes of any length, 32 bytes.
+# The fields of each kind of request: numbers by their size, `counted` bytes of any length, 32 bytes. A policy is any byte.
 REQUESTS = {
     0x01: ("register", "counted", "counted"),
     0x02: ("change", "counted", "counted"),
@@ -1080,9 +1128,12 @@ REQUESTS = {
     0x06: ("head",),
     0x07: ("close", "hash32", "u64"),
     0x08: ("rotate", "hash32", "u64", "hash32"),
+    0x0A: ("register2", "u8", "counted", "counted"),
+    0x0B: ("change2", "u8", "counted", "counted"),
 }
 REQUEST_KINDS = {fields[0]: kind for kind, fields in REQUESTS.items()}
-WRITERS = {"counted": counted, "u64": u64, "u16": u16, "hash32": bytes}
+BINDING = "register", "change", "register2", "change2"
+WRITERS = {"counted": counted, "u64": u64, "u16": u16, "u8": u8, "hash32": bytes}
 
 
 def take_field(cursor, form):
@@ -1100,6 +1151,11 @@ def read_request(kind, body):
         raise ReadRefusal(BAD_BODY) from None
 
 
+def bind_request(verb, name, key, policy=None):
+    """The word and the fields of a request to register a name or to change its key, with the policy if there is one."""
+    return (verb, name, key) if policy is None else (f"{verb}2", policy, name, key)
+
+
 def request_body(word, *fields):
     forms = REQUESTS[REQUEST_KINDS[word]][1:]
     return b"".join(WRITERS[form](field) for form, field in zip(forms, fields))
@@ -1115,6 +1171,8 @@ def request_fits(word, *fields):
 
 
 PROMISE, PROOF, ROOTS, ROOT, REFUSED = 0x81, 0x82, 0x83, 0x84, 0xFF
+# The number with which a change of a final binding is refused.
+FINAL_BINDING = 25
 
 
 def take_code(cursor):
@@ -1207,7 +1265,7 @@ BROKEN = "broken-promise"
 
 @dataclass(frozen=True)
 class BrokenPromise:
-    """A promise, the next root, and a reply under it that does not state the promised key."""
+    """A promise, the next root, and a reply under it that does not state the promised key with its policy."""
 
     promise: SignedPromise
     root: SignedRoot
@@ -1225,7 +1283,7 @@ class BrokenPromise:
             accepted = accept(digest, vuf, body, promise.name, self.proof)
         except ReplyRefusal:
             return False
-        return accepted.index == promise.index and accepted.statement() != promise.key
+        return accepted.index == promise.index and accepted.statement() != promise.statement()
 
 
 def judge(digest, vuf, key, evidence):

@@ -4,7 +4,8 @@
     scripts/journaled.py PROGRAM FOLDER kills COUNT SECONDS
                                                         the server is killed at so many moments of a run of registrations,
                                                         changes, closings and rotations, while others look names up; or at
-                                                        as many as there is time for, at least 100
+                                                        as many as there is time for, at least 100. Some bindings have a
+                                                        policy, and the change of a final one is refused
     scripts/journaled.py PROGRAM FOLDER lives           three lives of one file, each with salts of a stream of its own
     scripts/journaled.py PROGRAM FOLDER full            the file may not grow any more: a registration is refused 19, and
                                                         look-ups go on; with room again, the server is started again
@@ -112,10 +113,24 @@ def look_up_over(client):
             pass
 
 
-class Version(NamedTuple):
-    """A key of a name, as it was promised over an epoch."""
+def bound_by(request):
+    """The verb of a request to bind a name, the name, and what it binds the name to; of another request None."""
+    verb = request[0].removesuffix("2")
+    if verb not in VERBS:
+        return None
+    policy = None if verb == request[0] else request[1]
+    return verb, request[-2], Statement(request[-1], policy)
 
-    key: bytes
+
+def any_policy():
+    """Of four bindings two have no policy, one is open, and one is final."""
+    return random.choice([None, None, OPEN, FINAL])
+
+
+class Version(NamedTuple):
+    """What a name was bound to, as it was promised over an epoch."""
+
+    bound: Statement
     epoch: int
     promise: bytes
 
@@ -125,18 +140,24 @@ class Answered:
 
     def __init__(self):
         self.roots, self.names = {}, {}
-        # The keys of changes that got no answer, by name. Such a name is not changed again.
+        # What changes without an answer bind, by name. Such a name is not changed again.
         self.doubted = {}
+        # How many changes of final bindings were refused.
+        self.refused = 0
         self.made, self.epoch, self.head = 0, 1, 1
 
     def is_shown(self, name):
         """Whether the last version of a name is on the last page, so that nothing waits."""
         return self.names[name][-1].epoch < self.head
 
-    def changeable(self):
-        """Some name of which nothing waits, if one is found."""
+    def is_final(self, name):
+        """Whether the last version of a name is final."""
+        return self.names[name][-1].bound.policy == FINAL
+
+    def shown_name(self, is_final):
+        """Some name of which nothing waits, and whose binding is final or not, if one is found."""
         for name in random.sample(list(self.names), min(len(self.names), 4)):
-            if name not in self.doubted and self.is_shown(name):
+            if name not in self.doubted and self.is_shown(name) and self.is_final(name) == is_final:
                 return name
         return None
 
@@ -144,22 +165,25 @@ class Answered:
         """Registrations and a closing, so that there is something to change."""
         for _ in range(BATCH):
             self.made += 1
-            yield "register", b"name %d" % self.made, b"first key"
+            yield bind_request("register", b"name %d" % self.made, b"first key", any_policy())
         self.epoch += 1
         yield "close", TOKEN, self.epoch
 
     def batch(self):
-        """Registrations of new names and changes of others, and perhaps a closing or a rotation."""
+        """Registrations of new names and changes of others, perhaps of a final one, and a closing or a rotation."""
         taken = {None}
         for _ in range(random.randrange(1, BATCH)):
             self.made += 1
-            name = self.changeable()
+            name = self.shown_name(is_final=False)
             if random.random() < 0.5 and name not in taken:
                 taken.add(name)
-                yield "change", name, b"key %d of " % self.made + name
+                yield bind_request("change", name, b"key %d of " % self.made + name, any_policy())
             else:
                 name = b"name %d" % self.made
-                yield "register", name, b"key of " + name
+                yield bind_request("register", name, b"key of " + name, any_policy())
+        final = self.shown_name(is_final=True)
+        if random.random() < 0.3 and final is not None:
+            yield bind_request("change", final, b"never the key", any_policy())
         if random.random() < 0.3:
             self.epoch += 1
             closing, rotation = ("close", TOKEN, self.epoch), ("rotate", TOKEN, self.epoch, random.randbytes(32))
@@ -167,11 +191,16 @@ class Answered:
 
     def take(self, request, kind, body):
         """Keeps an answer, and says what is wrong with it."""
-        if request[0] in VERBS and kind == PROMISE:
+        verb, name, bound = bound_by(request) or (None, None, None)
+        if verb == "change" and self.is_final(name):
+            if (kind, body) != (REFUSED, u8(FINAL_BINDING)):
+                yield f"{request[0]} of {name}, which is final, got the kind {kind:02x} and {body[:8].hex()}"
+            self.refused += 1
+        elif verb and kind == PROMISE:
             promise = SignedPromise.read(body).promise
-            if (promise.name, promise.key) != request[1:]:
-                yield f"{request[0]} of {request[1]} got the promise of {promise.name}"
-            self.names.setdefault(request[1], []).append(Version(request[2], promise.epoch, body))
+            if (promise.name, promise.statement()) != (name, bound):
+                yield f"{request[0]} of {name} got the promise of {promise.name}"
+            self.names.setdefault(name, []).append(Version(bound, promise.epoch, body))
         elif request[0] in ("close", "rotate") and kind == ROOT:
             self.roots[request[2]] = body
             self.head = request[2]
@@ -180,8 +209,9 @@ class Answered:
 
     def doubt(self, requests):
         """These got no answer."""
-        for verb, name, key in (request for request in requests if request[0] == "change"):
-            self.doubted.setdefault(name, set()).add(key)
+        for verb, name, bound in filter(None, map(bound_by, requests)):
+            if verb == "change" and not self.is_final(name):
+                self.doubted.setdefault(name, set()).add(bound)
 
     def ask(self, server, requests):
         """Asks, and keeps what comes."""
@@ -255,13 +285,13 @@ class Answered:
                     yield f"the promise of {name} is gone or another"
             else:
                 shown = self.shown(request[1] or root.epoch, name, body) if kind == PROOF else None
-                if shown is None or shown.key not in others | {version.key}:
+                if shown is None or shown[1:] not in others | {version.bound}:
                     yield f"{name}, promised over epoch {version.epoch}, is not in epoch {request[1]}"
-                elif shown.salt != salts.get((name, shown.key)):
+                elif shown.salt != salts.get((name, *shown[1:])):
                     yield f"{name} in epoch {request[1]} has not the salt of its record"
 
     def questions(self, name):
-        """What to ask of each version of a name: the request, the version, and the keys that may have come after it."""
+        """What to ask of each version of a name: the request, the version, and what may have come after it."""
         versions, others = self.names[name], self.doubted.get(name, set())
         for version, later in zip(versions, versions[1:]):
             yield ("lookup", later.epoch, name), version, set()
@@ -284,7 +314,7 @@ class Answered:
 
 def kills(program, folder, count, seconds):
     """Kills the server so often, or as often as these seconds allow."""
-    counted, changes, end = 0, 0, time.monotonic() + float(seconds)
+    counted, changes, refused, end = 0, 0, 0, time.monotonic() + float(seconds)
     for number in range(int(count)):
         if number % KILLS_OF_A_FILE == 0:
             journal, answered = f"{folder}/journal {number}", Answered()
@@ -305,13 +335,15 @@ def kills(program, folder, count, seconds):
         server.stop()
         counted += len(new)
         changes += sum(len(answered.names[name]) > 1 for name in new)
+        refused += answered.refused if is_last else 0
         if is_last and len(set(salts := salts_of(records_of(journal)))) < len(salts):
             yield "a salt was drawn twice"
         if is_over:
             break
-    print(f"{number + 1} kills; {counted} names, {changes} of them changed, were asked for after one", file=sys.stderr)
-    if not counted or not changes:
-        yield "nothing was answered"
+    names = f"{counted} names, {changes} of them changed, were asked for after one"
+    print(f"{number + 1} kills; {names}; {refused} changes of final ones were refused", file=sys.stderr)
+    if not counted or not changes or not refused:
+        yield "nothing was answered, changed or refused"
     if number + 1 < min(int(count), FEWEST_KILLS):
         yield f"only {number + 1} kills in {seconds} seconds"
 
@@ -325,13 +357,16 @@ def lives(program, folder):
         if server.line != f"journal: {found} records taken":
             yield f"life {life}: {server.line}"
         yield from answered.check(server, 1, answered.names)
-        changes = [("change", name, b"key of life %d" % life) for name in answered.names if answered.is_shown(name)]
-        registers = [("register", b"name %d of life %d" % (number, life), b"key") for number in range(3)]
+        shown = [name for name in answered.names if answered.is_shown(name)]
+        changes = [bind_request("change", name, b"key of life %d" % life, any_policy()) for name in shown]
+        kept = sum(not answered.is_final(name) for name in shown)
+        policies = (None, OPEN, FINAL)
+        registers = [bind_request("register", b"name %d of life %d" % (n, life), b"key", policies[n]) for n in range(3)]
         closing, waits = ("close", TOKEN, 10 * life), ("register", b"waits in life %d" % life, b"key")
         yield from answered.ask(server, changes + registers + [closing, waits])
         server.stop()
         drawn = salts_of(records_of(journal))[len(salts_of(records_of(journal)[: max(found, 1)])) :]
-        if len(drawn) != len(changes) + 4 or any(one != two for one, two in zip(drawn, salts(SALT_KEY, found))):
+        if len(drawn) != kept + 4 or any(one != two for one, two in zip(drawn, salts(SALT_KEY, found))):
             yield f"life {life}: the salts are not those of stream {found}"
     server = Server(program, journal)
     yield from answered.check(server, 1, answered.names)
@@ -345,19 +380,20 @@ def full(program, folder):
         yield f"a new journal: {server.line}"
     refused = None
     for number in range(100):
-        name = f"name {number}".encode()
-        ((kind, body),) = server.ask([("register", name, b"key" * 20)])
+        # The first record for which there is no room, that of name 18, has a policy.
+        request = bind_request("register", b"name %d" % number, b"key" * 20, (FINAL, OPEN, None)[number % 3])
+        ((kind, body),) = server.ask([request])
         if kind == REFUSED:
             refused = body
             break
-        yield from answered.take(("register", name, b"key" * 20), kind, body)
+        yield from answered.take(request, kind, body)
     if refused != u8(KEEP_FAILED):
         yield f"a journal without room: {refused}"
     for request, wanted in ((("head",), ROOT), (("promise", b"name 0"), PROMISE), (("lookup", 0, b"name 0"), PROOF)):
         ((kind, body),) = server.ask([request])
         if kind != wanted:
             yield f"{request[0]} without room got the kind {kind:02x}"
-    for request in (("register", b"other", b"key"), ("close", TOKEN, 2)):
+    for request in (("register", b"other", b"key"), ("register2", OPEN, b"other", b"key"), ("close", TOKEN, 2)):
         ((kind, body),) = server.ask([request])
         if (kind, body) != (REFUSED, u8(KEEP_FAILED)):
             yield f"{request[0]} after a lost record got the kind {kind:02x}"
@@ -366,7 +402,7 @@ def full(program, folder):
     if not server.line.startswith(f"journal: {len(answered.names) + 1} records taken"):
         yield f"with room again: {server.line}"
     yield from answered.check(server, 1, answered.names)
-    yield from answered.ask(server, [("register", b"other", b"key"), ("close", TOKEN, 2)])
+    yield from answered.ask(server, [("register2", FINAL, b"other", b"key"), ("close", TOKEN, 2)])
     server.stop()
     server = Server(program, journal)
     yield from answered.check(server, 1, answered.names)
@@ -470,7 +506,7 @@ def failing(program, folder, library, number):
         batch = list(answered.batch())
         asked += batch
         yield from answered.ask(server, batch)
-    if sum(map(len, answered.names.values())) + len(answered.roots) >= len(asked):
+    if sum(map(len, answered.names.values())) + len(answered.roots) + answered.refused >= len(asked):
         yield f"sync {number} fails, and all is answered"
     for request in ("head",), ("register", b"other", b"key"), ("head",):
         if server.ask([request]):

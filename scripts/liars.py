@@ -6,16 +6,18 @@
 A lie gets the provider, the request and the honest reply, and returns the bytes that are sent.
 """
 
-import contextlib
 import copy
 import itertools
 import random
 from dataclasses import replace
 
 from formats import (
+    BINDING,
     MAX_ROOTS,
+    POLICIES,
     PROMISE,
     REFUSED,
+    REQUESTS,
     REQUEST_KINDS,
     ROOT,
     ROOTS,
@@ -23,9 +25,11 @@ from formats import (
     Feed,
     SignedPromise,
     SignedRoot,
+    bind_request,
     frame,
     read_request,
     read_response,
+    request_frame,
     response_frame,
     sha256,
     split_frames,
@@ -37,13 +41,13 @@ from sessions import (
     SIGNING_KEY,
     TOKEN,
     VUF_KEY,
-    DirectoryRefusal,
     Hub,
     keyed_directory,
 )
 
 OTHER_KEY = bytes([9]) * 32
 EVIL = b"ev"
+
 
 class Provider:
     """A directory that answers frames, of which a lie may alter what is sent. The same one serves a connection and
@@ -186,7 +190,7 @@ def promised_before(place, seed):
         if kind != PROMISE:
             return reply
         signed = read_response(kind, body)
-        before = given.setdefault((signed.promise.name, signed.promise.key), signed)
+        before = given.setdefault((signed.promise.name, signed.promise.statement()), signed)
         if provider.count < place:
             return reply
         return frame(PROMISE, rng.choice([before, over(provider, rng.choice(provider.hub.directory.pages), signed)]).write())
@@ -284,7 +288,7 @@ def with_other(roots, at):
 
 
 def robbed(place, seed):
-    """From this reply on, somebody else changes keys now and then, often before an epoch ends."""
+    """From this reply on, keys are changed behind their owners' backs now and then, often before an epoch ends."""
     rng = random.Random(seed)
 
     def lie(provider, request, reply):
@@ -296,9 +300,10 @@ def robbed(place, seed):
 
 
 def rob(provider, name):
-    """Somebody else has a false key put in the place of a name's, unless another change waits."""
-    with contextlib.suppress(DirectoryRefusal):
-        provider.hub.directory.change(name, EVIL)
+    """A false key is put in the place of a name's, also of a final one, unless another change waits."""
+    directory = provider.hub.directory
+    if name in directory.last().bindings and name not in directory.waiting:
+        directory.let_wait(name, EVIL, None, None)
 
 
 def closed_between(place, seed):
@@ -420,10 +425,27 @@ def promised_twice(_place, _seed):
     """Drops what waits before each change, so that two changes of one epoch are promised."""
 
     def lie(provider, request, reply):
-        if not is_of(request, "change"):
+        if not is_of(request, "change", "change2"):
             return reply
-        provider.hub.directory.waiting.pop(words_of(request)[0], None)
+        provider.hub.directory.waiting.pop(words_of(request)[-2], None)
         return provider.hub.bytes(0, request)
+
+    return lie
+
+
+def of_another_policy(place, seed):
+    """From this reply on, often takes a key with another policy than was asked for, or in the other version."""
+    rng = random.Random(seed)
+
+    def lie(provider, request, reply):
+        if provider.count < place or not is_of(request, *BINDING) or rng.randrange(3) == 0:
+            return reply
+        name, key = words_of(request)[-2:]
+        verb, directory = REQUESTS[request[4]][0].removesuffix("2"), provider.hub.directory
+        if reply[4] == PROMISE:
+            directory.waiting.pop(name, None)
+        policy = rng.choice([None, *POLICIES])
+        return provider.hub.bytes(0, request_frame(*bind_request(verb, name, key, policy)))
 
     return lie
 
@@ -466,7 +488,7 @@ def both(one, other):
 
 LIES = [
     nothing, altered, altered, altered, cut, bad_length, replayed, forked, forgetful,
-    promised_before, promised_twice, older_head, older_head, older_among, roots_altered, roots_altered, closed_between, gone_back, robbed, held_up, out_of_memory,
+    promised_before, promised_twice, of_another_policy, older_head, older_head, older_among, roots_altered, roots_altered, closed_between, gone_back, robbed, held_up, out_of_memory,
     *[both(robbed, other) for other in (altered, older_head, older_among, roots_altered, closed_between, gone_back, held_up, out_of_memory)],
     *[both(held_up, other) for other in (promised_before, promised_twice, forgetful, forked, older_among)],
 ]

@@ -191,7 +191,7 @@ starts --journal "$folder/journal"
 well "a journal of many clients" scripts/crowds.py "$address" checked 100 10
 { kill -KILL "$server" && wait "$server"; } 2>/dev/null
 starts --journal "$folder/journal"
-same "the records of many clients" "journal: 202 records taken" "$(head -n 1 "$folder/server_err")"
+same "the records of many clients" "journal: 269 records taken" "$(head -n 1 "$folder/server_err")"
 well "the names of many clients" scripts/crowds.py "$address" kept 100
 ends_now
 

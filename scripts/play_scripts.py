@@ -11,17 +11,19 @@ from session_scripts import (
     HEAD,
     TOP,
     change,
+    change2,
     closing,
-    hexed,
     key_of,
     lookup,
     name_of,
     piece,
     promise,
     register,
+    register2,
     rotation,
     split,
     watch,
+    watch2,
 )
 from sessions import TOKEN
 
@@ -52,6 +54,7 @@ def each_command_once():
     yield "# Each command once, with what it prints when nothing is refused."
     yield from ["register 616c696365 6b31", "promise 616c696365", "watch 616c696365 -", "close 2"]
     yield from ["change 616c696365 6b32", f"rotate 3 {'07' * 32}", "lookup 616c696365 0", "history 0 64", "head"]
+    yield from ["register2 626f62 6b31 open", "close 4", "watch2 626f62 6b31 open", "change2 626f62 6b31 final", "close 5"]
     yield from ["bytes 1 0000000106", "end 1"]
 
 
@@ -173,6 +176,8 @@ def longest_frames():
     yield piece(3, u32(65537) + bytes([6]))
     yield register(b"a", b"k" * 65530)
     yield register(b"a" * 65530, b"k")
+    yield register2(b"a", b"k" * 65529, "open")
+    yield change2(b"a" * 65529, b"k", "final")
     yield lookup(b"a" * 65525, 0)
     yield promise(b"a" * 65533)
     yield piece(4, request_frame("register", b"a" * 255, b"k" * 2048) + closing(2))
@@ -277,6 +282,12 @@ class Drawing:
         rare = [b"", b"k" * 2048, b"k" * 2049]
         return self.rng.choice(rare) if self.rng.randrange(25) == 0 else b"k%d" % self.rng.randrange(4)
 
+    def policy(self):
+        return self.rng.choice(list(POLICIES.values()))
+
+    def policy_byte(self):
+        return self.rng.choice([0, 3, 255]) if self.rng.randrange(12) == 0 else self.rng.choice(list(POLICIES))
+
     def old_epoch(self):
         near = [self.epoch, max(self.epoch - self.rng.randrange(8), 0), min(self.epoch + 1, TOP)]
         return self.rng.choice([0, 0, *near])
@@ -307,7 +318,11 @@ class Drawing:
     def command(self):
         """A command through session 0."""
         rng = self.rng
-        match rng.randrange(10):
+        match rng.randrange(13):
+            case 10:
+                return register2(self.name(), self.key(), self.policy())
+            case 11 | 12:
+                return change2(self.name(), self.key(), self.policy())
             case 0 | 1:
                 return register(self.name(), self.key())
             case 2 | 3:
@@ -325,7 +340,11 @@ class Drawing:
     def request(self):
         """The frame of a message: a request, or a frame that is none."""
         rng = self.rng
-        match rng.randrange(16):
+        match rng.randrange(20):
+            case 16 | 17:
+                return request_frame("register2", self.policy_byte(), self.name(), self.key())
+            case 18 | 19:
+                return request_frame("change2", self.policy_byte(), self.name(), self.key())
             case 0 | 1 | 2:
                 return request_frame("register", self.name(), self.key())
             case 3 | 4 | 5:
@@ -359,7 +378,10 @@ class Drawing:
         rng = self.rng
         match rng.randrange(20):
             case 0 | 1:
-                return watch(self.name(), rng.choice([b"", b"", self.key()]))
+                return rng.choice([
+                    watch(self.name(), rng.choice([b"", b"", self.key()])),
+                    watch2(self.name(), self.key() or b"k", self.policy()),
+                ])
             case 2:
                 return f"end {rng.choice([1, 2, 3, 4294967295])}"
             case 3:

@@ -18,6 +18,7 @@ import reply_questions  # noqa: F401
 import frame_questions  # noqa: F401
 import journal_questions  # noqa: F401
 import altered_questions  # noqa: F401
+import policy_questions  # noqa: F401
 
 
 @subject("in a few lines: trees, chains, frames and items")

@@ -7,13 +7,13 @@ from formats import *
 
 
 class Tables:
-    """What a tree has at each name: the salt and the key."""
+    """What a tree has at each name: the salt, the key, and perhaps a policy."""
 
     def __init__(self, digest, vuf, nonce, bindings):
         self.digest, self.vuf, self.bindings = digest, vuf, bindings
         items = [
-            (digest(vuf.value(name)), digest(commitment_text(salt, name, key)))
-            for name, (salt, key) in bindings.items()
+            (digest(vuf.value(name)), digest(commitment_text(salt, name, key, *policy)))
+            for name, (salt, key, *policy) in bindings.items()
         ]
         self.tree = Tree(digest, nonce, items)
 
@@ -214,8 +214,10 @@ def of_honest_replies(q, rng):
 
 
 def path_words_of(end):
-    word = "present" if isinstance(end, Opening) else type(end).__name__.lower()
-    return [word, *end]
+    if not isinstance(end, Opening):
+        return [type(end).__name__.lower(), *end]
+    words = [end.salt, end.key]
+    return ["present", *words] if end.policy is None else ["present2", *words, POLICIES[end.policy]]
 
 
 @subject("replies of a tree of hundreds of names")

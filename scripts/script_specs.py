@@ -24,6 +24,7 @@ FILES = {
     ],
     "SessionScripts": ["two_sessions", "refusals_in_frames", "only_the_operator_closes"],
     "Rotations": ["rotations", "rotations_in_frames"],
+    "Policies": ["policies", "policies_in_frames", "final_bindings"],
 }
 TITLES = {
     "WorkedScripts": "Worked scripts",
@@ -32,6 +33,7 @@ TITLES = {
     "MonitorScripts": "Scripts with monitors",
     "SessionScripts": "Scripts of other sessions",
     "Rotations": "Scripts on rotations",
+    "Policies": "Scripts on bindings with a policy",
 }
 
 # A byte in hexadecimal digits, at least this often, is written as a number of times.

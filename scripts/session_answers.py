@@ -13,6 +13,7 @@ from answers import (
     Lines,
     named,
     place_words,
+    policy_words,
     refused,
     statement_words,
     told,
@@ -130,6 +131,14 @@ class SessionAnswers(Lines):
         """`change NAME KEY`"""
         return [told(self.directory().change(w.bytes(), w.bytes()).write())]
 
+    def directory_register2(self, w):
+        """`register2 NAME KEY POLICY`, POLICY a byte in decimal."""
+        return [told(self.directory().register2(w.bytes(), w.bytes(), w.number(255)).write())]
+
+    def directory_change2(self, w):
+        """`change2 NAME KEY POLICY`, the same."""
+        return [told(self.directory().change2(w.bytes(), w.bytes(), w.number(255)).write())]
+
     def directory_promise(self, w):
         """`promise NAME`"""
         return [told(self.directory().promise(w.bytes()).write())]
@@ -152,7 +161,8 @@ class SessionAnswers(Lines):
         return [str(len(roots)), told(b"".join(root.write() for root in roots))]
 
     def directory_replay(self, w):
-        """`replay register SALT NAME KEY`, `replay change` the same, `replay turn EPOCH`, or `replay rotate EPOCH NONCE`"""
+        """`replay register SALT NAME KEY`, `replay change` the same, `replay register2 SALT NAME KEY POLICY`, `replay
+        change2` the same, POLICY `open` or `final`, `replay turn EPOCH`, or `replay rotate EPOCH NONCE`"""
         directory, kind = self.directory(), w.word()
         if kind == "turn":
             directory.close(w.number())
@@ -161,6 +171,9 @@ class SessionAnswers(Lines):
         elif kind in ("register", "change"):
             salt, name, key = w.hash(), w.name(), w.key()
             getattr(directory, kind)(name, key, salt)
+        elif kind in ("register2", "change2"):
+            salt, name, key, policy = w.hash(), w.name(), w.key(), w.policy()
+            getattr(directory, kind)(name, key, policy, salt)
         else:
             raise BadQuestion
         return ["ok"]
@@ -471,6 +484,11 @@ class SessionAnswers(Lines):
         self.monitor, self.values.client = Monitor(self.client(), name, start), None
         return ["ok"]
 
+    def monitor_new2(self, w):
+        """`new2 NAME KEY POLICY`, POLICY `open` or `final`: the same, with a policy."""
+        self.monitor, self.values.client = Monitor.new2(self.client(), w.name(), w.key(), w.policy()), None
+        return ["ok"]
+
     def monitor_update(self, w):
         """`update LIST`"""
         return self.done(there(self.monitor).update, w.bytes())
@@ -490,6 +508,11 @@ class SessionAnswers(Lines):
         there(self.monitor).expect_change(w.key(), w.bytes())
         return ["ok"]
 
+    def monitor_expect2(self, w):
+        """`expect2 KEY POLICY PROMISE`"""
+        there(self.monitor).expect_change2(w.key(), w.policy(), w.bytes())
+        return ["ok"]
+
     def monitor_step(self, w):
         """`step REPLY`"""
         step = there(self.monitor).step(w.bytes())
@@ -499,8 +522,9 @@ class SessionAnswers(Lines):
         return [or_none(there(self.monitor).next_epoch())]
 
     def monitor_expected(self, w):
-        """`expected EPOCH`"""
-        return [or_none(there(self.monitor).expected(w.number()))]
+        """`expected EPOCH`: the key, with the policy if there is one, or `none`."""
+        expected = there(self.monitor).expected(w.number())
+        return ["none"] if expected is None else [told(expected.key), *policy_words(expected.policy)]
 
     def monitor_name(self, w):
         return [told(there(self.monitor).name)]

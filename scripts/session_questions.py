@@ -13,6 +13,7 @@ import directory_questions
 import evidence_questions
 import opening_questions
 import piece_questions
+import policy_session_questions
 import session_scripts
 from asking import Questions
 from evidence_questions import json_of
@@ -109,7 +110,7 @@ def of_scripts(q, rng):
 
 def questions():
     q = Questions()
-    for place, (text, of) in enumerate(SUBJECTS + piece_questions.SUBJECTS):
+    for place, (text, of) in enumerate(SUBJECTS + piece_questions.SUBJECTS + policy_session_questions.SUBJECTS):
         q.subject(text)
         of(q, random.Random(place + 1))
     return q.lines[1:]

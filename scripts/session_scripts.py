@@ -48,6 +48,14 @@ def change(name, key):
     return f"change {hexed(name)} {hexed(key)}"
 
 
+def register2(name, key, policy):
+    return f"register2 {hexed(name)} {hexed(key)} {policy}"
+
+
+def change2(name, key, policy):
+    return f"change2 {hexed(name)} {hexed(key)} {policy}"
+
+
 def lookup(name, epoch):
     return f"lookup {hexed(name)} {epoch}"
 
@@ -58,6 +66,10 @@ def promise(name):
 
 def watch(name, key=b""):
     return f"watch {hexed(name)} {hexed(key)}"
+
+
+def watch2(name, key, policy):
+    return f"watch2 {hexed(name)} {hexed(key)} {policy}"
 
 
 def piece(session, data):
@@ -233,6 +245,57 @@ def rotations_in_frames():
 
 
 @script
+def policies():
+    yield "# A binding is shown with its policy. One that is final is never changed."
+    yield from ["watch 61 -", "register2 61 6b open", "close 2", "change2 61 6c final", "lookup 61 0", "close 3"]
+    yield from ["lookup 61 0", "change 61 6d", "lookup 61 2"]
+
+
+@script
+def policies_in_frames():
+    yield "# Any byte may stand in the place of a policy, and one that is none is refused. No message is of the kind 09."
+    yield from ["bytes 1 000000080a0300016100016b", "bytes 1 000000080a0100016100016b", "bytes 1 0000000109"]
+
+
+@script
+def final_bindings():
+    yield "# Who registers a name first may make it final. Neither its owner nor others change it then."
+    yield from [register2(b"a", b"k", "final"), change2(b"a", b"l", "open"), "close 2", watch2(b"a", b"k", "final")]
+    yield from [register(b"a", b"l"), register2(b"a", b"l", "open"), change(b"a", b"l"), change2(b"a", b"k", "final")]
+    yield piece(1, request_frame("change", b"a", b"l") + request_frame("change2", OPEN, b"a", b"l"))
+    yield from ["close 3", lookup(b"a", 0), lookup(b"a", 1)]
+    yield "# An open one changes, also to one of the first version, which has no policy, and back."
+    yield from [register2(b"b", b"k", "open"), watch(b"b"), "close 4", change(b"b", b"k"), "close 5", lookup(b"b", 4)]
+    yield from [lookup(b"b", 0), change2(b"b", b"k", "open"), "close 6", change2(b"b", b"k", "final")]
+    yield from [change(b"b", b"l"), "close 7", change(b"b", b"l"), lookup(b"b", 0)]
+
+
+@script
+def alarms_with_policies():
+    yield "# The same key in the other version, or under the other policy, is an alarm."
+    yield from [register2(b"a", b"k", "open"), register(b"b", b"k"), "close 2"]
+    yield from [watch(b"a", b"k"), watch2(b"a", b"k", "final"), watch2(b"a", b"k", "open"), watch2(b"b", b"k", "open")]
+    yield piece(1, request_frame("change2", FINAL, b"a", b"k") + request_frame("change2", OPEN, b"b", b"k"))
+    yield from ["close 3", watch2(b"c", b"k", "final"), register2(b"c", b"k", "final"), "close 4"]
+
+
+@script
+def refusals_of_policies():
+    yield "# Lengths come before the policy, and it before what the latest page has."
+    frames = [
+        ("register2", 3, b"", b"k"), ("register2", 3, b"a", b""), ("register2", 3, b"a" * 256, b"k"),
+        ("register2", 0, b"a", b"k" * 2049), ("register2", 0, b"a", b"k"), ("change2", 0, b"a", b"k"),
+        ("change2", 1, b"a", b"k"), ("register2", 2, b"a", b"k"), ("register2", 1, b"a", b"k"), ("register", b"a", b"k"),
+        ("change2", 1, b"a", b"k"), ("register2", 1, b"b", b"k"), ("close", TOKEN, 2), ("register2", 255, b"a", b"k"),
+        ("register2", 1, b"a", b"k"), ("change2", 3, b"a", b"k"), ("change2", 1, b"a", b"k"), ("change", b"a", b"k"),
+        ("change", b"a", b""), ("change2", 2, b"b", b"k"), ("change2", 1, b"b", b"k"), ("change", b"b", b"k"),
+        ("promise", b"b"), ("close", TOKEN, 3), ("change", b"b", b"k"), ("lookup", 0, b"b"), ("lookup", 2, b"b"),
+    ]
+    for frame_of in frames:
+        yield piece(1, request_frame(*frame_of))
+
+
+@script
 def refusals_in_frames():
     yield "# Each refusal of the directory, as another session is told."
     frames = [
@@ -321,6 +384,18 @@ STOPS = {
     "watch_without_key": "watch 61",
     # Each of the two alone fits into a frame.
     "name_and_key_too_long": register(b"a", b"k" * 65531),
+    "policy_missing": "register2 61 6b",
+    "policy_too_many": "register 61 6b open",
+    "policy_of_another_name": "change2 61 6b closed",
+    "policy_in_upper_case": "change2 61 6b Open",
+    "policy_in_hex": "register2 61 6b 01",
+    "policy_is_dash": "register2 61 6b -",
+    "watch_of_absence_with_policy": "watch2 61 - open",
+    "watch_without_policy": "watch2 61 6b",
+    "watched_name_empty_with_policy": "watch2 - 6b final",
+    "watched_key_too_long_with_policy": f"watch2 61 {'6b' * 2049} final",
+    # Without a policy they fit into a frame.
+    "name_key_and_policy_too_long": register2(b"a", b"k" * 65530, "open"),
 }
 
 

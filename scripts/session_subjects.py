@@ -43,6 +43,11 @@ def closing(epoch, token=HUB_TOKEN):
 # What a provider signs and shows, whatever it likes --------------------------------------------------------
 
 
+def stated(value):
+    """What a binding states, which is given as that or as a key without a policy."""
+    return value if isinstance(value, Statement) else Statement(value)
+
+
 class Page:
     """A signed root, and the bindings that its tree has."""
 
@@ -62,7 +67,7 @@ class Page:
         index = self.provider.index_of(name)
         siblings, end = self.tree.path(index)
         if name in self.bindings:
-            end = opened(end, ZERO32, self.bindings[name])
+            end = opened(end, ZERO32, *stated(self.bindings[name]))
         return Reply(self.body, self.provider.vuf.value(name), end, tuple(siblings))
 
     def promise(self, name, key, signing_key=SIGNING_KEY, **changes):
@@ -81,14 +86,14 @@ class Provider:
     def index_of(self, name):
         return index_of(self.digest, self.vuf.value(name))
 
-    def commitment(self, name, key):
-        return self.digest(commitment_text(ZERO32, name, key))
+    def commitment(self, name, key, policy=None):
+        return self.digest(commitment_text(ZERO32, name, key, policy))
 
     def page(self, epoch, before=None, bindings=None, items=None, signing_key=SIGNING_KEY, nonce=ZERO32, **changes):
         """The page of an epoch behind another one, with more items in its tree, and a body changed in these
         fields."""
         bindings = bindings or {}
-        rows = {self.index_of(name): self.commitment(name, key) for name, key in bindings.items()}
+        rows = {self.index_of(name): self.commitment(name, *stated(value)) for name, value in bindings.items()}
         tree = Tree(self.digest, nonce, rows | (items or {}))
         previous, previous_hash = 0, ZERO32
         if before:
@@ -132,7 +137,7 @@ def folded(provider, name, end, siblings):
     """A page with a reply of these siblings, whose root is what they lead to."""
     index = provider.index_of(name)
     if isinstance(end, Opening):
-        commitment = provider.digest(commitment_text(end.salt, name, end.key))
+        commitment = provider.digest(commitment_text(end.salt, name, end.key, end.policy))
         text = leaf_text(ZERO32, index, len(siblings), commitment)
     else:
         text = end_text(ZERO32, index, len(siblings), end)

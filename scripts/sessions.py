@@ -26,6 +26,7 @@ from formats import (
     BROKEN,
     EQUAL,
     FAILED,
+    FINAL,
     FORK,
     LINK,
     MALFORMED,
@@ -35,6 +36,7 @@ from formats import (
     MAX_ROOTS,
     NEXT,
     NOT_LATER,
+    POLICIES,
     PROMISE,
     PROOF,
     REFUSED,
@@ -64,6 +66,7 @@ from formats import (
     RootRefusal,
     SignedPromise,
     SignedRoot,
+    Statement,
     Tree,
     accept,
     bound_record,
@@ -116,6 +119,8 @@ class DirectoryRefusal(Refusal):
         11: "the epoch is not above the latest",
         13: "no operation on the name waits",
         15: "no root is asked for, or more than 64",
+        25: "the binding of the name on the latest page is final",
+        26: "the policy is neither open nor final",
     }
 
 
@@ -159,8 +164,11 @@ class MonitorRefusal(Refusal):
 
 
 class Binding(NamedTuple):
+    """What a page has of a name. One of version 1 has no policy."""
+
     key: bytes
     salt: bytes
+    policy: int | None = None
 
 
 class Page(NamedTuple):
@@ -205,26 +213,38 @@ class Directory:
         return index_of(self.digest, self.vuf.value(name))
 
     def register(self, name, key, salt=None):
+        return self.bind("register", name, key, None, salt)
+
+    def register2(self, name, key, policy, salt=None):
+        return self.bind("register", name, key, policy, salt)
+
+    def change(self, name, key, salt=None):
+        return self.bind("change", name, key, None, salt)
+
+    def change2(self, name, key, policy, salt=None):
+        return self.bind("change", name, key, policy, salt)
+
+    def bind(self, verb, name, key, policy, salt):
+        """Registers or changes a name, with a policy (any byte) or with none."""
         check_lengths(name, key)
-        if name in self.last().bindings:
+        if policy is not None and policy not in POLICIES:
+            raise DirectoryRefusal(26)
+        bound = self.last().bindings.get(name)
+        if verb == "register" and bound is not None:
             raise DirectoryRefusal(6)
+        if verb == "change" and bound is None:
+            raise DirectoryRefusal(7)
+        if verb == "change" and bound.policy == FINAL:
+            raise DirectoryRefusal(25)
         if name in self.waiting:
             raise DirectoryRefusal(8)
         if self.indices.get(self.index_of(name), name) != name:
             raise DirectoryRefusal(9)
-        return self.let_wait(name, key, salt)
+        return self.let_wait(name, key, salt, policy)
 
-    def change(self, name, key, salt=None):
-        check_lengths(name, key)
-        if name not in self.last().bindings:
-            raise DirectoryRefusal(7)
-        if name in self.waiting:
-            raise DirectoryRefusal(8)
-        return self.let_wait(name, key, salt)
-
-    def let_wait(self, name, key, salt):
+    def let_wait(self, name, key, salt, policy):
         """Lets a binding wait for the next page. Only this draws a salt, and only where none is given."""
-        self.waiting[name] = Binding(key, next(self.salts) if salt is None else salt)
+        self.waiting[name] = Binding(key, next(self.salts) if salt is None else salt, policy)
         self.indices[self.index_of(name)] = name
         return self.promise(name)
 
@@ -232,8 +252,8 @@ class Directory:
         check_lengths(name)
         if name not in self.waiting:
             raise DirectoryRefusal(13)
-        key = self.waiting[name].key
-        promise = Promise(self.head().epoch, self.head_hash(), self.index_of(name), name, key)
+        key, _, policy = self.waiting[name]
+        promise = Promise(self.head().epoch, self.head_hash(), self.index_of(name), name, key, policy)
         return SignedPromise.signed(promise, self.signing_key)
 
     def close(self, epoch):
@@ -250,8 +270,8 @@ class Directory:
         if epoch <= last.epoch:
             raise DirectoryRefusal(11)
         commitments = {
-            self.index_of(name): self.digest(commitment_text(salt, name, key))
-            for name, (key, salt) in self.waiting.items()
+            self.index_of(name): self.digest(commitment_text(salt, name, key, policy))
+            for name, (key, salt, policy) in self.waiting.items()
         }
         before = replace(last.root.body, previous_epoch=last.epoch, previous_hash=self.head_hash())
         body = replace(before, epoch=epoch, nonce=nonce)
@@ -277,7 +297,8 @@ class Directory:
         index = index_of(self.digest, value)
         siblings, end = page.tree.path(index)
         if name in page.bindings:
-            end = opened(end, page.bindings[name].salt, page.bindings[name].key)
+            key, salt, policy = page.bindings[name]
+            end = opened(end, salt, key, policy)
         elif isinstance(end, Present):
             # Another name has this index. Its leaf is shown as it is, which is no proof of absence.
             end = Other(index, end.commitment)
@@ -296,6 +317,10 @@ class Directory:
                     return PROMISE, self.register(name, key)
                 case "change", name, key:
                     return PROMISE, self.change(name, key)
+                case "register2", policy, name, key:
+                    return PROMISE, self.register2(name, key, policy)
+                case "change2", policy, name, key:
+                    return PROMISE, self.change2(name, key, policy)
                 case "promise", name:
                     return PROMISE, self.promise(name)
                 case "lookup", epoch, name:
@@ -342,15 +367,9 @@ class Recorded(Directory):
         super().__init__(epoch, nonce, digest, vuf, signing_key, salts)
         self.journal = start_record(epoch, nonce, signing_key, vuf.public)
 
-    def register(self, name, key, salt=None):
-        return self.recorded("register", name, super().register(name, key, salt))
-
-    def change(self, name, key, salt=None):
-        return self.recorded("change", name, super().change(name, key, salt))
-
-    def recorded(self, verb, name, promise):
-        key, salt = self.waiting[name]
-        self.journal += bound_record(verb, salt, name, key)
+    def bind(self, verb, name, key, policy, salt):
+        promise = super().bind(verb, name, key, policy, salt)
+        self.journal += bound_record(verb, self.waiting[name].salt, name, key, policy)
         return promise
 
     def close(self, epoch):
@@ -402,8 +421,8 @@ def replay(directory, verb, *words):
         elif verb == "rotate":
             directory.rotate(*words)
         else:
-            salt, name, key = words
-            getattr(directory, verb)(name, key, salt)
+            salt, name, key, policy = words
+            directory.bind(verb, name, key, policy, salt)
     except DirectoryRefusal:
         raise JournalRefusal(1) from None
 
@@ -504,7 +523,10 @@ class SeenHub(Hub):
     def line(self, request, response):
         """The line for the response to a request, whose name is kept if a page can have it."""
         command, *words = request
-        names = {"register": words[:1], "change": words[:1], "promise": words, "lookup": words[1:]}.get(command, [])
+        names = {
+            "register": words[:1], "change": words[:1], "register2": words[1:2], "change2": words[1:2], "promise": words,
+            "lookup": words[1:],
+        }.get(command, [])
         self.names.update(name for name in names if 1 <= len(name) <= MAX_NAME)
         return response_line(*response) if response[0] != PROOF else self.found(*words)
 
@@ -513,7 +535,8 @@ class SeenHub(Hub):
         directory = self.directory
         page = directory.page(epoch)
         if name in page.bindings:
-            return f"present {page.epoch} {page.bindings[name].key.hex()}"
+            key, _, policy = page.bindings[name]
+            return f"present {page.epoch} {statement_text(Statement(key, policy))}"
         if directory.index_of(name) in map(directory.index_of, page.bindings):
             return "client refuses proof 5"
         return f"absent {page.epoch}"
@@ -621,7 +644,7 @@ class Client:
             self.update_from(feed, piece)
 
     def look(self, name, epoch, reply):
-        """The key that a reply states of a name at an epoch (0: the head's), or None. The look is kept."""
+        """What a reply states of a name at an epoch (0: the head's). The look is kept."""
         return self.look_under(self.head() if epoch == 0 else self.chain.at(epoch), name, reply)
 
     def look_next(self, name, epoch, reply):
@@ -672,7 +695,7 @@ class Client:
         accepted = accept(self.digest, self.vuf, root.body, name, reply)
         if accepted.index != signed.promise.index:
             return OTHER_INDEX
-        if accepted.statement() != signed.promise.key:
+        if accepted.statement() != signed.promise.statement():
             return BrokenPromise(signed, root, reply)
         self.promises = [other for other in self.promises if other is not signed]
         return KEPT
@@ -701,25 +724,38 @@ def reconcile(one, other):
 
 
 class Change(NamedTuple):
-    """A key that is expected above the epoch of its promise."""
+    """What is expected above the epoch of its promise."""
 
     epoch: int
-    key: bytes
+    statement: Statement
 
 
 class Alarm(NamedTuple):
     """What was found at an epoch in place of what is expected."""
 
     epoch: int
-    found: bytes | None
+    found: Statement | None
 
 
 class Monitor:
-    """Watches a name through a client. `start` is the key that is expected at first, None for absence."""
+    """Watches a name through a client. `start` is the key that is expected at first, in version 1, None for absence."""
 
     def __init__(self, client, name, start):
-        self.client, self.name, self.start = client, name, start
+        self.client, self.name = client, name
+        self.start = None if start is None else Statement(start)
         self.changes, self.watched = [], 0
+
+    @classmethod
+    def new2(cls, client, name, key, policy):
+        """One that expects a key with its policy at first."""
+        return cls.from_start(client, name, Statement(key, policy))
+
+    @classmethod
+    def from_start(cls, client, name, start):
+        """One that expects a statement at first, None for absence."""
+        monitor = cls(client, name, None)
+        monitor.start = start
+        return monitor
 
     def update(self, roots):
         self.client.update(roots)
@@ -728,20 +764,28 @@ class Monitor:
         self.client.update_from(feed, piece)
 
     def expected(self, epoch):
-        """The key of the change with the greatest promise epoch below this one, else what was at the start."""
+        """What the change with the greatest promise epoch below this one expects, else what was at the start."""
         before = [change for change in self.changes if change.epoch < epoch]
-        return before[-1].key if before else self.start
+        return before[-1].statement if before else self.start
 
     def expect_change(self, key, promise):
-        """Expects a key that was promised. Promise epochs ascend, and none above them was watched."""
+        """Expects a key that was promised in version 1."""
+        self.expect(Statement(key), promise)
+
+    def expect_change2(self, key, policy, promise):
+        """Expects a key that was promised with its policy."""
+        self.expect(Statement(key, policy), promise)
+
+    def expect(self, statement, promise):
+        """Expects what was promised. Promise epochs ascend, and none above them was watched."""
         signed = self.client.read_promise(promise)
         promised = signed.promise
-        if (promised.name, promised.key) != (self.name, key):
+        if (promised.name, promised.statement()) != (self.name, statement):
             raise MonitorRefusal(24)
         if self.watched > promised.epoch or any(promised.epoch <= change.epoch for change in self.changes):
             raise MonitorRefusal(24)
         self.client.promises.append(signed)
-        self.changes.append(Change(promised.epoch, key))
+        self.changes.append(Change(promised.epoch, statement))
 
     def next_epoch(self):
         """The first epoch of the chain that was not watched, or None."""
@@ -901,11 +945,21 @@ def nonce_word(word):
     return nonce
 
 
+def policy_word(word):
+    """The policy of its name."""
+    for policy, name in POLICIES.items():
+        if word == name.encode():
+            return policy
+    raise NotACommand
+
+
 EPOCH, COUNT, SESSION = number(0, MAX_EPOCH), number(0, 2**16 - 1), number(1, 2**32 - 1)
 
 COMMANDS = {
     b"register": (hex_word, hex_word),
     b"change": (hex_word, hex_word),
+    b"register2": (hex_word, hex_word, policy_word),
+    b"change2": (hex_word, hex_word, policy_word),
     b"promise": (hex_word,),
     b"lookup": (hex_word, EPOCH),
     b"history": (EPOCH, COUNT),
@@ -913,6 +967,7 @@ COMMANDS = {
     b"close": (EPOCH,),
     b"rotate": (EPOCH, nonce_word),
     b"watch": (hex_word, hex_word),
+    b"watch2": (hex_word, hex_word, policy_word),
     b"bytes": (SESSION, hex_word),
     b"end": (SESSION,),
 }
@@ -929,13 +984,15 @@ def command_of(line):
 
 def request_of(command, words):
     """The request of a command that goes through session 0, whose name and key have to fit in a frame."""
+    if any(isinstance(word, bytes) and len(word) >= 2**16 for word in words):
+        raise NotACommand
     if command == "lookup":
         words = words[1], words[0]
     elif command in ("close", "rotate"):
         words = TOKEN, *words
-    elif command != "history" and any(len(word) >= 2**16 for word in words):
-        raise NotACommand
-    if command == "lookup" and len(words[1]) >= 2**16 or not request_fits(command, *words):
+    elif command in ("register2", "change2"):
+        words = words[2], words[0], words[1]
+    if not request_fits(command, *words):
         raise NotACommand
     return command, *words
 
@@ -967,7 +1024,7 @@ class Played:
             return []
         command, words = command_of(line)
         match command:
-            case "watch":
+            case "watch" | "watch2":
                 return self.watch(*words)
             case "end":
                 return self.end(*words)
@@ -980,18 +1037,17 @@ class Played:
         kind, value = self.ask(*request_of(command, words))
         if kind == PROOF:
             name, epoch = words
-            key = self.client.look(name, epoch, value.write())
-            epoch = self.client.looks[-1].epoch
-            return f"absent {epoch}" if key is None else f"present {epoch} {key.hex()}"
+            found = self.client.look(name, epoch, value.write())
+            return looked_line(self.client.looks[-1].epoch, found)
         if kind == PROMISE and command != "promise":
-            self.hand_out(*words, value)
+            self.hand_out(value, *words)
         return response_line(kind, value)
 
-    def hand_out(self, name, key, promise):
+    def hand_out(self, promise, name, key, policy=None):
         """Gives a promise to each monitor of its name."""
         for monitor in self.monitors:
             if monitor.name == name:
-                monitor.expect_change(key, promise.write())
+                monitor.expect(Statement(key, policy), promise.write())
 
     def piece(self, session, piece):
         """The lines for a piece of a session, which is opened if it is not open."""
@@ -1008,10 +1064,11 @@ class Played:
             self.hub.end(session)
         return []
 
-    def watch(self, name, key):
-        if not 1 <= len(name) <= MAX_NAME or len(key) > MAX_KEY:
+    def watch(self, name, key, policy=None):
+        if not 1 <= len(name) <= MAX_NAME or len(key) > MAX_KEY or (not key and policy is not None):
             raise NotACommand
-        monitor = Monitor(self.new_client(), name, key or None)
+        client = self.new_client()
+        monitor = Monitor(client, name, key or None) if policy is None else Monitor.new2(client, name, key, policy)
         self.monitors.append(monitor)
         return self.steps(monitor)
 
@@ -1054,10 +1111,22 @@ def response_line(kind, value):
     return f"refused {value}"
 
 
+def statement_text(statement):
+    """A key, and its policy if it has one; or `absent`."""
+    if statement is None:
+        return "absent"
+    key = statement.key.hex()
+    return key if statement.policy is None else f"{key} {POLICIES[statement.policy]}"
+
+
+def looked_line(epoch, found):
+    return f"absent {epoch}" if found is None else f"present {epoch} {statement_text(found)}"
+
+
 def step_line(name, epoch, step):
     if step == KEPT:
         return f"kept {name} {epoch}"
-    return f"alarm {name} {epoch} {'absent' if step.found is None else step.found.hex()}"
+    return f"alarm {name} {epoch} {statement_text(step.found)}"
 
 
 def played(script):

@@ -19,12 +19,12 @@ import random
 import re
 import shutil
 import signal
-import stat
 import subprocess
 import sys
 import tempfile
 import threading
 from concurrent.futures import ThreadPoolExecutor
+from dataclasses import replace
 from typing import NamedTuple
 
 sys.dont_write_bytecode = True
@@ -184,16 +184,18 @@ class Life:
         return life
 
     def line(self):
-        kind = self.rng.choice(["register", "register", "change", "close", "close", "watch", "lookup", "head"])
+        kinds = ["register", "register", "register2", "change", "change", "change2", "close", "close", "close", "close"]
+        kind = self.rng.choice([*kinds, "watch", "watch", "watch2", "lookup", "lookup", "head", "head"])
         if kind == "close":
             self.epoch += 1
             return f"close {self.epoch}"
         if kind == "head":
             return kind
-        if kind == "register" or not self.names:
+        policy, key = self.rng.choice(["open", "open", "final"]), self.rng.choice(["6b31", "6b32"])
+        if kind in ("register", "register2") or not self.names:
             self.names.append(f"{len(self.names):04x}")
-            return f"register {self.names[-1]} 6b31"
-        words = {"lookup": "0", "watch": "6b31", "change": self.rng.choice(["6b31", "6b32"])}
+            return f"register2 {self.names[-1]} 6b31 {policy}" if kind == "register2" else f"register {self.names[-1]} 6b31"
+        words = {"lookup": "0", "watch": "6b31", "watch2": f"6b31 {policy}", "change": key, "change2": f"{key} {policy}"}
         return f"{kind} {self.rng.choice(self.names)} {words[kind]}"
 
     def script(self):
@@ -222,19 +224,23 @@ class Life:
 
 def begun(program, folder):
     """States with a script whose run is to be stopped, how many calls of that change a file at least, and the statuses that
-    it may have if it cannot write (3 behind evidence): a new one; one with roots, marks and promises, and last lines that
-    were cut short; and one that tells evidence."""
+    it may have if it cannot write (3 behind evidence): a new one; one with roots, marks, promises and an alarm, and last
+    lines that were cut short; and one that tells evidence."""
     script = b"watch 61 -\nregister 61 6b31\nclose 2\nlookup 61 0\nregister 62 6b31\nwatch 62 -\n"
     yield "a new state", Life(folder, random.Random(1)), script, 16, {1}
     life = Life(folder, random.Random(1))
-    life.epoch, life.names = 3, ["61", "62", "63"]
-    runs = b"register 61 6b31\nregister 62 6b31\nclose 2\nwatch 61 6b31\n", b"change 61 6b32\nregister 63 6b31\nclose 3\n"
+    life.epoch, life.names = 3, ["61", "62", "63", "66", "67"]
+    runs = (
+        b"register 61 6b31\nregister 62 6b31\nregister2 66 6b31 open\nregister2 67 6b31 open\nclose 2\n"
+        b"watch 61 6b31\nwatch2 66 6b31 open\nwatch2 67 6b31 final\n",
+        b"change 61 6b32\nchange2 66 6b31 final\nregister 63 6b31\nclose 3\n",
+    )
     wrong = [life.run(program, script) for script in runs]
     for path, rest in zip(paths(life.state), ("5201", "change 50")):
         with open(path, "a") as file:
             file.write(rest)
     assert wrong == [None, None], wrong
-    script = b"watch 64 -\nregister 64 6b31\nwatch 61 6b32\nclose 9\nregister 65 6b31\nwatch 62 6b31\n"
+    script = b"watch 64 -\nregister 64 6b31\nwatch 61 6b32\nwatch2 66 6b31 final\nclose 9\nregister2 65 6b31 final\nwatch 62 6b31\n"
     yield "a state", life, script, 16, {1}
     os.mkdir(f"{folder}/forked")
     life = Life(f"{folder}/forked", random.Random(1))
@@ -454,19 +460,31 @@ def modes(program):
 
 
 class Kept(NamedTuple):
-    """The lines of a state of which a run adds nothing: roots of the epochs 1 to 3, and of epoch 2 a mark and a promise."""
+    """The lines of a state of which a run adds nothing: roots of the epochs 1 to 3, and of epoch 2 a mark and a promise,
+    with policies an alarm too."""
 
     roots: list
     kept: list
 
+    def line(self, word):
+        """The line of FILE.kept that begins with this word."""
+        (line,) = (line for line in self.kept if line.startswith(f"{word} "))
+        return line
 
-def kept_state(program, address, folder):
+
+KEPT_RUNS = b"register 61 6b31\nclose 2\nwatch 61 6b31\n", b"change 61 6b32\n", b"close 3\n"
+POLICY_RUNS = b"register2 61 6b31 open\nclose 2\nwatch2 61 6b31 final\n", b"change2 61 6b31 final\n", b"close 3\n"
+OPEN_ALARM = "alarm 61 2 6b31 open"
+
+
+def kept_state(program, address, folder, runs=KEPT_RUNS):
+    """The state that these runs leave."""
     state = f"{folder}/begun"
-    done(program, state, address, b"register 61 6b31\nclose 2\nwatch 61 6b31\n")
-    done(program, state, address, b"change 61 6b32\n")
-    done(program, state, address, b"close 3\n")
+    for script in runs:
+        done(program, state, address, script)
     roots, kept = files_of(state)
-    assert len(roots) == 3 and sorted(line.split(" ")[0] for line in kept) == ["change", "watched"], (roots, kept)
+    wanted = ["change", "watched"] if runs == KEPT_RUNS else ["alarm", "change", "watched"]
+    assert len(roots) == 3 and sorted(line.split(" ")[0] for line in kept) == wanted, (roots, kept)
     return Kept(roots, kept)
 
 
@@ -484,43 +502,76 @@ def put(state, roots, kept):
 HEAD_3 = "root 3 after 2\n"
 
 
+class Cut(NamedTuple):
+    """Bytes of the two files whose last lines were cut short, what is said of them, and what FILE.kept has then."""
+
+    roots: bytes
+    kept: bytes
+    said: list
+    kept_then: bytes
+
+
+def cut_roots(begun):
+    text = text_of(begun.kept)
+    for left in range(1, len(begun.roots[2]) + 1):
+        roots = text_of(begun.roots[:2]) + begun.roots[2][:left].encode()
+        yield Cut(roots, text, [f": {left} bytes cut off"], text)
+    both = [": 17 bytes cut off", ".kept: 5 bytes cut off"]
+    yield Cut(text_of(begun.roots[:2]) + begun.roots[2][:17].encode(), text + b"watch", both, text)
+    yield Cut(text_of(begun.roots), b"change 50", [".kept: 9 bytes cut off"], b"")
+
+
+def cut_kept(begun):
+    """Each line is the last one in turn. Where its beginning is an item too, as that of an alarm before its policy, it is
+    dropped all the same."""
+    for last in begun.kept:
+        others = [line for line in begun.kept if line != last]
+        # A promise without a mark is tested.
+        then = [line for line in others if not (last.startswith("watched ") and line.startswith("change "))]
+        for left in range(1, len(last) + 1):
+            kept = text_of(others) + last[:left].encode()
+            yield Cut(text_of(begun.roots), kept, [f".kept: {left} bytes cut off"], text_of(then))
+
+
 def cut_lines(program):
     """A last line that was cut short is dropped."""
-    with directory(program) as address, tempfile.TemporaryDirectory() as folder:
-        begun = kept_state(program, address, folder)
-        whole = text_of(begun.roots)
+    for runs, cases in (KEPT_RUNS, [cut_roots, cut_kept]), (POLICY_RUNS, [cut_kept]):
+        with directory(program) as address, tempfile.TemporaryDirectory() as folder:
+            begun = kept_state(program, address, folder, runs)
+            if runs == POLICY_RUNS:
+                yield different("an alarm with a policy", OPEN_ALARM, begun.line("alarm"))
 
-        def check(case):
-            number, roots, kept, said, kept_then = case
-            state = f"{folder}/{number}"
-            put(state, roots, kept)
-            words = "".join(f"state: {state}{line}\n" for line in said)
-            got = done(program, state, address, b"head\n"), bytes_of(state)
-            return different(f"{len(roots or b'')} and {len(kept or b'')} bytes", ((HEAD_3, words, 0), [whole, kept_then]), got)
+            def check(case, address=address, folder=folder, whole=text_of(begun.roots)):
+                number, cut = case
+                state = f"{folder}/{number}"
+                put(state, cut.roots, cut.kept)
+                words = "".join(f"state: {state}{line}\n" for line in cut.said)
+                got = done(program, state, address, b"head\n"), bytes_of(state)
+                return different(f"{cut.roots[-20:]} and {cut.kept[-20:]}", ((HEAD_3, words, 0), [whole, cut.kept_then]), got)
 
-        cases = []
-        text = text_of(begun.kept)
-        for left in range(1, len(begun.roots[2]) + 1):
-            roots = text_of(begun.roots[:2]) + begun.roots[2][:left].encode()
-            cases.append((roots, text, [f": {left} bytes cut off"], text))
-        for kept in (begun.kept, begun.kept[::-1]):
-            for left in range(1, len(kept[1]) + 1):
-                rest = text_of(kept[:1])
-                # A promise without a mark is tested.
-                then = rest if kept[0].startswith("watched ") else b""
-                cases.append((whole, rest + kept[1][:left].encode(), [f".kept: {left} bytes cut off"], then))
-        both = [": 17 bytes cut off", ".kept: 5 bytes cut off"]
-        cases.append((text_of(begun.roots[:2]) + begun.roots[2][:17].encode(), text + b"watch", both, text))
-        cases.append((whole, b"change 50", [".kept: 9 bytes cut off"], b""))
-        with ThreadPoolExecutor(BESIDE) as pool:
-            yield from pool.map(check, [(number, *case) for number, case in enumerate(cases)])
-        # Of the first line nothing is left.
-        for left in (1, 17, len(begun.roots[0])):
-            state = f"{folder}/first {left}"
-            put(state, begun.roots[0][:left].encode(), None)
-            words = f"state: {state}: {left} bytes cut off\nstate: begins at epoch 3\n"
-            got = done(program, state, address, b"head\n"), bytes_of(state)
-            yield different(f"{left} bytes of the first line", ((HEAD_3, words, 0), [text_of(begun.roots[2:]), None]), got)
+            with ThreadPoolExecutor(BESIDE) as pool:
+                yield from pool.map(check, enumerate(cut for each in cases for cut in each(begun)))
+            yield from cut_first_line(program, address, folder, begun)
+
+
+def cut_first_line(program, address, folder, begun):
+    """Of the first line of FILE nothing is left."""
+    for left in (1, 17, len(begun.roots[0])):
+        state = f"{folder}/first {left}"
+        put(state, begun.roots[0][:left].encode(), None)
+        words = f"state: {state}: {left} bytes cut off\nstate: begins at epoch 3\n"
+        got = done(program, state, address, b"head\n"), bytes_of(state)
+        yield different(f"{left} bytes of the first line", ((HEAD_3, words, 0), [text_of(begun.roots[2:]), None]), got)
+
+
+class Bad(NamedTuple):
+    """Lines of the two files, None for a file that is not there, what is said behind FILE, and the number of the bad line."""
+
+    what: str
+    roots: list
+    kept: list
+    beside: str
+    number: int
 
 
 def bad_items(program):
@@ -532,13 +583,8 @@ def bad_items(program):
         with directory(program) as other:
             done(program, f"{folder}/elsewhere", other, b"register 61 6b31\nrotate 2 %s\n" % (b"05" * 32))
         (_, foreign), _ = files_of(f"{folder}/elsewhere")
-        (mark,) = (line for line in begun.kept if line.startswith("watched "))
-        (promise,) = (line for line in begun.kept if line.startswith("change "))
-        count = 0
-
-        def check(what, roots, kept, beside, number):
-            nonlocal count
-            count += 1
+        cases = [*bad_roots(begun, foreign), *bad_kept(begun), *lines_above(begun, above), *without_roots(begun)]
+        for count, (what, roots, kept, beside, number) in enumerate(cases):
             state = f"{folder}/{count}"
             put(state, None if roots is None else text_of(roots), None if kept is None else text_of(kept))
             before = bytes_of(state)
@@ -547,37 +593,63 @@ def bad_items(program):
             if roots is None:
                 # FILE may be there, and empty.
                 got[1][0] = got[1][0] or None
-            return different(what, (("", words, 1), before), got)
+            yield different(what, (("", words, 1), before), got)
 
-        unlinked = {1: begun.roots[0][2:], 2: begun.roots[2], 3: foreign}
-        for number, root in enumerate(begun.roots, 1):
-            for bad in (root[:-2], root + "00", root[:-1], f"{root[:-1]}g", "x", changed_digit(root), unlinked[number]):
-                roots = [*begun.roots[: number - 1], bad, *begun.roots[number:]]
-                yield check(f"root {number} is {bad[:10]}..", roots, begun.kept, "", number)
-                yield check(f"root {number} is {bad[:10]}.. alone", roots, None, "", number)
-        lines = [
-            "x", "watched", "watched 61", "watched 6 2", "watched 6g 2", "watched 61 ", "watched 61 x", "watched 61 1 2 3", "watched  2",
-            f"watched {'61' * 256} 2", "watched 61 -1", "watched 61 18446744073709551616", "watch 61 2", f"promises {promise[7:]}",
-            f"change  {promise[7:]}", promise[:-2], promise[:-1], f"{promise}00", f"{promise[:-1]}g", changed_digit(promise), "promise", "change ",
-            "watched 61 1 x", "watched 61 1 ", "watched 61 -1 2", "alarm", "alarm 61", "alarm 61 2", "alarm 61 2 ", "alarm 6 2 6b31",
-            "alarm 61 x 6b31", "alarm 61 2 6b3", "alarm 61 2 none", "alarm 61 2 absent 2", "alarm 61 18446744073709551616 6b31",
-            f"alarm {'61' * 256} 2 6b31", f"alarm 61 2 {'61' * 2049}", "{", "{}", '{"first":"","kind":"fork","second":""}',
-        ]
-        for bad in lines:
-            for number in (1, 2, 3):
-                kept = [mark, promise]
-                kept.insert(number - 1, bad)
-                yield check(f"line {number} of what is kept is {bad[:20]}", begun.roots, kept, ".kept", number)
-        # What is above FILE's last root.
-        for bad in ("watched 61 4", "watched 61 18446744073709551615", "watched 7a 4", "watched 61 1 4", "watched 61 4 4"):
-            for kept in ([mark, bad], [mark, bad, promise, mark]):
-                yield check(f"a mark above the head: {bad}", begun.roots, kept, ".kept", 2)
-        for bad in ("watched 61 3", *above):
-            yield check(f"above the head: {bad[:20]}", begun.roots[:2], [promise, mark, bad], ".kept", 3)
-        # FILE.kept without FILE.
-        for kept in (begun.kept, [mark], [promise]):
-            for roots in (None, []):
-                yield check(f"FILE is {roots}, and FILE.kept is there", roots, kept, "", 1)
+
+def bad_roots(begun, foreign):
+    unlinked = {1: begun.roots[0][2:], 2: begun.roots[2], 3: foreign}
+    for number, root in enumerate(begun.roots, 1):
+        for bad in (root[:-2], root + "00", root[:-1], f"{root[:-1]}g", "x", changed_digit(root), unlinked[number]):
+            roots = [*begun.roots[: number - 1], bad, *begun.roots[number:]]
+            yield Bad(f"root {number} is {bad[:10]}..", roots, begun.kept, "", number)
+            yield Bad(f"root {number} is {bad[:10]}.. alone", roots, None, "", number)
+
+
+def bad_kept(begun):
+    for bad in bad_lines(begun.line("change")):
+        for number in (1, 2, 3):
+            kept = [begun.line("watched"), begun.line("change")]
+            kept.insert(number - 1, bad)
+            yield Bad(f"line {number} of what is kept is {bad[:20]}", begun.roots, kept, ".kept", number)
+
+
+def bad_lines(promise):
+    """Lines that are no items, some of them made of a line with a promise."""
+    assert with_policy(promise, None) == promise
+    return [
+        "x", "watched", "watched 61", "watched 6 2", "watched 6g 2", "watched 61 ", "watched 61 x", "watched 61 1 2 3", "watched  2",
+        f"watched {'61' * 256} 2", "watched 61 -1", "watched 61 18446744073709551616", "watch 61 2", f"promises {promise[7:]}",
+        f"change  {promise[7:]}", promise[:-2], promise[:-1], f"{promise}00", f"{promise[:-1]}g", changed_digit(promise), "promise", "change ",
+        "watched 61 1 x", "watched 61 1 ", "watched 61 -1 2", "alarm", "alarm 61", "alarm 61 2", "alarm 61 2 ", "alarm 6 2 6b31",
+        "alarm 61 x 6b31", "alarm 61 2 6b3", "alarm 61 2 none", "alarm 61 2 absent 2", "alarm 61 18446744073709551616 6b31",
+        f"alarm {'61' * 256} 2 6b31", f"alarm 61 2 {'61' * 2049}", "alarm 61 2 6b31 ", "alarm 61 2 6b31 Open", "alarm 61 2 absent open",
+        "alarm 61 2 6b3 open", "alarm 61 2 6b31 open final", f"alarm 61 2 {'61' * 2049} final", "{", "{}", '{"first":"","kind":"fork","second":""}',
+        *[line.replace("change", word) for line in (with_policy(promise, 0), with_policy(promise, 3)) for word in ("promise", "change")],
+    ]
+
+
+def with_policy(line, policy):
+    """The line of a promise that has this byte for its policy, and its signature."""
+    word, data = line.split(" ")
+    promise = replace(SignedPromise.read(bytes.fromhex(data)).promise, policy=policy)
+    return f"{word} {SignedPromise.signed(promise, SIGNING_KEY).write().hex()}"
+
+
+def lines_above(begun, above):
+    """What is above FILE's last root: marks, and these promises."""
+    mark, promise = begun.line("watched"), begun.line("change")
+    for bad in ("watched 61 4", "watched 61 18446744073709551615", "watched 7a 4", "watched 61 1 4", "watched 61 4 4"):
+        for kept in ([mark, bad], [mark, bad, promise, mark]):
+            yield Bad(f"a mark above the head: {bad}", begun.roots, kept, ".kept", 2)
+    for bad in ("watched 61 3", *above):
+        yield Bad(f"above the head: {bad[:20]}", begun.roots[:2], [promise, mark, bad], ".kept", 3)
+
+
+def without_roots(begun):
+    """FILE.kept without FILE."""
+    for kept in (begun.kept, [begun.line("watched")], [begun.line("change")]):
+        for roots in (None, []):
+            yield Bad(f"FILE is {roots}, and FILE.kept is there", roots, kept, "", 1)
 
 
 def changed_digit(line):
@@ -626,7 +698,8 @@ def old_states(program, seed):
 
 
 def is_of_older_states(line):
-    return line.split(" ")[0] in ("promise", "change", "watched")
+    """Whether it is a mark, or a promise of version 1."""
+    return line.startswith(("watched ", "promise 5001", "change 5001"))
 
 
 def older_form_of(line):
@@ -647,12 +720,47 @@ def left_over(program):
 # Memory -----------------------------------------------------------------------------------------------------------------
 
 
+class Watched(NamedTuple):
+    """Runs over a state, and the words of one more: how it may end, in the order of where memory runs out, and what it
+    says on standard error where it does not."""
+
+    runs: list
+    words: list
+    ends: list
+    said: list
+
+
+# Before the state is read; up to where the new epoch is told; and behind that.
+NO_MEMORY = Watched(
+    [b"register 61 6b31\nclose 2\nwatch 61 6b31\n", b"close 3\n"],
+    ["watch", "61", "6b31", "--after=2"],
+    [([], 1), (["stale 2"], 3), (["kept 61 3"], 1), (["kept 61 3"], 0)],
+    [],
+)
+# The same with policies, and up to where an alarm is told again, which the owner answered with a change.
+NO_MEMORY_BEHIND_ALARM = Watched(
+    POLICY_RUNS,
+    ["watch2", "61", "6b31", "final", "--after=2"],
+    [([], 1), (["stale 2"], 3), ([OPEN_ALARM, "stale 2"], 3), ([OPEN_ALARM, "kept 61 3"], 3)],
+    ["watching 61 at epoch 2: alarm of an earlier run"],
+)
+
+
 def no_memory(program, library):
     """Wherever memory runs out once the state was read, and before the new epoch is told, it is told that the last epoch
     is not late enough."""
+    for case in NO_MEMORY, NO_MEMORY_BEHIND_ALARM:
+        found = list(ends_without_memory(program, library, case))
+        yield different("memory that runs out", None, next((end for end in found if end not in case.ends), None))
+        ends = [end for end, _ in itertools.groupby(found) if end in case.ends]
+        yield different("the order of them", sorted(ends, key=case.ends.index), ends)
+
+
+def ends_without_memory(program, library, case):
+    """What the last run prints, and its status, where each of its allocations fails in turn, and then where none does."""
     with tempfile.TemporaryDirectory() as folder:
-        begun, provider, found = f"{folder}/begun", Provider(), []
-        for script in (b"register 61 6b31\nclose 2\nwatch 61 6b31\n", b"close 3\n"):
+        begun, provider = f"{folder}/begun", Provider()
+        for script in case.runs:
             provider.begin()
             ran(program, provider, script, begun)
         for place in itertools.count(1):
@@ -661,17 +769,10 @@ def no_memory(program, library):
                 shutil.copy(old, new)
             other.begin()
             # The library's count goes where nobody reads it.
-            output, errors, status = ran(program, other, b"", state, ("watch", "61", "6b31", "--after=2"), **preloaded(library, FAIL_NTH=place))
-            found.append((output, status))
-            if (output, errors, status) == (["kept 61 3"], [], 0):
-                break
-    ends = [end for place, end in enumerate(found) if place == 0 or found[place - 1] != end]
-    yield different("memory that runs out", None, next((end for end in found if end not in NO_MEMORY_ENDS), None))
-    yield different("the order of them", sorted(ends, key=NO_MEMORY_ENDS.index), ends)
-
-
-# Before the state is read; up to where the new epoch is told; and behind that.
-NO_MEMORY_ENDS = [([], 1), (["stale 2"], 3), (["kept 61 3"], 1), (["kept 61 3"], 0)]
+            output, errors, status = ran(program, other, b"", state, case.words, **preloaded(library, FAIL_NTH=place))
+            yield output, status
+            if (output, errors, status) == (case.ends[-1][0], case.said, case.ends[-1][1]):
+                return
 
 
 # The order of calls ---------------------------------------------------------------------------------------------------

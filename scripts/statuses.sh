@@ -150,7 +150,7 @@ helps listen --help -- "--count <N>" "How many connections are answered; 0 for n
     "--idle <SECONDS>" "After how many idle seconds a connection is closed; 0 for never [default: 60]" \
     "--until-eof" "Take the end of standard input as an order to stop" \
     "<ADDR>" "The address to listen on"
-helps ask --help -- "Usage: directoryd ask [OPTIONS] <ADDR> [COMMAND] [WORD] [WORD]" "--provider <FILE>" "--token <HEX>" \
+helps ask --help -- "Usage: directoryd ask [OPTIONS] <ADDR> [COMMAND] [WORD] [WORD] [WORD]" "--provider <FILE>" "--token <HEX>" \
     "The file of the provider's public keys, which everybody may read" "A file of secret keys: lines of " \
     "--keys <FILE>" "--state <FILE>" "register NAME KEY" "--text " "Take NAME of the words as text, such as alice" "--after <EPOCH>" \
     "NAME and KEY are hexadecimal digits, here and in what is printed" "--text without words is refused" \
@@ -220,7 +220,7 @@ refused "unexpected argument '--count' found" serve $keys --count 1
 refused "unexpected argument 'here:1' found" serve $keys here:1
 refused "the following required arguments were not provided:" listen $keys
 refused "the following required arguments were not provided:" ask --provider file
-refused "unexpected argument 'more' found" ask --provider file here:1 lookup 61 0 more
+refused "unexpected argument 'more' found" ask --provider file here:1 change2 61 6b open more
 refused "unexpected argument '--journal' found" ask --journal file here:1
 refused "unexpected argument 'here:2' found" listen $keys here:1 here:2
 refused "invalid value 'few' for '--count <N>': invalid digit found in string" listen $keys --count few here:1
@@ -350,10 +350,14 @@ ends 1 "" "cannot connect"
 # `--after` is for words that have a last epoch.
 for words in "" "lookup 61 0" "history 1 1" "settle 61" "register 61 62"; do
     given "head\n" ask --provider "$folder/secret" --after 7 nowhere $words
-    ends 2 "" "error: '--after' is for the COMMAND 'watch' or 'head' of the words"
+    ends 2 "" "error: '--after' is for the COMMAND 'watch', 'watch2' or 'head' of the words"
 done
 given "" ask --provider "$folder/public" --after 0 127.0.0.1:1 watch 61 -
 ends 3 "stale 0" "cannot connect"
+given "" ask --provider "$folder/public" --after 0 127.0.0.1:1 watch2 61 62 final
+ends 3 "stale 0" "cannot connect"
+given "" ask --provider "$folder/public" --after 7 127.0.0.1:1 watch2 61 - final
+ends 1 "" "cannot connect"
 given "" ask --provider "$folder/public" --after 18446744073709551615 127.0.0.1:1 head
 ends 3 "stale 0" "cannot connect"
 given "" ask --provider "$folder/public" --after 7 127.0.0.1:1 watch 6 -

@@ -57,10 +57,16 @@ ASKED = [
     ("History of no root", request("history", 0, 0), False),
     ("A request of kind 09", (0x09, []), False),
     ("Head with a byte too many", (0x06, [b"\0"]), False),
+    ("Register frank with the key k1, final", request("register2", FINAL, b"frank", b"k1"), True),
+    ("Close, with epoch 6", request("close", TOKEN, 6), False),
+    ("Lookup of frank in epoch 6", request("lookup", 6, b"frank"), False),
+    ("Change frank to the key k2", request("change", b"frank", b"k2"), False),
+    ("Change frank to the key k2, open", request("change2", OPEN, b"frank", b"k2"), False),
+    ("Register grace with a policy of 3", request("register2", 3, b"grace", b"k1"), False),
     ("Head, after all of these", request("head"), False),
 ]
 
-CHANGES = [REQUEST_KINDS[word] for word in ("register", "change", "close")]
+CHANGES = [REQUEST_KINDS[word] for word in ("register", "change", "register2", "change2", "close")]
 
 
 class Exchange(NamedTuple):
@@ -108,6 +114,11 @@ def counted_fields(value, label, what):
     return [(u16(len(value)), f"length of the {what}"), (value, label)]
 
 
+def policy_fields(policy):
+    """The field of a policy, if there is one."""
+    return [] if policy is None else [(u8(policy), f"the policy: {POLICIES[policy]}")]
+
+
 def signature_fields(signature):
     return counted_fields(signature, "the signature", "signature")
 
@@ -122,11 +133,13 @@ def roots_fields(roots):
 
 def promise_fields(signed):
     promise = signed.promise
+    version = versioned(promise.policy)[:1]
     front = [
-        (b"P\x01", "a promise, version 1"),
+        (b"P" + version, f"a promise, version {version[0]}"),
         (u64(promise.epoch), "the epoch of the latest root"),
         (promise.body_hash, "the hash of its body"),
         (promise.index, "the index of the name"),
+        *policy_fields(promise.policy),
     ]
     name = counted_fields(promise.name, "the name", "name")
     return front + name + counted_fields(promise.key, "the key", "key") + signature_fields(signed.signature)
@@ -134,7 +147,8 @@ def promise_fields(signed):
 
 def end_fields(end):
     if isinstance(end, Opening):
-        front = [(b"\x01", "the end: the leaf of the name"), (end.salt, "the salt")]
+        kind = b"\x01" if end.policy is None else b"\x04"
+        front = [(kind, "the end: the leaf of the name"), *policy_fields(end.policy), (end.salt, "the salt")]
         return front + counted_fields(end.key, "the key", "key")
     if isinstance(end, Empty):
         return [(b"\x02", "the end: empty")]
@@ -193,8 +207,11 @@ def in_words(reply):
         return f"promise over epoch {value.promise.epoch}"
     if kind == ROOT:
         return f"root of epoch {value.epoch}"
-    key = value.statement()
-    return f"epoch {value.body.epoch}, " + ("no key" if key is None else f"key {key.decode()}")
+    found = value.statement()
+    if found is None:
+        return f"epoch {value.body.epoch}, no key"
+    policy = "" if found.policy is None else f", {POLICIES[found.policy]}"
+    return f"epoch {value.body.epoch}, key {found.key.decode()}{policy}"
 
 
 # A directory that listens ------------------------------------------------------------------------------

@@ -10,7 +10,7 @@ use Rattle.rootchain.specs.declared.signed_root.SignedRoot.{SignedRoot}
 use Rattle.client.specs.Clients.{Client}
 use Rattle.monitor.specs.Monitors.{Monitor}
 use Rattle.wire.specs.Frames.{Frame}
-use Rattle.commands.specs.Operations.{Head}
+use Rattle.commands.specs.Operations.{AskedKey, Head}
 use Rattle.wire.specs.Requests.{RequestContent, Put, Query, Turn}
 use Rattle.play.specs.Scripts.{with_token}
 use Rattle.asking.specs.declared.asker.Asker.{Asker}
@@ -31,7 +31,7 @@ last-of xs some = elim (slice_get_cases xs (length xs - 1)).1 [ inl found ↦ (f
 
 -- a change is asked for
 abbrev pub IsPut : RequestContent → Type 0
-IsPut asked = (verb : Verb) × (name : List ℕ) × (key : List ℕ) × (asked ≡ Put verb name key)
+IsPut asked = (verb : Verb) × (name : List ℕ) × (key : AskedKey) × (asked ≡ Put verb name key)
 
 pub is_put : (asked : RequestContent) → IsChange asked → IsPut asked
 is_put (Put verb name key) change = (verb, name, key, refl)

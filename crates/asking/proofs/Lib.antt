@@ -1,3 +1,4 @@
+pub mod AlarmLines
 pub mod Asked
 pub mod Catching
 pub mod Caught

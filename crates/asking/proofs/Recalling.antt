@@ -12,6 +12,7 @@ use Rattle.asking.specs.declared.asker.Asker.{Asker}
 use Rattle.asking.specs.declared.said.Said.{Said}
 use Rattle.asking.specs.Joining.{BeginsSome, BeginsWatch, WatchesNew, WatchesSome}
 use Rattle.std.proofs.lemmas.Bool.Decides.{nat_tests}
+use Rattle.encoding.specs.declared.bound_key.BoundKey.{BoundKey}
 use Rattle.asking.specs.Recalled.{evidence_again, status_of, TellsAlarms}
 use Rattle.asking.specs.Reports.{Report, Tells, report_of, told_after}
 use Rattle.asking.specs.Scenes.{HaltsAfter, Scene, scene}
@@ -45,7 +46,7 @@ status_some status zero some = absurd (some refl)
 status_some status (suc n) some = grind (arith, nat_tests)
 
 module _ {H V S T : Type 0} (hash : List ℕ → List ℕ) (accepted verified : List ℕ → List ℕ → List ℕ → Type 0) (exchanged : T → RequestContent → Frame → T → Type 0) where
-  module _ (known : Memory) (marks : List Mark) (key : List ℕ) (promised : List SignedPromise) (name : List ℕ) (given : Option (List ℕ)) where
+  module _ (known : Memory) (marks : List Mark) (key : List ℕ) (promised : List SignedPromise) (name : List ℕ) (given : Option BoundKey) where
     -- the scene in which they are told again
     recalled-is : (asker : Asker H V S) (said middle : Said) (stream : T) (again : Report) → Tells said again middle
         → ◌≡◌ {A = Scene T} (scene asker middle stream) (record (scene asker said stream) { told = told_after (report_of said) again })

@@ -2,7 +2,7 @@
 use Rattle.std.specs.Prelude.{◌≡◌, ◌≢◌, ◌≤◌, ◌⊎◌, ℕ, List, length, Option, None, Some, ⊤}
 use Rattle.std.specs.List.{AllByRecursion}
 use Rattle.encoding.specs.Limits.{IsName}
-use Rattle.commands.specs.Operations.{Promise, Lookup, History, Head}
+use Rattle.commands.specs.Operations.{asked_key, Promise, Lookup, History, Head}
 use Rattle.wire.specs.Requests.{RequestContent, Query, Put, Turn}
 use Rattle.wire.specs.Responses.{ResponseContent, Proof, Roots, Root}
 use Rattle.wire.specs.Responses as response
@@ -15,7 +15,7 @@ IsOfTurn epoch (Some nonce) root = (root.body.epoch ≡ epoch) × (root.body.non
 
 -- the response is one to the request: of its kind, and about what it names; roots are of the epochs that were asked for
 abbrev pub IsAnswerTo : RequestContent → ResponseContent → Type 0
-IsAnswerTo (Put verb name key) (response.Promise signed) = (signed.promise.name ≡ name) × (signed.promise.key ≡ key)
+IsAnswerTo (Put verb name key) (response.Promise signed) = (signed.promise.name ≡ name) × (asked_key signed.promise.key ≡ key)
 IsAnswerTo (Query (Promise name)) (response.Promise signed) = signed.promise.name ≡ name
 IsAnswerTo (Query (Lookup name epoch)) (Proof reply) = IsName name × ((epoch ≡ 0) ⊎ (reply.body.epoch ≡ epoch))
 IsAnswerTo (Query (History from count)) (Roots roots) = (length roots ≤ count) × AllByRecursion (λ root. from ≤ root.body.epoch) roots

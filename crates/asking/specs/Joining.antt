@@ -2,6 +2,7 @@
 use Rattle.std.specs.Prelude.{◌≡◌, ◌≢◌, ◌⊎◌, ℕ, zero, suc, ◌<◌, List, [], ◌∷◌, ◌++◌, length, Any, if◌then◌else◌, Option, Some, None, Result, Ok, Err, codes, decimal}
 use Rattle.std.specs.List.{list_any}
 use Rattle.std.specs.Str.{bytes_eq}
+use Rattle.encoding.specs.declared.bound_key.BoundKey.{BoundKey}
 use Rattle.hex.specs.Hex.{encode_lower}
 use Rattle.rootchain.specs.Chains.{IsHead, KeyedRoots}
 use Rattle.rootchain.specs.Places.{IsNextAfter}
@@ -79,7 +80,7 @@ abbrev pub own_for : List Mark → List ℕ → List SignedPromise → List Sign
 own_for marks name earlier noted = earlier ++ noted_for marks name noted
 
 -- what is expected at first: the key of that promise, or else the one that was given
-abbrev pub first_expected : Option SignedPromise → Option (List ℕ) → Option (List ℕ)
+abbrev pub first_expected : Option SignedPromise → Option BoundKey → Option BoundKey
 first_expected (Some signed) given = Some signed.promise.key
 first_expected None given = given
 
@@ -114,14 +115,14 @@ module _ (hash : List ℕ → List ℕ) (accepted verified : List ℕ → List �
 
   -- A monitor that watches a name from a root of the chain on. It expects what was promised: at first the last before
   -- that root that a mark awaits, or else the given key, and those there as changes.
-  pub record IsJoined (marks : List Mark) (key : List ℕ) (promised : List SignedPromise) (chain : KeyedRoots) (first : SignedRoot) (name : List ℕ) (given : Option (List ℕ)) (monitor : Monitor) : Type 0 where
+  pub record IsJoined (marks : List Mark) (key : List ℕ) (promised : List SignedPromise) (chain : KeyedRoots) (first : SignedRoot) (name : List ℕ) (given : Option BoundKey) (monitor : Monitor) : Type 0 where
     pub own : Client
     pub starts : StartsFrom hash verified chain key first (Ok own)
     pub last : Option SignedPromise
     pub latest : IsLatest marks name first.body.epoch None promised last
     pub hands : AllHand promised (new_monitor own name (first_expected last given)) monitor
 
-  module _ {T : Type 0} (exchanged : T → RequestContent → Frame → T → Type 0) (marks : List Mark) (key : List ℕ) (promised : List SignedPromise) (name : List ℕ) (given : Option (List ℕ)) where
+  module _ {T : Type 0} (exchanged : T → RequestContent → Frame → T → Type 0) (marks : List Mark) (key : List ℕ) (promised : List SignedPromise) (name : List ℕ) (given : Option BoundKey) where
     -- such a monitor is added, behind the others, and watches each epoch of its chain; or a root is told as refused
     abbrev pub BeginsAt : SignedRoot → Scene T → Scene T → Type 0
     BeginsAt first before after =
@@ -151,7 +152,7 @@ module _ (hash : List ℕ → List ℕ) (accepted verified : List ℕ → List �
         ⊎ ((first : SignedRoot) × IsUnwatched before.client.chain name marks (Some first)
         × (BeginsSomeAt first before after ⊎ ((middle : Scene T) × BeginsAt first before middle × TestsSomeNamed hash accepted exchanged marks name middle after)))
 
-  module _ {T : Type 0} (exchanged : T → RequestContent → Frame → T → Type 0) (known : Remembered) (marks : List Mark) (key : List ℕ) (promised : List SignedPromise) (name : List ℕ) (given : Option (List ℕ)) where
+  module _ {T : Type 0} (exchanged : T → RequestContent → Frame → T → Type 0) (known : Remembered) (marks : List Mark) (key : List ℕ) (promised : List SignedPromise) (name : List ℕ) (given : Option BoundKey) where
     -- the alarms that earlier runs told of a name are told again, and then it is watched
     abbrev pub BeginsWatch : Scene T → Scene T → Type 0
     BeginsWatch before after = (again : Report) × TellsAlarms name known again

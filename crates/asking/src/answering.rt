@@ -1,6 +1,8 @@
 // Whether a reply answers what was asked. Only then it is checked.
 ghost use Rattle.std.specs.Prelude.{◌≡◌, ◌≢◌, ◌↔◌, ◌≤◌, codes, option_map, IfErr, IfOk, IsTrue, OnErr, OnOk};
 ghost use Rattle.std.specs.List.{AllByRecursion};
+ghost use Rattle.encoding.specs.Policies.{policy_byte};
+ghost use Rattle.commands.specs.Operations.{asked_key};
 ghost use Rattle.wire.specs.Frames.{Frame};
 ghost use Rattle.wire.specs.FrameViews.{frame_seen};
 ghost use Rattle.wire.specs.Refusals.{read_refusal_number};
@@ -17,7 +19,7 @@ ghost use Rattle.asking.specs.declared.ask_fault.AskFault.TheVariants.{Stopped};
 use crate::AskFault;
 use crate::exchange::{exchange, frame_in};
 use crate::said::{REFUSED, Said, directory_words};
-use encoding::{Hash32, Name};
+use encoding::{BoundKey, Hash32, Name, Policy};
 use play::{Ask, push_number, tell_response};
 use rootchain::RootList;
 use std::alloc::{AllocError, Global};
@@ -29,9 +31,17 @@ pub(crate) fn answers(ask: &Ask, response: &Response<'_>) -> bool
     ensures { IsTrue result ↔ IsAnswerTo (ask_seen ask.now) (response_seen response.now) }
 {
     match (ask, response) {
-        (Ask::Put { name, key, .. }, Response::Promise(signed)) => {
+        (
+            Ask::Put {
+                name,
+                key,
+                policy,
+                ..
+            },
+            Response::Promise(signed),
+        ) => {
             signed.promise.name.bytes() == name.as_slice()
-                && signed.promise.key.bytes() == key.as_slice()
+                && is_key(&signed.promise.key, key, *policy)
         }
         (Ask::Promise { name }, Response::Promise(signed)) => {
             signed.promise.name.bytes() == name.as_slice()
@@ -52,6 +62,25 @@ pub(crate) fn answers(ask: &Ask, response: &Response<'_>) -> bool
             Response::Root(root),
         ) => root.body.epoch == *epoch && root.body.nonce == *nonce,
         _ => false,
+    }
+}
+
+/// Whether a key is the one that was asked for, with the policy of this byte or none.
+fn is_key(key: &BoundKey, value: &[u8], policy: Option<u8>) -> bool
+    ensures { IsTrue result ↔ (asked_key key.now ≡ (value.now, policy)) }
+{
+    is_policy(key.policy, policy) && key.bytes() == value
+}
+
+/// Whether a policy is the one of this byte, or there is neither.
+fn is_policy(policy: Option<Policy>, byte: Option<u8>) -> bool
+    ensures { IsTrue result ↔ (option_map policy_byte policy ≡ byte) }
+{
+    match (policy, byte) {
+        (None, None) => true,
+        (Some(own), Some(byte)) => own.byte() == byte,
+        (None, Some(_)) => false,
+        (Some(_), None) => false,
     }
 }
 

@@ -19,7 +19,7 @@ use crate::said::CAUGHT;
 use crate::watching::hand_one;
 use crate::{AskFault, Asker, Checks, Said};
 use client::{Client, Refusal};
-use encoding::{Hash32, KeyData, Name};
+use encoding::{BoundKey, Hash32, Name};
 use memory::{Alarm, Mark, is_awaited};
 use monitor::Monitor;
 use nodehash::NodeHash;
@@ -47,7 +47,7 @@ where
         &mut self,
         stream: &mut T,
         name: &Name,
-        key: Option<&KeyData>,
+        key: Option<&BoundKey>,
         said: &mut Said,
     ) -> Result<(), AskFault>
         ensures begins { OnOk result (BeginsWatch H.digest_of V.accepted S.verified (ExchangesFrames T.contents T.remaining) (asker_known self.old) (asker_marks self.old) (asker_key self.old) (own_for (asker_marks self.old) name.now (asker_earlier self.old) (asker_changes self.old)) name.now (option_map (λ key. key.now) key.entry)
@@ -77,7 +77,7 @@ where
         &mut self,
         stream: &mut T,
         name: &Name,
-        key: Option<&KeyData>,
+        key: Option<&BoundKey>,
         said: &mut Said,
     ) -> Result<(), AskFault>
         ensures begins { OnOk result (WatchesNew H.digest_of V.accepted S.verified (ExchangesFrames T.contents T.remaining) (asker_marks self.old) (asker_key self.old) (own_for (asker_marks self.old) name.now (asker_earlier self.old) (asker_changes self.old)) name.now (option_map (λ key. key.now) key.entry)
@@ -102,7 +102,7 @@ where
         stream: &mut T,
         first: &SignedRoot,
         name: &Name,
-        key: Option<&KeyData>,
+        key: Option<&BoundKey>,
         said: &mut Said,
     ) -> Result<(), AskFault>
         ensures begins { OnOk result (BeginsAt H.digest_of V.accepted S.verified (ExchangesFrames T.contents T.remaining) (self.old).marks.items (self.old).key (own_for (self.old).marks.items name.now (self.old).earlier.items (self.old).changes.items) name.now (option_map (λ key. key.now) key.entry)
@@ -132,7 +132,7 @@ where
         &mut self,
         first: &SignedRoot,
         name: &Name,
-        key: Option<&KeyData>,
+        key: Option<&BoundKey>,
     ) -> Result<Monitor<H, V, S>, Refusal>
         ensures begun { IfOk result (λ monitor. IsJoined H.digest_of V.accepted S.verified (self.old).marks.items (self.old).key (own_for (self.old).marks.items name.now (self.old).earlier.items (self.old).changes.items) (self.old).client.chain first.now name.now (option_map (λ key. key.now) key.entry) monitor) }
         ensures refused { IfErr result (λ why. why ≢ Memory → StartsFrom H.digest_of S.verified (self.old).client.chain (self.old).key first.now (Err why)) }
@@ -142,7 +142,7 @@ where
         let (marks, earlier, changes) = (&self.marks, &self.earlier, &self.changes);
         let last = last_before(marks, earlier, changes, name, first.body.epoch);
         let start = expected_at_first(last, key);
-        let mut monitor = Monitor::new(self.alloc, own, name.copied(), start);
+        let mut monitor = Monitor::from_start(self.alloc, own, name.copied(), start);
         if hand_own(
             &mut self.checks,
             &mut monitor,
@@ -393,7 +393,7 @@ fn awaits(marks: &[Mark], signed: &SignedPromise) -> bool
 }
 
 /// What a monitor expects at first: the key of the last promise, or else the one that is given.
-fn expected_at_first(last: Option<&SignedPromise>, given: Option<&KeyData>) -> Option<KeyData>
+fn expected_at_first(last: Option<&SignedPromise>, given: Option<&BoundKey>) -> Option<BoundKey>
     ensures { result ≡ first_expected (option_map (λ signed. signed.now) last.entry) (option_map (λ key. key.now) given.entry) }
 {
     match (last, given) {

@@ -2,6 +2,12 @@ ghost use Rattle.std.specs.Prelude.{◌≡◌, ◌<◌, ◌≤◌, ℕ, List};
 ghost use Rattle.std.specs.List.{AllByRecursion};
 ghost use Rattle.rootchain.specs.Chains.{KeyedRoots};
 ghost use Rattle.rootchain.specs.declared.signed_root.SignedRoot.{SignedRoot};
+ghost use Rattle.proofs.specs.Views.{key_stated};
+ghost use Rattle.proofs.specs.declared.statement.Statement.{Statement};
+ghost use Rattle.monitor.specs.declared.step.Step.TheVariants as step;
+ghost use Rattle.memory.specs.Lines.{IsAlarm, IsLineOf};
+ghost use Rattle.memory.specs.declared.item.Item.TheVariants as items;
+ghost use Rattle.play.specs.Telling.{step_text};
 ghost use Rattle.asking.specs.Checking.{AreTold};
 ghost use Rattle.asking.specs.Reports.{refused, Report};
 ghost use Rattle.asking.specs.Wanted.{last_epoch, roots_sent, AreWanted, BeginFrom, IsOfChain, IsReached};
@@ -35,4 +41,10 @@ pub fn sent_roots_are_wanted<H: NodeHash>()
 pub fn told_roots_are_of_the_chain<H: NodeHash, S: Verifier>()
     ensures { (chain : KeyedRoots) (held from count : ℕ) (roots : List SignedRoot) (told : Report) → AreTold H.digest_of S.verified chain (record { held = held; from = from; count = count }) roots roots told
         → told.status ≡ 0 → AllByRecursion (IsOfChain chain) roots }
+{}
+
+/// The line that tells an alarm is the one of which a memory has it.
+pub fn told_alarms_are_items()
+    ensures { (name : List ℕ) (at epoch : ℕ) (found : Statement) → IsAlarm (record { name = name; epoch = epoch; found = key_stated found })
+        → IsLineOf (step_text name at (step.Alarm epoch found)) (items.Alarm (record { name = name; epoch = epoch; found = key_stated found })) }
 {}

@@ -41,7 +41,8 @@ pub use asker::Asker;
 pub use checking::hear;
 pub use following::MAX_LISTS;
 pub use laws::{
-    lists_are_few, refusals_have_their_numbers, sent_roots_are_wanted, told_roots_are_of_the_chain,
+    lists_are_few, refusals_have_their_numbers, sent_roots_are_wanted, told_alarms_are_items,
+    told_roots_are_of_the_chain,
 };
 pub use play::Checks;
 pub use reply::Reply;

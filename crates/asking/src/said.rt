@@ -136,6 +136,8 @@ pub(crate) fn directory_words(code: u8) -> &'static [u8] {
         14 => b"out of memory",
         15 => b"no root is asked for, or more than 64",
         19 => b"the record was not kept",
+        25 => b"the binding of the name on the latest page is final",
+        26 => b"the policy is neither open nor final",
         _ => b"no reason is known by this number",
     }
 }

@@ -198,7 +198,7 @@ where
         return Ok(None);
     }
     let key = &signed.promise.key;
-    match monitor.expect_change(&mut checks.hash, &checks.verifier, key, promise) {
+    match monitor.expect(&mut checks.hash, &checks.verifier, key, promise) {
         Ok(()) => Ok(None),
         Err(Refusal::Client(client::Refusal::Memory)) => Err(AllocError),
         Err(why) => Ok(Some(why)),

@@ -1,4 +1,5 @@
--- What shows anyone that a provider cheated (CONIKS, section 4).
+-- What shows anyone that a provider cheated (CONIKS, section 4: equivocation, and temporary bindings that were not
+-- kept).
 use Rattle.std.specs.Prelude.{ℕ, List}
 use Rattle.rootchain.specs.Evidence.{IsRootEvidence}
 use Rattle.proofs.specs.BrokenPromises.{IsBrokenPromise}
@@ -6,8 +7,8 @@ use Rattle.auditor.specs.declared.evidence.Evidence.{Evidence}
 use Rattle.auditor.specs.declared.evidence.Evidence.TheVariants.{Root, Broken}
 
 module _ (hash : List ℕ → List ℕ) (accepted verified : List ℕ → List ℕ → List ℕ → Type 0) (key : List ℕ) where
-  -- two roots of this provider that cannot both stand in one chain of well-formed roots, or a promise of the
-  -- provider that was broken
+  -- two roots of this provider that cannot both stand in one chain of well-formed roots (equivocation), or a promise
+  -- (temporary binding) of the provider that was broken
   abbrev pub IsEvidence : Evidence → Type 0
   IsEvidence (Root roots) = IsRootEvidence hash verified key roots
   IsEvidence (Broken broken) = IsBrokenPromise hash accepted verified key broken.promise broken.root broken.proof

@@ -32,7 +32,8 @@ compared_as place.BeforeStart = place.BeforeStart
 compared_as (place.Evidence evidence) = place.Evidence evidence
 
 module _ (hash : List ℕ → List ℕ) where
-  -- the answer on a root beside the chain of its provider, if there is one
+  -- the answer on a root beside the chain of its provider, if there is one (CONIKS, section 4: auditing for
+  -- non-equivocation)
   abbrev pub IsObserved : Option KeyedRoots → SignedRoot → Observed → Type 0
   IsObserved None root told = told ≡ Started
   IsObserved (Some chain) root told = (stands : Place) × IsPlace hash chain root stands × (told ≡ observed_as stands)

@@ -10,8 +10,9 @@ use Rattle.std.proofs.lemmas.Slice.Eq.{bytes_eq-Decides}
 use Rattle.book.specs.Steps.{Answer, bad_index, bad_verb, has_its_index, next_page, refusal, with_page, with_pending}
 use Rattle.commands.specs.declared.edit.Verb.{Verb}
 use Rattle.commands.specs.declared.edit.Verb.TheVariants.{Register, Change}
-use Rattle.commands.specs.Operations.{Operation, Query, Edit, Put, Turn}
+use Rattle.commands.specs.Operations.{bound_key, Operation, Query, Edit, Put, Turn}
 use Rattle.book.specs.Books.{Binding, Book, pages}
+use Rattle.encoding.specs.declared.bound_key.BoundKey.{BoundKey}
 use Rattle.encoding.specs.Maps.{Map, at, overwritten, put_at}
 use Rattle.book.specs.Shows.{Provider, index_of}
 use Rattle.book.proofs.Entries.{at_put_other, found-entry, is_name, is_no_name, same_name, stays}
@@ -90,7 +91,7 @@ module _ (provider : Provider) where
       sole true b none is = let e : true ≡ false = sym is ∙ none in absurd cc
 
   -- a name that is put in, where all others with its index are itself
-  apart-pending : (book : Book) (name key : List ℕ) → IsApart book → ((other : List ℕ) → Holds book other → index_of provider other ≡ index_of provider name → other ≡ name) → IsApart (with_pending book name key)
+  apart-pending : (book : Book) (name : List ℕ) (key : BoundKey) → IsApart book → ((other : List ℕ) → Holds book other → index_of provider other ≡ index_of provider name → other ≡ name) → IsApart (with_pending book name key)
   apart-pending book name key apart free = record { now = now; pages = apart.pages }
     where
       held : (other : List ℕ) → Holds (with_pending book name key) other → Holds book other ⊎ (other ≡ name)
@@ -126,7 +127,7 @@ module _ (provider : Provider) where
   apart-after book after (Query question) answer apart none does = subst IsApart (sym does.1) apart
   apart-after book after (Edit (Put verb name key)) answer apart none does =
       let has = put_passed (index_of provider) book verb name key none in
-      subst IsApart (sym does.1) (apart-pending book name key apart (free verb has.page has.index))
+      subst IsApart (sym does.1) (apart-pending book name (bound_key key) apart (free verb has.page has.index))
     where
       there : (found : Option Binding) → is_none found ≡ false → (binding : Binding) × (found ≡ Some binding)
       there None e = absurd cc

@@ -2,6 +2,7 @@
 use Rattle.std.proofs.Common.{◌≡◌, ℕ, ◌<◌, ◌≤◌, ◌^◌, List, length, Option, Some, None, refl, sym, ap, subst, ◌∙◌}
 use Rattle.std.specs.List.{AllByRecursion}
 use Rattle.std.specs.Prelude.{option_map}
+use Rattle.encoding.specs.declared.bound_key.BoundKey.{BoundKey}
 use Rattle.encoding.specs.Bytes.{Is32Bytes}
 use Rattle.encoding.specs.Limits.{IsKeyData, IsName}
 use Rattle.prefixtree.specs.Node.{root_of}
@@ -27,7 +28,7 @@ use Rattle.book.proofs.Placed.{Alone, commitment, is_placement, have_sizes, plac
 use Rattle.book.proofs.Sizes.{path-level, path-sizes}
 
 abbrev pub IsBinding : Binding → Type 0
-IsBinding binding = IsKeyData binding.key
+IsBinding binding = IsKeyData binding.key.value
 
 abbrev pub AreSalted : Map Binding → Type 0
 AreSalted = AllByRecursion (λ entry. Is32Bytes entry.1.salt)
@@ -42,7 +43,7 @@ pub record IsPage (page : Page) : Type 0 where
   pub ascends : Ascends page.bindings
   pub bindings : AreBindings page.bindings
 
-abbrev pub key_of : Option Binding → Option (List ℕ)
+abbrev pub key_of : Option Binding → Option BoundKey
 key_of None = None
 key_of (Some binding) = Some binding.key
 
@@ -65,7 +66,7 @@ module _ (provider : Provider) (name : List ℕ) where
     absent-fits path.Empty none is = record { fits = refl; form = tt; states = refl }
     absent-fits (path.Other other commitment) none is = record { fits = refl; form = other_sizes index n items other commitment (have_sizes provider size bindings) is; states = refl }
 
-    present-fits : (binding : Binding) (end : PathEnd) → Is32Bytes binding.salt × IsKeyData binding.key → end ≡ path.Present (commitment provider name binding) → Fits (Some binding) end
+    present-fits : (binding : Binding) (end : PathEnd) → Is32Bytes binding.salt × IsKeyData binding.key.value → end ≡ path.Present (commitment provider name binding) → Fits (Some binding) end
     present-fits binding (path.Present commitment) is same = record { fits = sym same; form = is; states = refl }
     present-fits binding path.Empty is same = absurd cc
     present-fits binding (path.Other other commitment) is same = absurd cc

@@ -7,6 +7,7 @@ use Rattle.std.proofs.lemmas.List.Elements.{All-contains, All-contains_itself, A
 use Rattle.std.proofs.lemmas.List.{get_or-append_right, get_or_append_left}
 use Rattle.std.proofs.lemmas.Option.{slice_get-get_or}
 use Rattle.std.proofs.lemmas.Slice.Eq.{bytes_eq-Decides}
+use Rattle.encoding.specs.declared.bound_key.BoundKey.{BoundKey}
 use Rattle.encoding.specs.Bytes.{Is32Bytes}
 use Rattle.encoding.proofs.ByteLists.{IsBytes-zeros}
 use Rattle.rootchain.specs.Chains.{IsChain, IsHead, Links, Verifies}
@@ -47,7 +48,7 @@ use Rattle.book.proofs.Stretches.{consecutive-there}
 use Rattle.book.proofs.Turning.{IsSound}
 use Rattle.book.proofs.Users.{said-asked, users-apart}
 
-some-key : (found : Option Binding) (key : List ℕ) → option_map (λ (binding : Binding). binding.key) found ≡ Some key → (binding : Binding) × (found ≡ Some binding)
+some-key : (found : Option Binding) (key : BoundKey) → option_map (λ (binding : Binding). binding.key) found ≡ Some key → (binding : Binding) × (found ≡ Some binding)
 some-key None key e = absurd cc
 some-key (Some binding) key e = (binding, refl)
 
@@ -184,9 +185,9 @@ module _ (provider : Provider) where
     answer : (latest : ℕ) (name : List ℕ) (epoch : ℕ) (text : List ℕ) → (s : SeenFound provider latest after name epoch text) → Alone provider name s.page.bindings → IsAnswer provider accepted verified key after latest name epoch text
     answer latest name epoch text s alone =
         let r = right latest name epoch text s alone in
-        let forth : (statement : Option (List ℕ)) → Accepts provider.hash accepted s.root.body name text statement → statement ≡ key_at s.page name
+        let forth : (statement : Option BoundKey) → Accepts provider.hash accepted s.root.body name text statement → statement ≡ key_at s.page name
         = λ statement accepts. sym (accepts-passed provider.hash accepted s.root.body name text r.reply r.spells statement accepts).0 ∙ r.states in
-        let back : (statement : Option (List ℕ)) → statement ≡ key_at s.page name → Accepts provider.hash accepted s.root.body name text statement
+        let back : (statement : Option BoundKey) → statement ≡ key_at s.page name → Accepts provider.hash accepted s.root.body name text statement
         = λ statement same. subst (Accepts provider.hash accepted s.root.body name text) (sym same) r.accepts in
         record {
           page = s.page;
@@ -234,7 +235,7 @@ module _ (provider : Provider) where
         ∙ r.states ∙ ap (key_at s.page) (sym same) ∙ has)
 
     -- what is found for the name of a promise under the next root
-    is-due : (command : Operation) (promised : SignedPromise) (latest epoch : ℕ) (text : List ℕ) (root : SignedRoot) (statement : Option (List ℕ)) → IsKept provider accepted verified key after command promised
+    is-due : (command : Operation) (promised : SignedPromise) (latest epoch : ℕ) (text : List ℕ) (root : SignedRoot) (statement : Option BoundKey) → IsKept provider accepted verified key after command promised
         → (s : SeenFound provider latest after promised.promise.name epoch text) → Alone provider promised.promise.name s.page.bindings → root.body.previous_epoch ≡ promised.promise.epoch
         → Accepts provider.hash accepted root.body promised.promise.name text statement → (statement ≡ Some promised.promise.key) × HasIndex provider.hash text promised.promise.index
     is-due command promised latest epoch text root statement k s alone behind accepts =
@@ -269,7 +270,7 @@ module _ (provider : Provider) where
 
     -- it is accepted under no root, for no name
     never-accepted : (latest : ℕ) (name : List ℕ) (epoch : ℕ) (text : List ℕ) → IsDouble provider accepted verified key after latest name epoch text
-        → (body : Body) (other : List ℕ) (statement : Option (List ℕ)) → Accepts provider.hash accepted body other text statement → ⊥
+        → (body : Body) (other : List ℕ) (statement : Option BoundKey) → Accepts provider.hash accepted body other text statement → ⊥
     never-accepted latest name epoch text d body other statement accepts =
         d.refused.fails ((accepts-passed provider.hash accepted body other text d.reply d.spelled statement accepts).1 SameIndex)
 

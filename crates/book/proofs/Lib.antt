@@ -11,6 +11,7 @@ pub mod Growing
 pub mod Honesty
 pub mod Joining
 pub mod Keeping
+pub mod Keys
 pub mod Members
 pub mod OneRoot
 pub mod PathEnds

@@ -4,6 +4,7 @@ use Rattle.std.specs.Bool.{⊤}
 use Rattle.std.specs.Prelude.{not, is_none, nat_le}
 use Rattle.std.specs.List.{AllByRecursion, AllZip}
 use Rattle.std.proofs.lemmas.List.{map-append}
+use Rattle.encoding.specs.declared.bound_key.BoundKey.{BoundKey}
 use Rattle.encoding.specs.Limits.{IsName, IsKeyData}
 use Rattle.rootchain.specs.declared.signed_promise.SignedPromise.{SignedPromise}
 use Rattle.rootchain.specs.declared.signed_root.SignedRoot.{SignedRoot}
@@ -13,7 +14,7 @@ use Rattle.book.specs.declared.reply.Reply.TheVariants as reply
 use Rattle.book.specs.declared.directory_refusal.Refusal.{Refusal}
 use Rattle.book.specs.declared.directory_refusal.Refusal.TheVariants.{BadName, NoSuchEpoch, EpochNotLater}
 use Rattle.book.specs.Steps.{Answer, has_length_within, Promised, Found, Told, refusal, page_range, with_pending, Answers, step}
-use Rattle.commands.specs.Operations.{Operation, IsCommand, Question, Query, Edit, Put, Promise, Lookup, History, Head, MayRead}
+use Rattle.commands.specs.Operations.{bound_key, Operation, IsCommand, Question, Query, Edit, Put, Promise, Lookup, History, Head, MayRead}
 use Rattle.commands.specs.Operations as ask
 use Rattle.book.specs.Books.{Binding, Book, Page, page_at, pages}
 use Rattle.book.specs.Honest.{latest_after, AreConsecutive, IsAskedBy, IsPromisedBy, IsSaid, IsSaidAt}
@@ -58,7 +59,7 @@ module _ (provider : Provider) where
   record IsPromisedIn (after : Book) (name : List ℕ) (binding : Binding) : Type 0 where
     pub holds : Holds provider after name binding.key after.last.epoch
     pub named : IsName name
-    pub keyed : IsKeyData binding.key
+    pub keyed : IsKeyData binding.key.value
 
   -- what a command's answer says of the book after it
   record Answered (book after : Book) (asked : Operation) (answer : Answer) : Type 0 where
@@ -72,7 +73,7 @@ module _ (provider : Provider) where
       let e = found-entry (λ entry. IsName entry.0 × IsBinding entry.1) book.pending name binding found sound.pending in
       record { holds = holds-now provider book name binding sound found; named = subst IsName e.2 e.1.0; keyed = subst IsBinding e.3 e.1.1 }
 
-  pends : (book : Book) (asked : Operation) (name key : List ℕ) → IsPromisedBy asked name key → IsSound book → IsName name → IsKeyData key → at book.pending name ≡ None
+  pends : (book : Book) (asked : Operation) (name : List ℕ) (key : BoundKey) → IsPromisedBy asked name key → IsSound book → IsName name → IsKeyData key.value → at book.pending name ≡ None
       → Answered book (with_pending book name key) asked (Promised name (record { key = key; salt = book.salt }))
   pends book asked name key by sound named keyed none = record {
     goes = goes;
@@ -143,8 +144,8 @@ module _ (provider : Provider) where
       subst (λ (b : Book). Answered book b (Query question) answer) (sym does.1) (queried book question answer sound are none (finds book question answer does.0))
   answered book after (Edit (Put verb name key)) answer sound are none does =
       let has = put_passed (index_of provider) book verb name key none in
-      subst (λ (b : Book). Answered book b (Edit (Put verb name key)) answer) (sym does.1) (subst (Answered book (with_pending book name key) (Edit (Put verb name key))) (sym does.0)
-      (pends book (Edit (Put verb name key)) name key (refl, refl) sound (is-name name has.named are.0) (is-key key has.keyed are.1) (not-there (at book.pending name) has.pending)))
+      subst (λ (b : Book). Answered book b (Edit (Put verb name key)) answer) (sym does.1) (subst (Answered book (with_pending book name (bound_key key)) (Edit (Put verb name key))) (sym does.0)
+      (pends book (Edit (Put verb name key)) name (bound_key key) (refl, refl) sound (is-name name has.named are.0) (is-key key.0 has.keyed are.1) (not-there (at book.pending name) has.pending)))
   answered book after (Edit (ask.Turn epoch nonce)) answer sound are none does =
       let one = passed (nat_le epoch book.last.epoch, EpochNotLater) [] none in
       subst (λ (b : Book). Answered book b (Edit (ask.Turn epoch nonce)) answer) (sym does.1) (record {
@@ -166,7 +167,7 @@ module _ (provider : Provider) where
     pub by : IsPromisedBy asked name binding.key
     pub holds : Holds provider after name binding.key root.body.epoch
     pub named : IsName name
-    pub keyed : IsKeyData binding.key
+    pub keyed : IsKeyData binding.key.value
 
   pub record SeenFound (latest : ℕ) (after : Book) (name : List ℕ) (epoch : ℕ) (text : List ℕ) : Type 0 where
     pub page : Page

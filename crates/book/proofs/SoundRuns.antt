@@ -2,12 +2,13 @@
 use Rattle.std.proofs.Common.{◌≡◌, ℕ, suc, List, [], Bool, true, false, Option, Some, None, All, IsSome, refl, sym, ap, subst, inl, inr, ◌⊎◌, ◌∙◌}
 use Rattle.std.specs.Prelude.{is_some, nat_le}
 use Rattle.std.specs.BTreeMap.{is_at}
+use Rattle.encoding.specs.declared.bound_key.BoundKey.{BoundKey}
 use Rattle.encoding.specs.Bytes.{bytes_cmp}
 use Rattle.book.specs.declared.directory_refusal.Refusal.TheVariants.{EpochNotLater}
 use Rattle.book.specs.declared.record.Record.{Record}
 use Rattle.book.specs.declared.reply.Reply.{Reply}
 use Rattle.book.specs.Steps.{Answer, refusal, with_pending}
-use Rattle.commands.specs.Operations.{Operation, IsCommand, Query, Edit, Put, Turn}
+use Rattle.commands.specs.Operations.{bound_key, Operation, IsCommand, Query, Edit, Put, Turn}
 use Rattle.book.specs.Books.{Binding, Book}
 use Rattle.encoding.specs.Maps.{Map, at, put_at}
 use Rattle.book.specs.Salts.{GivesSalts}
@@ -35,7 +36,7 @@ module _ (provider : Provider) where
     pub salts : GivesSalts book.left
 
   -- where a put leaves each name that is held with an index of its own, no other has the index of the one that was put
-  free : (book : Book) (name key : List ℕ) → IsApart provider (with_pending book name key) → (other : List ℕ) → HoldsName book other → index_of provider other ≡ index_of provider name → other ≡ name
+  free : (book : Book) (name : List ℕ) (key : BoundKey) → IsApart provider (with_pending book name key) → (other : List ℕ) → HoldsName book other → index_of provider other ≡ index_of provider name → other ≡ name
   free book name key apart other holds same = apart.now other name (held holds) (inr (binding, at_put_same name binding book.pending)) same
     where
       binding : Binding
@@ -53,10 +54,10 @@ module _ (provider : Provider) where
   sound-after book after (Query question) answer are stays none does = subst StaysSound (sym does.1) stays
   sound-after book after (Edit (Put verb name key)) answer are stays none does =
       let has = put_passed (index_of provider) book verb name key none in
-      let apart = apart-after provider book (with_pending book name key) (Edit (Put verb name key)) answer (begins-apart provider book stays.sound) none (does.0, refl) in
+      let apart = apart-after provider book (with_pending book name (bound_key key)) (Edit (Put verb name key)) answer (begins-apart provider book stays.sound) none (does.0, refl) in
       subst StaysSound (sym does.1) (record {
-        sound = sound_pending (index_of provider) book name key stays.sound (is-name name has.named are.0) (is-key key has.keyed are.1) (stays.salts 0)
-            (free book name key apart);
+        sound = sound_pending (index_of provider) book name (bound_key key) stays.sound (is-name name has.named are.0) (is-key key.0 has.keyed are.1) (stays.salts 0)
+            (free book name (bound_key key) apart);
         salts = λ count. stays.salts (suc count);
       })
   sound-after book after (Edit (Turn epoch nonce)) answer are stays none does =

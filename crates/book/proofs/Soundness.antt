@@ -7,6 +7,7 @@ use Rattle.std.proofs.lemmas.Bool.{leb-true, leb-false}
 use Rattle.std.proofs.lemmas.List.{get_or_append_left, get_or_push, length_push}
 use Rattle.std.proofs.lemmas.List.Elements.{All-from_recursion, All-push, All-weaker, recursion_from_All}
 use Rattle.rand_core.specs.Stream.{Stream, fill_bytes}
+use Rattle.encoding.specs.declared.bound_key.BoundKey.{BoundKey}
 use Rattle.encoding.specs.Bytes.{bytes_cmp, Is32Bytes}
 use Rattle.encoding.specs.Limits.{IsKeyData, IsName}
 use Rattle.rootchain.specs.Promises.{IsEpoch}
@@ -76,7 +77,7 @@ ascend-push earlier last page all above = pairs-push IsBefore (earlier ++ last �
 -- ---- bindings
 
 abbrev IsLimited : Binding → Type 0
-IsLimited binding = IsKeyData binding.key × Is32Bytes binding.salt
+IsLimited binding = IsKeyData binding.key.value × Is32Bytes binding.salt
 
 abbrev AreLimited : Map Binding → Type 0
 AreLimited = AllByRecursion (λ entry. IsName entry.0 × IsLimited entry.1)
@@ -156,7 +157,7 @@ module _ (index_of : List ℕ → List ℕ) where
       none name (inr has) = nobody has
 
   -- a binding waits, where no other name that is held has the index of this one
-  pub sound_pending : (book : Book) (name key : List ℕ) → IsSound index_of book → IsName name → IsKeyData key → Is32Bytes (fill_bytes 32 book.left).0
+  pub sound_pending : (book : Book) (name : List ℕ) (key : BoundKey) → IsSound index_of book → IsName name → IsKeyData key.value → Is32Bytes (fill_bytes 32 book.left).0
       → ((other : List ℕ) → HoldsName book other → index_of other ≡ index_of name → other ≡ name) → IsSound index_of (with_pending book name key)
   sound_pending book name key sound named keyed salted free = record {
     pages = sound.pages;

@@ -1,11 +1,12 @@
 -- What a step that answers is, command by command, and when a step refuses.
-use Rattle.std.proofs.Common.{◌≡◌, List, ℕ, [], ◌∷◌, false, Option, Some, None, not, refl, sym, ap, ◌∙◌}
+use Rattle.std.proofs.Common.{◌≡◌, List, ℕ, [], ◌∷◌, ◌++◌, Bool, false, Option, Some, None, not, refl, sym, ap, ◌∙◌}
 use Rattle.std.specs.Prelude.{is_none, is_some}
 use Rattle.book.specs.declared.directory_refusal.Refusal.{Refusal}
-use Rattle.book.specs.declared.directory_refusal.Refusal.TheVariants.{BadName, BadKey, PendingExists, NoSuchEpoch, NoPromise}
-use Rattle.book.specs.Steps.{Answer, Promised, Found, Told, Last, bad_index, bad_verb, has_length_within, next_page, refusal, page_range, with_page, with_pending, Outcome, Answers, Refuses, done, found_in, promise_outcome, read, step, unless_refused}
+use Rattle.book.specs.declared.directory_refusal.Refusal.TheVariants.{BadName, BadKey, FinalBinding, PendingExists, NoSuchEpoch, NoPromise}
+use Rattle.book.specs.Steps.{Answer, Promised, Found, Told, Last, bad_index, bad_policy, bad_verb, final_tests, first, is_final_binding, has_length_within, next_page, refusal, page_range, with_page, with_pending, Outcome, Answers, Refuses, done, found_in, promise_outcome, read, step, unless_refused}
 use Rattle.commands.specs.declared.edit.Verb.{Verb}
-use Rattle.commands.specs.Operations.{Operation, Question, Query, Edit, Put, Turn, Promise, Lookup, History, Head}
+use Rattle.commands.specs.declared.edit.Verb.TheVariants.{Register, Change}
+use Rattle.commands.specs.Operations.{bound_key, AskedKey, Operation, Question, Query, Edit, Put, Turn, Promise, Lookup, History, Head}
 use Rattle.book.specs.Books.{Binding, Book, Page, page_at}
 use Rattle.encoding.specs.Maps.{at}
 use Rattle.book.proofs.Turning.{passed, two-passed}
@@ -13,7 +14,7 @@ use Rattle.book.proofs.Turning.{passed, two-passed}
 -- what a book that does not refuse answers, and the book after it
 abbrev pub Does : Book → Operation → Answer → Book → Type 0
 Does book (Query question) answer after = (read book question ≡ Answers answer) × (after ≡ book)
-Does book (Edit (Put verb name key)) answer after = (answer ≡ Promised name (record { key = key; salt = book.salt })) × (after ≡ with_pending book name key)
+Does book (Edit (Put verb name key)) answer after = (answer ≡ Promised name (record { key = bound_key key; salt = book.salt })) × (after ≡ with_pending book name (bound_key key))
 Does book (Edit (Turn epoch nonce)) answer after = (answer ≡ Last (next_page book epoch nonce)) × (after ≡ with_page book (next_page book epoch nonce))
 
 -- what a query finds
@@ -76,6 +77,10 @@ there : {X : Type 0} (found : Option X) → is_none found ≡ false → (x : X) 
 there None e = absurd cc
 there (Some x) e = (x, refl)
 
+past_final : (verb : Verb) (found : Option Binding) (waits : Bool × Refusal) (last : List (Bool × Refusal)) → first ((final_tests verb found ++ waits ∷ []) ++ last) ≡ None → first (waits ∷ last) ≡ None
+past_final Register found waits last e = e
+past_final Change found waits last e = (passed (is_final_binding found, FinalBinding) (waits ∷ last) e).1
+
 module _ (index_of : List ℕ → List ℕ) where
   -- where nothing refuses, the step is what is done
   pub none_steps : (book : Book) (asked : Operation) → refusal index_of book asked ≡ None → step index_of book asked ≡ done book asked
@@ -99,20 +104,24 @@ module _ (index_of : List ℕ → List ℕ) where
       by (Some why) is f = absurd (never why answer book after f)
 
   -- what a put that is not refused has passed
-  pub record HasPassed (book : Book) (verb : Verb) (name key : List ℕ) : Type 0 where
+  pub record HasPassed (book : Book) (verb : Verb) (name : List ℕ) (key : AskedKey) : Type 0 where
     pub named : not (has_length_within 1 255 name) ≡ false
-    pub keyed : not (has_length_within 1 2048 key) ≡ false
+    pub keyed : not (has_length_within 1 2048 key.0) ≡ false
+    pub policy : (bad_policy key.1).0 ≡ false
     pub page : (bad_verb verb (at book.last.bindings name)).0 ≡ false
     pub pending : is_some (at book.pending name) ≡ false
     pub index : (bad_index index_of verb book name).0 ≡ false
 
-  pub put_passed : (book : Book) (verb : Verb) (name key : List ℕ) → refusal index_of book (Edit (Put verb name key)) ≡ None → HasPassed book verb name key
+  pub put_passed : (book : Book) (verb : Verb) (name : List ℕ) (key : AskedKey) → refusal index_of book (Edit (Put verb name key)) ≡ None → HasPassed book verb name key
   put_passed book verb name key none =
-      let late = (is_some (at book.pending name), PendingExists) ∷ bad_index index_of verb book name ∷ [] in
-      let one = two-passed (not (has_length_within 1 255 name)) (not (has_length_within 1 2048 key)) BadName BadKey (bad_verb verb (at book.last.bindings name) ∷ late) none in
-      let two = passed (bad_verb verb (at book.last.bindings name)) late one.2 in
-      let three = passed (is_some (at book.pending name), PendingExists) (bad_index index_of verb book name ∷ []) two.1 in
-      record { named = one.0; keyed = one.1; page = two.0; pending = three.0; index = (passed (bad_index index_of verb book name) [] three.1).0 }
+      let last = bad_index index_of verb book name ∷ [] in
+      let waits : Bool × Refusal = (is_some (at book.pending name), PendingExists) in
+      let shown = (final_tests verb (at book.last.bindings name) ++ waits ∷ []) ++ last in
+      let one = two-passed (not (has_length_within 1 255 name)) (not (has_length_within 1 2048 key.0)) BadName BadKey (bad_policy key.1 ∷ bad_verb verb (at book.last.bindings name) ∷ shown) none in
+      let two = passed (bad_policy key.1) (bad_verb verb (at book.last.bindings name) ∷ shown) one.2 in
+      let three = passed (bad_verb verb (at book.last.bindings name)) shown two.1 in
+      let four = passed waits last (past_final verb (at book.last.bindings name) waits last three.1) in
+      record { named = one.0; keyed = one.1; policy = two.0; page = three.0; pending = four.0; index = (passed (bad_index index_of verb book name) [] four.1).0 }
 
   -- what is not refused is answered
   pub answer_of : (book : Book) (asked : Operation) → refusal index_of book asked ≡ None → (answer : Answer) × ((done book asked).0 ≡ Answers answer)
@@ -124,7 +133,7 @@ module _ (index_of : List ℕ → List ℕ) where
       (Found t.0 name (at (t.0).bindings name), ap (found_in name) t.1)
   answer_of book (Query (History from count)) none = (Told (page_range book from count), refl)
   answer_of book (Query Head) none = (Last book.last, refl)
-  answer_of book (Edit (Put verb name key)) none = (Promised name (record { key = key; salt = book.salt }), refl)
+  answer_of book (Edit (Put verb name key)) none = (Promised name (record { key = bound_key key; salt = book.salt }), refl)
   answer_of book (Edit (Turn epoch nonce)) none = (Last (next_page book epoch nonce), refl)
 
   pub refused_due : (book : Book) (asked : Operation) (why : Refusal) → (step index_of book asked).0 ≡ Refuses why → refusal index_of book asked ≡ Some why

@@ -6,6 +6,7 @@ use Rattle.std.specs.List.{AllByRecursion, find}
 use Rattle.std.proofs.lemmas.Bool.{eqb-true, leb-true, leb-false, not-false}
 use Rattle.std.proofs.lemmas.List.{append-nil, append_assoc}
 use Rattle.std.proofs.lemmas.List.Elements.{Contains-append_left, Contains-push_cases}
+use Rattle.encoding.specs.declared.bound_key.BoundKey.{BoundKey}
 use Rattle.encoding.specs.Bytes.{bytes_cmp, Is32Bytes, IsBytes}
 use Rattle.encoding.specs.Limits.{IsWithin, IsName, IsKeyData}
 use Rattle.rootchain.specs.declared.signed_root.SignedRoot.{SignedRoot}
@@ -86,7 +87,7 @@ pub record IsSound (book : Book) : Type 0 where
   pub ascends : Ascends book.pending
   pub pending : AreBindings book.pending
 
-sound-pending : (book : Book) (name key : List ℕ) → IsSound book → IsName name → IsKeyData key → IsSound (with_pending book name key)
+sound-pending : (book : Book) (name : List ℕ) (key : BoundKey) → IsSound book → IsName name → IsKeyData key.value → IsSound (with_pending book name key)
 sound-pending book name key sound named keyed = record {
   climb = sound.climb;
   pages = sound.pages;
@@ -118,11 +119,11 @@ sound-page book epoch nonce sound fits sized later =
 
 module _ (provider : Provider) where
   -- the key waits for the next page under this name
-  abbrev pub Waits : Book → List ℕ → List ℕ → Type 0
+  abbrev pub Waits : Book → List ℕ → BoundKey → Type 0
   Waits book name key = (binding : Binding) × (at book.pending name ≡ Some binding) × (binding.key ≡ key)
 
   -- the page after that of this epoch has the key, or will have it
-  pub record Holds (book : Book) (name key : List ℕ) (epoch : ℕ) : Type 0 where
+  pub record Holds (book : Book) (name : List ℕ) (key : BoundKey) (epoch : ℕ) : Type 0 where
     pub next : (page : Page) (root : SignedRoot) → IsRootOf provider book page root → root.body.previous_epoch ≡ epoch → key_at page name ≡ Some key
     pub waits : ((book.last.epoch ≡ epoch) × Waits book name key) ⊎ (epoch < book.last.epoch)
 
@@ -156,7 +157,7 @@ module _ (provider : Provider) where
   pub record Goes (book after : Book) : Type 0 where
     pub more : List SignedPage
     pub grows : sealed_pages provider after ≡ sealed_pages provider book ++ more
-    pub holds : (name key : List ℕ) (epoch : ℕ) → Holds book name key epoch → Holds after name key epoch
+    pub holds : (name : List ℕ) (key : BoundKey) (epoch : ℕ) → Holds book name key epoch → Holds after name key epoch
     pub sound : IsSound after
 
   -- a root stays that of its page
@@ -174,7 +175,7 @@ module _ (provider : Provider) where
     sound = two.sound;
   }
 
-  pub goes-pending : (book : Book) (name key : List ℕ) → IsSound book → IsName name → IsKeyData key → at book.pending name ≡ None → Goes book (with_pending book name key)
+  pub goes-pending : (book : Book) (name : List ℕ) (key : BoundKey) → IsSound book → IsName name → IsKeyData key.value → at book.pending name ≡ None → Goes book (with_pending book name key)
   goes-pending book name key sound named keyed none = record {
     more = [];
     grows = sym (append-nil (sealed_pages provider book));
@@ -182,14 +183,14 @@ module _ (provider : Provider) where
     sound = sound-pending book name key sound named keyed;
   }
     where
-      other-waits : (other owned : List ℕ) → Waits book other owned → Waits (with_pending book name key) other owned
+      other-waits : (other : List ℕ) (owned : BoundKey) → Waits book other owned → Waits (with_pending book name key) other owned
       other-waits other owned waits = by (is_at (bytes_cmp name) other) refl
         where
           by : (t : Bool) → is_at (bytes_cmp name) other ≡ t → Waits (with_pending book name key) other owned
           by true is = let e : None ≡ Some waits.0 = sym none ∙ ap (at book.pending) (sym (is_name name other is)) ∙ waits.1 in absurd cc
           by false is = (waits.0, at_put_other name (record { key = key; salt = book.salt }) book.pending other (is_no_name name other is) ∙ waits.1, waits.2)
 
-      still : (other owned : List ℕ) (epoch : ℕ) → ((book.last.epoch ≡ epoch) × Waits book other owned) ⊎ (epoch < book.last.epoch)
+      still : (other : List ℕ) (owned : BoundKey) (epoch : ℕ) → ((book.last.epoch ≡ epoch) × Waits book other owned) ⊎ (epoch < book.last.epoch)
           → ((book.last.epoch ≡ epoch) × Waits (with_pending book name key) other owned) ⊎ (epoch < book.last.epoch)
       still other owned epoch (inl now) = inl (now.0, other-waits other owned now.1)
       still other owned epoch (inr before) = inr before
@@ -209,16 +210,16 @@ module _ (provider : Provider) where
           → IsRootOf provider book page root ⊎ (sealed_with (next_page book epoch nonce) next.root ≡ sealed_with page root)
       cases page root is = Contains-push_cases (sealed_pages provider book) _ _ (subst (λ (all : List SignedPage). Contains all (record { page = page; root = root })) next.is is)
 
-      before : (asked : ℕ) (name key : List ℕ) → ((book.last.epoch ≡ asked) × Waits book name key) ⊎ (asked < book.last.epoch) → asked < epoch
+      before : (asked : ℕ) (name : List ℕ) (key : BoundKey) → ((book.last.epoch ≡ asked) × Waits book name key) ⊎ (asked < book.last.epoch) → asked < epoch
       before asked name key (inl now) = omega (arith, now.0)
       before asked name key (inr earlier) = omega (arith, earlier)
 
-      waited : (asked : ℕ) (name key : List ℕ) → ((book.last.epoch ≡ asked) × Waits book name key) ⊎ (asked < book.last.epoch) → book.last.epoch ≡ asked → key_at (next_page book epoch nonce) name ≡ Some key
+      waited : (asked : ℕ) (name : List ℕ) (key : BoundKey) → ((book.last.epoch ≡ asked) × Waits book name key) ⊎ (asked < book.last.epoch) → book.last.epoch ≡ asked → key_at (next_page book epoch nonce) name ≡ Some key
       waited asked name key (inl now) same =
-          ap (option_map (λ (binding : Binding). binding.key)) (overwrites book.pending book.last.bindings name now.1.0 sound.ascends now.1.1) ∙ ap (λ (k : List ℕ). Some k) now.1.2
+          ap (option_map (λ (binding : Binding). binding.key)) (overwrites book.pending book.last.bindings name now.1.0 sound.ascends now.1.1) ∙ ap (λ (k : BoundKey). Some k) now.1.2
       waited asked name key (inr earlier) same = absurd (omega (arith, earlier, same))
 
-      kept : (name key : List ℕ) (asked : ℕ) → Holds book name key asked → (page : Page) (root : SignedRoot) → root.body.previous_epoch ≡ asked
+      kept : (name : List ℕ) (key : BoundKey) (asked : ℕ) → Holds book name key asked → (page : Page) (root : SignedRoot) → root.body.previous_epoch ≡ asked
           → IsRootOf provider book page root ⊎ (sealed_with (next_page book epoch nonce) next.root ≡ sealed_with page root) → key_at page name ≡ Some key
       kept name key asked held page root behind (inl old) = held.next page root old behind
       kept name key asked held page root behind (inr new) =

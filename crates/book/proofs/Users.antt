@@ -7,9 +7,10 @@ use Rattle.rootchain.specs.declared.signed_root.SignedRoot.{SignedRoot}
 use Rattle.book.specs.declared.record.Record.{Record}
 use Rattle.book.specs.declared.reply.Reply.{Reply}
 use Rattle.book.specs.Steps.{Answer, with_pending, next_page, with_page}
-use Rattle.commands.specs.Operations.{Operation, Query, Edit, Put, Turn}
+use Rattle.commands.specs.Operations.{bound_key, Operation, Query, Edit, Put, Turn}
 use Rattle.book.specs.Books.{Binding, Book, Page, pages}
 use Rattle.book.specs.Honest.{IsAbout, IsMentioned, IsSaid, UsersDiffer}
+use Rattle.encoding.specs.declared.bound_key.BoundKey.{BoundKey}
 use Rattle.encoding.specs.Maps.{Map}
 use Rattle.book.specs.Shows.{index_of, Provider, IsRootOf}
 use Rattle.book.specs.Turns.{Run}
@@ -29,7 +30,7 @@ pub record IsNamed (P : List ℕ → Type 0) (book : Book) : Type 0 where
   pub pending : AreNamed P book.pending
 
 module _ (P : List ℕ → Type 0) where
-  named-pending : (book : Book) (name key : List ℕ) → IsNamed P book → P name → IsNamed P (with_pending book name key)
+  named-pending : (book : Book) (name : List ℕ) (key : BoundKey) → IsNamed P book → P name → IsNamed P (with_pending book name key)
   named-pending book name key named here = record { pages = named.pages; pending = all_put name (record { key = key; salt = book.salt }) P (λ binding. ⊤) book.pending here tt named.pending }
 
   named-page : (book : Book) (epoch : ℕ) (nonce : Option (List ℕ)) → IsNamed P book → IsNamed P (with_page book (next_page book epoch nonce))
@@ -41,7 +42,7 @@ module _ (P : List ℕ → Type 0) where
 
   named-after : (book after : Book) (asked : Operation) (answer : Answer) → IsNamed P book → ((name : List ℕ) → IsAbout asked name → P name) → Does book asked answer after → IsNamed P after
   named-after book after (Query question) answer named about does = subst (IsNamed P) (sym does.1) named
-  named-after book after (Edit (Put verb name key)) answer named about does = subst (IsNamed P) (sym does.1) (named-pending book name key named (about name refl))
+  named-after book after (Edit (Put verb name key)) answer named about does = subst (IsNamed P) (sym does.1) (named-pending book name (bound_key key) named (about name refl))
   named-after book after (Edit (Turn epoch nonce)) answer named about does = subst (IsNamed P) (sym does.1) (named-page book epoch nonce named)
 
 pub said-asked : (commands : List Operation) (replies : List Reply) (asked : Operation) (said : Reply) → IsSaid commands replies asked said → Contains commands asked

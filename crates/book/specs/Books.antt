@@ -2,13 +2,15 @@
 -- the salts to come (CONIKS, sections 3 and 4).
 use Rattle.std.specs.Prelude.{ℕ, List, [], ◌∷◌, ◌++◌, ◌==◌, if◌then◌else◌, Option, Some, find}
 use Rattle.rand_core.specs.Stream.{Stream}
+use Rattle.encoding.specs.declared.bound_key.BoundKey.{BoundKey}
 use Rattle.encoding.specs.Maps.{Map}
 
--- the key that a name is bound to, and the salt of its commitment
+-- the key that a name is bound to, with its policy if it has one, and the salt of its commitment
 pub record Binding : Type 0 where
-  pub key : List ℕ
+  pub key : BoundKey
   pub salt : List ℕ
 
+-- the bindings of an epoch, and the nonce of their tree (CONIKS, section 3: snapshot of the directory at an epoch)
 pub record Page : Type 0 where
   pub epoch : ℕ
   pub nonce : List ℕ

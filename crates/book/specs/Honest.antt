@@ -1,6 +1,7 @@
 -- What an honest provider's users see of a run: one chain of roots, replies that are accepted and state
 -- what the pages have, promises that are kept, and nothing that is evidence (CONIKS, sections 3 and 4).
 use Rattle.std.specs.Prelude.{◌≡◌, ◌↔◌, ◌⊎◌, ◌==◌, ℕ, ◌<◌, if◌then◌else◌, List, [], ◌∷◌, ◌++◌, length, Option, Some, None, All, Contains, option_map, ⊤}
+use Rattle.encoding.specs.declared.bound_key.BoundKey.{BoundKey}
 use Rattle.rootchain.specs.Bodies.{body_bytes}
 use Rattle.rootchain.specs.Chains.{IsChain, IsHead, Links, Verifies}
 use Rattle.rootchain.specs.Promises.{promise_bytes, IsSignedPromise}
@@ -13,7 +14,7 @@ use Rattle.proofs.specs.Replies.{Reply as ReplyRead, SpellsReply}
 use Rattle.proofs.specs.declared.reply_refusal.Refusal.TheVariants.{SameIndex}
 use Rattle.book.specs.declared.reply.Reply.{Reply}
 use Rattle.book.specs.declared.reply.Reply.TheVariants as reply
-use Rattle.commands.specs.Operations.{Operation, Query, Edit, Put, Promise, Lookup}
+use Rattle.commands.specs.Operations.{bound_key, Operation, Query, Edit, Put, Promise, Lookup}
 use Rattle.book.specs.Books.{Binding, Book, Page}
 use Rattle.rootchain.specs.Evidence.{AreEvidence}
 use Rattle.proofs.specs.BrokenPromises.{IsBrokenPromise}
@@ -48,8 +49,8 @@ IsSaidAt now (asked ∷ more) [] latest command answered = ⊥
 IsSaidAt now (asked ∷ more) (said ∷ replies) latest command answered =
     ((now ≡ latest) × (asked ≡ command) × (said ≡ answered)) ⊎ IsSaidAt (latest_after now asked said) more replies latest command answered
 
--- the key that a page has at a name, if any
-abbrev pub key_at : Page → List ℕ → Option (List ℕ)
+-- the key that a page has at a name, with its policy if it has one; if any
+abbrev pub key_at : Page → List ℕ → Option BoundKey
 key_at page name = option_map (λ (binding : Binding). binding.key) (at page.bindings name)
 
 -- the reply tells this signed root
@@ -85,9 +86,9 @@ IsAbout command other = ⊥
 
 -- a promise that answers the command is for this name and key: the command's name, and its key where it
 -- brings one
-abbrev pub IsPromisedBy : Operation → List ℕ → List ℕ → Type 0
+abbrev pub IsPromisedBy : Operation → List ℕ → BoundKey → Type 0
 IsPromisedBy (Query (Promise name)) for bound = for ≡ name
-IsPromisedBy (Edit (Put verb name key)) for bound = (for ≡ name) × (bound ≡ key)
+IsPromisedBy (Edit (Put verb name key)) for bound = (for ≡ name) × (bound ≡ bound_key key)
 IsPromisedBy command for bound = ⊥
 
 -- the book holds the name, or a command is about it
@@ -109,7 +110,7 @@ module _ (provider : Provider) where
       pub root : SignedRoot
       pub is : IsRootOf provider after page root
       pub asked : IsAskedBy latest epoch page
-      pub states : (statement : Option (List ℕ)) → Accepts provider.hash accepted root.body name text statement ↔ (statement ≡ key_at page name)
+      pub states : (statement : Option BoundKey) → Accepts provider.hash accepted root.body name text statement ↔ (statement ≡ key_at page name)
       pub index : HasIndex provider.hash text (index_of provider name)
       pub watched : (watch : Watch) → Accepts provider.hash accepted root.body name text (expected watch page.epoch) ↔ (key_at page name ≡ expected watch page.epoch)
 
@@ -170,7 +171,7 @@ module _ (provider : Provider) where
       -- each promise is kept
       pub kept : (command : Operation) (promised : SignedPromise) → IsSaid commands replies command (reply.Promised promised) → IsKept accepted verified key after command promised
       -- what is found for its name under the next root states its key, at its index
-      pub due : (command : Operation) (promised : SignedPromise) (epoch : ℕ) (text : List ℕ) (root : SignedRoot) (statement : Option (List ℕ))
+      pub due : (command : Operation) (promised : SignedPromise) (epoch : ℕ) (text : List ℕ) (root : SignedRoot) (statement : Option BoundKey)
           → IsSaid commands replies command (reply.Promised promised) → IsSaid commands replies (Query (Lookup promised.promise.name epoch)) (reply.Found text)
           → root.body.previous_epoch ≡ promised.promise.epoch → Accepts provider.hash accepted root.body promised.promise.name text statement
           → (statement ≡ Some promised.promise.key) × HasIndex provider.hash text promised.promise.index

@@ -34,7 +34,7 @@ module _ (index_of : List ℕ → List ℕ) where
   abbrev pub replay_refusal : Book → Record → Option Refusal
   replay_refusal book kept = option_and_then (λ revision. refusal index_of (with_salt_of kept book) (Edit revision)) (kept_edit kept)
 
-  -- why a name and a key within their limits are not put to the book, if they are not
+  -- why a name and a key that are allowed are not put to the book, if they are not
   abbrev pub put_refusal : Book → Verb → List ℕ → Option Refusal
   put_refusal book verb name = first (put_tests index_of book verb name)
 

@@ -43,15 +43,17 @@ reply_end index found path.Empty = Empty
 reply_end index found (path.Other other commitment) = Other other commitment
 
 module _ (provider : Provider) where
+  -- the hash of the name's value (CONIKS, section 3: private index)
   abbrev pub index_of : List ℕ → List ℕ
   index_of name = provider.hash (provider.value name)
 
-  -- each name's index, and the commitment to its salt and key
+  -- each name's index, and the commitment to its salt and key, with its policy if it has one (CONIKS, section 3: leaf
+  -- nodes of the Merkle prefix tree)
   abbrev pub placement : Map Binding → Items
   placement bindings =
       put_all [] (map (λ entry. (index_of entry.0, provider.hash (commitment_bytes entry.1.salt entry.0 entry.1.key))) bindings)
 
-  -- the body of a page, behind that of this epoch and hash
+  -- the body of a page, behind that of this epoch and hash (CONIKS, section 3: what a signed tree root signs)
   abbrev pub body_behind : ℕ → List ℕ → Page → Body
   body_behind previous_epoch previous_hash page = record {
     epoch = page.epoch;
@@ -62,6 +64,7 @@ module _ (provider : Provider) where
     vuf_key = provider.vuf_key;
   }
 
+  -- the body with its signature (CONIKS, section 3: signed tree root, STR)
   abbrev pub signed : Body → SignedRoot
   signed body = record { body = body; signature = provider.sign (body_bytes body) }
 
@@ -73,11 +76,12 @@ module _ (provider : Provider) where
       record { page = page; root = signed (body_behind previous_epoch previous_hash page) }
       ∷ sealed_behind page.epoch (provider.hash (body_bytes (body_behind previous_epoch previous_hash page))) more
 
-  -- the pages of a book with their signed roots; before the first is none
+  -- the pages of a book with their signed roots; before the first is none (CONIKS, section 3: snapshots and their
+  -- signed tree roots)
   abbrev pub sealed_pages : Book → List SignedPage
   sealed_pages book = sealed_behind 0 (replicate 32 0) (pages book)
 
-  -- the signed roots of a book
+  -- the signed roots of a book (CONIKS, section 3: STR history)
   abbrev pub roots : Book → List SignedRoot
   roots book = map (λ (each : SignedPage). each.root) (sealed_pages book)
 
@@ -85,7 +89,8 @@ module _ (provider : Provider) where
   abbrev pub IsRootOf : Book → Page → SignedRoot → Type 0
   IsRootOf book page root = Contains (sealed_pages book) (record { page = page; root = root })
 
-  -- the promise, over this body, to bind the key to the name
+  -- the promise, over this body, to bind the key to the name, with its policy if it has one (CONIKS, section 4: what
+  -- a temporary binding signs)
   abbrev pub promise : Body → List ℕ → Binding → Promise
   promise body name binding = record {
     epoch = body.epoch;
@@ -95,10 +100,12 @@ module _ (provider : Provider) where
     key = binding.key;
   }
 
+  -- the promise with its signature (CONIKS, section 4: temporary binding)
   abbrev pub signed_promise : Promise → SignedPromise
   signed_promise made = record { promise = made; signature = provider.sign (promise_bytes made) }
 
-  -- the text is the reply under this body, with the page's path of the name, to what was found
+  -- the text is the reply under this body, with the page's path of the name, to what was found (CONIKS, section 3:
+  -- proof of inclusion or of absence)
   pub record IsReplyOf (page : Page) (body : Body) (name : List ℕ) (found : Option Binding) (text : List ℕ) : Type 0 where
     pub siblings : List (List ℕ)
     pub end : PathEnd

@@ -12,7 +12,7 @@ use Rattle.encoding.specs.Maps.{Map, at}
 -- a name and what is bound to it, within their limits
 pub record IsEntry (entry : List ℕ × Binding) : Type 0 where
   pub name : IsName entry.0
-  pub key : IsKeyData entry.1.key
+  pub key : IsKeyData entry.1.key.value
   pub salt : Is32Bytes entry.1.salt
 
 -- names ascend, so that none stands twice

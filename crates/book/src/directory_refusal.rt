@@ -13,11 +13,17 @@ pub enum Refusal {
     #[error("the key has no byte, or more than 2,048")]
     BadKey,
 
+    #[error("the policy is neither open nor final")]
+    BadPolicy,
+
     #[error("the latest page has the name")]
     NameTaken,
 
     #[error("the latest page lacks the name")]
     NoSuchName,
+
+    #[error("the binding of the name on the latest page is final")]
+    FinalBinding,
 
     #[error("an operation on the name waits for the next epoch")]
     PendingExists,
@@ -54,8 +60,10 @@ impl Refusal {
         match self {
             Refusal::BadName => 4,
             Refusal::BadKey => 5,
+            Refusal::BadPolicy => 26,
             Refusal::NameTaken => 6,
             Refusal::NoSuchName => 7,
+            Refusal::FinalBinding => 25,
             Refusal::PendingExists => 8,
             Refusal::IndexTaken => 9,
             Refusal::NoSuchEpoch => 10,

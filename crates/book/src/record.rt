@@ -1,5 +1,5 @@
 use commands::Verb;
-use encoding::{Hash32, KeyData, Name};
+use encoding::{BoundKey, Hash32, Name};
 
 /// What is kept of a directory: how it began, which the code that begins it keeps, and each accepted
 /// command, which the directory has kept before it makes the change.
@@ -12,12 +12,12 @@ pub enum Record {
         signing_key: Hash32,
         vuf_key: Hash32,
     },
-    /// A key that is put to a name, with the salt of the commitment.
+    /// A key that is put to a name, with its policy if it has one, and the salt of the commitment.
     Bound {
         verb: Verb,
         salt: Hash32,
         name: Name,
-        key: KeyData,
+        key: BoundKey,
     },
     /// A new page, of this epoch, and of this nonce, or of the last page's.
     Turned {

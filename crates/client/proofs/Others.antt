@@ -5,6 +5,7 @@ use Rattle.std.specs.List.Sorted.{IsStrictlySortedBy}
 use Rattle.std.specs.Map.{keys_of}
 use Rattle.std.proofs.lemmas.Bool.{cases_lt}
 use Rattle.std.proofs.lemmas.List.{append-nil}
+use Rattle.encoding.specs.declared.bound_key.BoundKey.{BoundKey}
 use Rattle.proofs.specs.Accepts.{stated}
 use Rattle.proofs.specs.Replies.{Reply, SpellsReply}
 use Rattle.client.specs.Agreements.{AllState, AllStateBelow, AreBeside, IsFirstOther, LookStates, SpellsOne}
@@ -39,10 +40,10 @@ module _ {X : Type 0} (bytes : X → List ℕ) where
     whole = λ n look at. let s = stored (λ p. p.number) look_of entries numbered n look at in (s.entry, s.in_entries, s.numbered_so, s.same);
   }
 
-  abbrev pub States : Option (List ℕ) → LookPlace × X → Type 0
+  abbrev pub States : Option BoundKey → LookPlace × X → Type 0
   States told e = (read : Reply) → SpellsReply (bytes e.1) read → stated read.end ≡ told
 
-  module _ (looks : List Look) (place : LookPlace) (told : Option (List ℕ)) (spelled : AllByRecursion (λ look. SpellsOne look.reply) looks) (entries : Entries X) (all : AreAll looks entries) where
+  module _ (looks : List Look) (place : LookPlace) (told : Option BoundKey) (spelled : AllByRecursion (λ look. SpellsOne look.reply) looks) (entries : Entries X) (all : AreAll looks entries) where
     pub spells : (e : LookPlace × X) → IsIn entries e → SpellsOne (bytes e.1)
     spells e is = spelled-at looks spelled e.0.number (look_of e) (all.seen e is)
 

@@ -2,6 +2,7 @@
 -- provider told them two things).
 use Rattle.std.specs.Prelude.{◌≡◌, ◌≢◌, ◌⊎◌, ℕ, ◌<◌, List, Option, Some, Contains, slice_get}
 use Rattle.nodehash.specs.Collisions.{IsCollision}
+use Rattle.encoding.specs.declared.bound_key.BoundKey.{BoundKey}
 use Rattle.rootchain.specs.Comparisons.{ChainsAgree, IsCompared}
 use Rattle.rootchain.specs.Evidence.{BothAre, IsRootEvidence}
 use Rattle.rootchain.specs.SignedRoots.{IsSignedRoot}
@@ -19,7 +20,7 @@ use Rattle.client.specs.declared.outcome.Outcome.TheVariants.{Agree, Evidence, C
 -- ---- looks
 
 -- what the reply of a look states of the name: a key, or none
-abbrev pub LookStates : Look → Option (List ℕ) → Type 0
+abbrev pub LookStates : Look → Option BoundKey → Type 0
 LookStates look statement = (reply : Reply) × SpellsReply look.reply reply × (stated reply.end ≡ statement)
 
 -- two looks for one name and epoch
@@ -28,9 +29,10 @@ AreOfOne look also = (look.name ≡ also.name) × (look.epoch ≡ also.epoch)
 
 -- both looks have one statement
 abbrev pub HaveOneStatement : Look → Look → Type 0
-HaveOneStatement look also = (statement : Option (List ℕ)) × LookStates look statement × LookStates also statement
+HaveOneStatement look also = (statement : Option BoundKey) × LookStates look statement × LookStates also statement
 
--- two looks for one name and epoch that do not have one statement
+-- two looks for one name and epoch that do not have one statement (CONIKS, section 4: what equivocation shows to two
+-- clients)
 abbrev pub AreUnlike : Look → Look → Type 0
 AreUnlike look also = AreOfOne look also × ¬ HaveOneStatement look also
 
@@ -119,7 +121,7 @@ SpellsOne bytes = (reply : Reply) × SpellsReply bytes reply
 abbrev pub AreBeside : LookPlace → LookPlace → Type 0
 AreBeside place other = (other.asked.name.items ≡ place.asked.name.items) × (other.asked.epoch ≡ place.asked.epoch)
 
-module _ (looks : List Look) (name : List ℕ) (epoch : ℕ) (statement : Option (List ℕ)) where
+module _ (looks : List Look) (name : List ℕ) (epoch : ℕ) (statement : Option BoundKey) where
   -- each look for the name and epoch states this
   abbrev pub AllState : Type 0
   AllState = (n : ℕ) (look : Look) → slice_get looks n ≡ Some look → look.name ≡ name → look.epoch ≡ epoch → LookStates look statement

@@ -31,7 +31,8 @@ pub record IsTested (promises : List SignedPromise) (name : List ℕ) (place : �
 
 module _ (hash : List ℕ → List ℕ) (accepted : List ℕ → List ℕ → List ℕ → Type 0) where
   module _ (signed : SignedPromise) (root : SignedRoot) (bytes : List ℕ) (reply : Reply) where
-    -- what an accepted reply under the next root shows of a promise
+    -- what an accepted reply under the next root shows of a promise (CONIKS, section 4: whether a temporary binding
+    -- was kept)
     abbrev pub IsTestedAs : Due → Type 0
     IsTestedAs OtherIndex = hash reply.value ≢ signed.promise.index
     IsTestedAs Kept = (hash reply.value ≡ signed.promise.index) × (stated reply.end ≡ Some signed.promise.key)

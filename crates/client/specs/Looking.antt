@@ -23,7 +23,8 @@ module _ (hash : List ℕ → List ℕ) (accepted : List ℕ → List ℕ → Li
   unfoldable pub IsAnswered : SignedRoot → Reply → Type 0
   IsAnswered root reply = IsLookRoot before.chain epoch root × IsAcceptedReply hash accepted root.body name bytes reply
 
-  -- The answer to a look and the client after it. Only a look that is accepted and kept changes the client.
+  -- The answer to a look and the client after it (CONIKS, section 4: key look-up). Only a look that is accepted and
+  -- kept changes the client.
   abbrev pub Looks : Result Statement Refusal → Client → Type 0
   Looks (Ok statement) after = (root : SignedRoot) × (reply : Reply) × IsAnswered root reply × (key_stated statement ≡ stated reply.end)
       × (after ≡ with_look before (record { name = name; epoch = root.body.epoch; reply = bytes }))
@@ -39,8 +40,8 @@ module _ (hash : List ℕ → List ℕ) (accepted : List ℕ → List ℕ → Li
   abbrev pub IsAnsweredNext : SignedRoot → Reply → Type 0
   IsAnsweredNext root reply = IsNextAfter before.chain passed root × IsAcceptedReply hash accepted root.body name bytes reply
 
-  -- The answer to a look at that root, with the epoch of the root, and the client after it. Only a look that is
-  -- accepted and kept changes the client.
+  -- The answer to a look at that root, with the epoch of the root, and the client after it (CONIKS, section 4: key
+  -- look-up). Only a look that is accepted and kept changes the client.
   abbrev pub LooksNext : Result (ℕ × Statement) Refusal → Client → Type 0
   LooksNext (Ok (epoch, statement)) after = (root : SignedRoot) × (reply : Reply) × IsAnsweredNext root reply × (epoch ≡ root.body.epoch) × (key_stated statement ≡ stated reply.end)
       × (after ≡ with_look before (record { name = name; epoch = root.body.epoch; reply = bytes }))

@@ -29,7 +29,7 @@ module _ (hash : List ℕ → List ℕ) (verified : List ℕ → List ℕ → Li
   ReadsPromise (Err Memory) = ⊥
   ReadsPromise (Err NoPromise) = ⊥
 
-  -- what comes of a promise that is to be kept, and the client after it
+  -- what comes of a promise that is to be kept, and the client after it (CONIKS, section 4: temporary binding)
   abbrev pub KeepsPromise : {A : Type 0} → Result A Refusal → Client → Type 0
   KeepsPromise (Ok _) after = (signed : SignedPromise) × IsGiven signed × (after ≡ with_promise before signed)
   KeepsPromise (Err Memory) after = ((signed : SignedPromise) × IsGiven signed) × (after ≡ before)

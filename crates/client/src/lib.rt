@@ -9,7 +9,7 @@
 //! ```text
 //! let mut client: Client<Sha256Hash, KeyedVuf, KeyedSign> = Client::start(alloc, &verifier, key, first)?;
 //! client.update(&mut hash, &verifier, roots)?;
-//! if let Statement::Present(key) = client.look(&mut hash, &vuf, &name, 0, reply)? {
+//! if let Statement::Present(key, policy) = client.look(&mut hash, &vuf, &name, 0, reply)? {
 //!     // The provider states that the name is bound to this key, in the epoch of the head.
 //! }
 //! ```

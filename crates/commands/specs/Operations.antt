@@ -1,6 +1,8 @@
 -- What is asked of a directory, regardless of where its bytes lie, and what it may hold.
-use Rattle.std.specs.Prelude.{ℕ, ◌^◌, ◌<◌, List, Option, IfSome, ⊤}
+use Rattle.std.specs.Prelude.{ℕ, ◌^◌, ◌<◌, List, Option, IfSome, option_and_then, option_map, ⊤}
 use Rattle.encoding.specs.Bytes.{Is32Bytes, IsBytes}
+use Rattle.encoding.specs.Policies.{policy_byte, policy_of}
+use Rattle.encoding.specs.declared.bound_key.BoundKey.{BoundKey}
 use Rattle.commands.specs.declared.command.Command.{Command}
 use Rattle.commands.specs.declared.command.Command.TheVariants as command
 use Rattle.commands.specs.declared.edit.Edit.{Edit as EditMade}
@@ -16,10 +18,22 @@ pub data Question : Type 0 where
   History : ℕ → ℕ → Question
   Head : Question
 
+-- a key that is asked for, with the byte of a policy, if there is one; whether it is allowed is the directory's answer
+abbrev pub AskedKey : Type 0
+AskedKey = List ℕ × Option ℕ
+
+-- the key that is bound where this one is asked for
+abbrev pub bound_key : AskedKey → BoundKey
+bound_key key = record { value = key.0; policy = option_and_then policy_of key.1 }
+
+-- the key that is asked for where this one is bound
+abbrev pub asked_key : BoundKey → AskedKey
+asked_key key = (key.value, option_map policy_byte key.policy)
+
 -- what is to be changed: a key is put to a name; or a new page is begun, under this nonce, or under the last
 -- page's
 pub data Revision : Type 0 where
-  Put : Verb → List ℕ → List ℕ → Revision
+  Put : Verb → List ℕ → AskedKey → Revision
   Turn : ℕ → Option (List ℕ) → Revision
 
 pub data Operation : Type 0 where
@@ -35,7 +49,7 @@ question query.Head = Head
 
 -- what an edit asks
 abbrev pub revision : EditMade → Revision
-revision (edit.Put put) = Put put.verb put.name.now put.key.now
+revision (edit.Put put) = Put put.verb put.name.now (put.key.now, put.policy)
 revision (edit.Turn epoch nonce) = Turn epoch nonce
 
 -- what a command asks
@@ -52,7 +66,7 @@ MayRead Head = ⊤
 
 -- names and keys are bytes, of any length, the epoch of a new page fits in eight bytes, and its nonce has 32
 abbrev pub MayChange : Revision → Type 0
-MayChange (Put verb name key) = IsBytes name × IsBytes key
+MayChange (Put verb name key) = IsBytes name × IsBytes key.0
 MayChange (Turn epoch nonce) = (epoch < 2 ^ 64) × IfSome nonce Is32Bytes
 
 -- what a run shows rests on nothing more: a query may have any numbers

@@ -9,13 +9,15 @@ pub enum Verb {
     Change,
 }
 
-/// A key that is put to a name, from the next epoch on. Both may have any length; the directory tells
-/// whether it allows them.
+/// A key that is put to a name, from the next epoch on. Both may have any length, and the policy may be
+/// any byte; the directory tells whether it allows them.
 #[derive(Clone, Copy, Debug)]
 pub struct Put<'a> {
     pub verb: Verb,
     pub name: &'a [u8],
     pub key: &'a [u8],
+    /// The byte of the binding's policy, which one of version 1 does not have.
+    pub policy: Option<u8>,
 }
 
 /// A change of a directory.

@@ -1,12 +1,12 @@
-//! The commitment to a user's key, which covers the name too: a digest over a random salt, the name
-//! and the key. After CONIKS, section 3; the bytes are this directory's own.
+//! The commitment to a user's key, which covers the name too: a digest over a random salt, the name,
+//! the key and, if there is one, its policy. After CONIKS, section 3; the bytes are this directory's own.
 //!
-//! Callers can rely on this: a commitment is the digest of exactly the text of its salt, name and
-//! key, and equal texts have equal salt, name and key.
+//! Callers can rely on this: a commitment is the digest of exactly the text of its salt, name, key and
+//! policy, and equal texts have equal salt, name, key and policy.
 //!
 //! ```
 //! let name = Name::new(b"alice")?;
-//! let key = KeyData::new(b"k1")?;
+//! let key = BoundKey { value: KeyData::new(b"k1")?, policy: Some(Policy::Final) };
 //! let mut hash = Sha256Hash::new();
 //! let commitment = commit(&mut hash, &salt, &name, &key);
 //! ```

@@ -102,9 +102,9 @@ listen_app =
     (flag_rule (codes "until-eof"))) (positional_rule (codes "address"))
 
 abbrev pub ask_app : App
-ask_app = with_rule (with_rule (with_rule (with_rule (with_rule (with_rule (with_rule (with_rule (with_rule (with_rule (new_app (codes "ask"))
+ask_app = with_rule (with_rule (with_rule (with_rule (with_rule (with_rule (with_rule (with_rule (with_rule (with_rule (with_rule (new_app (codes "ask"))
     (text_rule (codes "provider"))) (text_rule (codes "token"))) (text_rule (codes "keys"))) (text_rule (codes "state"))) (flag_rule (codes "text"))) (optional_rule (codes "after") 0 greatest))
-    (positional_rule (codes "address"))) (word_rule (codes "command"))) (word_rule (codes "first"))) (word_rule (codes "second"))
+    (positional_rule (codes "address"))) (word_rule (codes "command"))) (word_rule (codes "first"))) (word_rule (codes "second"))) (word_rule (codes "third"))
 
 -- the program without its subcommands, of which one has to be there; it has a version
 abbrev pub bare_app : App

@@ -107,7 +107,7 @@ asking_in rows = record {
   token = first_of (codes "token") rows;
   state = first_of (codes "state") rows;
   address = text_in (codes "address") rows;
-  words = first_of (codes "command") rows ∷ first_of (codes "first") rows ∷ first_of (codes "second") rows ∷ [];
+  words = first_of (codes "command") rows ∷ first_of (codes "first") rows ∷ first_of (codes "second") rows ∷ first_of (codes "third") rows ∷ [];
   after = after_in rows;
 }
 

@@ -98,7 +98,7 @@ no_command = codes "error: '--text' is for a COMMAND of the words; names in the 
 
 -- the line about a last epoch of words that have none
 abbrev pub no_last : List ℕ
-no_last = codes "error: '--after' is for the COMMAND 'watch' or 'head' of the words\n"
+no_last = codes "error: '--after' is for the COMMAND 'watch', 'watch2' or 'head' of the words\n"
 
 -- the line about options that the words have no use for, if there are some
 abbrev pub wrong_line : AskOptions → AskTextValues → Option (List ℕ)

@@ -8,8 +8,9 @@ use Rattle.runs.specs.AskOptions.{AskOptions}
 -- whether the first word behind this command is a name
 abbrev pub takes_name : Text → Bool
 takes_name command =
-    ((((bytes_eq command (codes "register") || bytes_eq command (codes "change")) || bytes_eq command (codes "promise"))
-    || bytes_eq command (codes "lookup")) || bytes_eq command (codes "watch")) || bytes_eq command (codes "settle")
+    (((((((bytes_eq command (codes "register") || bytes_eq command (codes "change")) || bytes_eq command (codes "register2")) || bytes_eq command (codes "change2"))
+    || bytes_eq command (codes "promise")) || bytes_eq command (codes "lookup")) || bytes_eq command (codes "watch")) || bytes_eq command (codes "watch2"))
+    || bytes_eq command (codes "settle")
 
 -- the hexadecimal digits of the name among the words, if there is one
 abbrev pub name_digits : List (Option Text) → Option Text
@@ -27,7 +28,7 @@ texted is_text asked = record asked { words = with_digits (if is_text then name_
 
 -- the words ask what has a last epoch
 abbrev pub has_last : List (Option Text) → Bool
-has_last (Some command ∷ more) = bytes_eq command (codes "watch") || bytes_eq command (codes "head")
+has_last (Some command ∷ more) = (bytes_eq command (codes "watch") || bytes_eq command (codes "watch2")) || bytes_eq command (codes "head")
 has_last _ = false
 
 -- the lines of the input are asked

@@ -292,6 +292,7 @@ pub(crate) fn ask_with<'a>(order: AskOrder<'a>, file: &'a str) -> AskOrder<'a>
         command: order.command,
         first: order.first,
         second: order.second,
+        third: order.third,
         after: order.after,
     }
 }

@@ -12,9 +12,12 @@ fn takes_name(command: &str) -> bool
 {
     command == "register"
         || command == "change"
+        || command == "register2"
+        || command == "change2"
         || command == "promise"
         || command == "lookup"
         || command == "watch"
+        || command == "watch2"
         || command == "settle"
 }
 

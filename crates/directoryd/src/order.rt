@@ -24,7 +24,7 @@ use std::alloc::{AllocError, Global};
 use std::convert::AsStr;
 use std::num::NonZeroU64;
 pub use subcommands::{AskTexts, Order};
-use tables::{Argument, Kind, SUBCOMMANDS, Subcommand};
+use tables::{Argument, Kind, SUBCOMMANDS, Subcommand, help_below};
 
 /// What `--version` prints behind the program's name: its version, and the kit that it was last proved with.
 static VERSION: &str = "\
@@ -95,7 +95,7 @@ fn subcommand<'a>(
 {
     let mut command = Command::new(alloc, row.name)
         .about(row.about)
-        .after_help(row.after_help);
+        .after_help(help_below(row.name));
     for taken in row.arguments {
         command = command.arg(argument(alloc, taken, names))?;
     }
@@ -232,6 +232,7 @@ fn ask_order<'a>(found: &ArgMatches<'a>) -> AskOrder<'a>
         command: found.get_str("command"),
         first: found.get_str("first"),
         second: found.get_str("second"),
+        third: found.get_str("third"),
         after: after(found),
     }
 }

@@ -29,7 +29,8 @@ static NO_COMMAND: &[u8] =
     b"error: '--text' is for a COMMAND of the words; names in the lines of the input are hexadecimal digits\n";
 
 /// The line about a last epoch of words that have none.
-static NO_LAST: &[u8] = b"error: '--after' is for the COMMAND 'watch' or 'head' of the words\n";
+static NO_LAST: &[u8] =
+    b"error: '--after' is for the COMMAND 'watch', 'watch2' or 'head' of the words\n";
 
 /// Writes a text whole, and returns this status.
 fn print<W: Write>(writer: &mut W, text: &[u8], status: u8) -> Result<u8, ProgramFault>
@@ -94,7 +95,7 @@ fn has_last(command: Option<&str>) -> bool
     ensures { (more : List (Option Text)) → result ≡ has_last (option_map (λ text. text.now) command.entry ∷ more) }
 {
     match command {
-        Some(command) => command == "watch" || command == "head",
+        Some(command) => command == "watch" || command == "watch2" || command == "head",
         None => false,
     }
 }

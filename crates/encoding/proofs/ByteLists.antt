@@ -11,6 +11,9 @@ pub IsBytes-cons : (x : ℕ) (xs : List ℕ) → x < 256 → IsBytes xs → IsBy
 IsBytes-cons x xs h bytes zero = h
 IsBytes-cons x xs h bytes (suc k) = bytes k
 
+pub IsBytes-one : (x : ℕ) → x < 256 → IsBytes (x ∷ [])
+IsBytes-one x first = IsBytes-cons x [] first IsBytes-none
+
 pub IsBytes-two : (x y : ℕ) → x < 256 → y < 256 → IsBytes (x ∷ y ∷ [])
 IsBytes-two x y first second = IsBytes-cons x (y ∷ []) first (IsBytes-cons y [] second IsBytes-none)
 

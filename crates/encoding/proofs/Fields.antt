@@ -1,8 +1,9 @@
 -- Readers of forms read spellings alone, and each of them, whatever follows. One lemma for each reader,
 -- and one for each way to make a reader of others (FieldsOf has these with fewer arguments to write).
-use Rattle.std.proofs.Common.{◌≡◌, ◌≢◌, ℕ, zero, suc, ◌^◌, ◌<◌, ◌⊎◌, ◌≤◌, Bool, true, false, cond, ltb, leb, List, [], ◌∷◌, ◌++◌, length, take, drop, flat_map, Result, Ok, Err, refl, sym, ap, subst, ◌∙◌, append_assoc, arith, inl, inr}
+use Rattle.std.proofs.Common.{◌≡◌, ◌≢◌, ℕ, zero, suc, ◌^◌, ◌<◌, ◌⊎◌, ◌≤◌, Bool, true, false, cond, ltb, leb, Option, Some, None, List, [], ◌∷◌, ◌++◌, length, take, drop, flat_map, Result, Ok, Err, refl, sym, ap, subst, ◌∙◌, append_assoc, arith, inl, inr}
+use Rattle.std.specs.Prelude.{⊤}
 use Rattle.std.specs.List.{AllByRecursion}
-use Rattle.std.proofs.lemmas.Bool.{and_parts, ltb-false, le-ltb, leb-true, le-leb}
+use Rattle.std.proofs.lemmas.Bool.{and_parts, ltb-false, le-ltb, leb-true, le-leb, ne_eqb}
 use Rattle.std.proofs.lemmas.List.{append-nil, take_at, drop_at, take-append-drop, length-append, length-take}
 use Rattle.std.specs.Str.{bytes_eq}
 use Rattle.std.proofs.lemmas.Cmp.{nat_list_eq_equiv}
@@ -11,12 +12,15 @@ use Rattle.byteorder.specs.Endian.{big_bytes, big_number}
 use Rattle.byteorder.specs.Numbers.{big_from-lt, length-bytes_high_first}
 use Rattle.encoding.specs.declared.fault.Fault.{Fault}
 use Rattle.encoding.specs.declared.fault.Fault.TheVariants.{Short, Trailing, OutOfRange}
+use Rattle.encoding.specs.declared.policy.Policy.{Policy}
+use Rattle.encoding.specs.declared.policy.Policy.TheVariants.{Open, Final}
 use Rattle.encoding.specs.Bytes.{IsBytes, HasBytes}
-use Rattle.encoding.specs.Reading.{Gives, Reading, ◌>>=◌, is_within, read_bytes, read_byte, read_number, read_counted, read_both, read_as, read_nothing, read_then, read_where, read_behind, read_list, whole_of}
+use Rattle.encoding.specs.Reading.{Gives, Reading, ◌>>=◌, is_within, read_bytes, read_byte, read_number, read_counted, read_both, read_as, read_nothing, read_then, read_where, read_behind, read_either, read_policy, read_policy_if, read_version, read_list, whole_of}
 use Rattle.encoding.specs.Forms.{counted_bytes}
 use Rattle.encoding.specs.Limits.{IsWithin}
-use Rattle.encoding.specs.Fields.{Reads, IsField, Spells, BytesAreField, ByteIsField, NumbersAreFields, CountedAreFields}
-use Rattle.encoding.proofs.ByteLists.{IsBytes-back, IsBytes-take, IsBytes-bytes_high_first}
+use Rattle.encoding.specs.Fields.{Reads, IsField, Spells, BytesAreField, ByteIsField, NumbersAreFields, CountedAreFields, PolicyIsField}
+use Rattle.encoding.specs.Policies.{has_policy, policy_byte, policy_bytes, version}
+use Rattle.encoding.proofs.ByteLists.{IsBytes-one, IsBytes-back, IsBytes-take, IsBytes-bytes_high_first}
 use Rattle.encoding.proofs.NumberBytes.{number-of_bytes, bytes-of_number}
 
 -- ---- what was read
@@ -221,6 +225,58 @@ counted_field least most fits =
     (then_field length (read_where (is_within least most) (read_number 2)) read_bytes (big_bytes 2) (λ x. x) (λ n. (n < 256 ^ 2) × (is_within least most n ≡ true)) IsBytes
     (tested_field (is_within least most) (read_number 2) (big_bytes 2) (λ n. n < 256 ^ 2) (numbers_field 2))
     (λ k _. allowed_field (read_bytes k) (λ x. x) (HasBytes k) (λ x. IsBytes x × (length x ≡ k)) (λ x h. (h.1, h.0)) (λ x h. (h.1, h.0)) (bytes_field k)))
+
+-- ---- policies
+
+either_field : {A : Type 0} (first second : A) (number : A → ℕ) → number first ≡ 1 → number second ≡ 2 → ((x : A) (rest : List ℕ) → read_either first second (number x ∷ rest) ≡ Ok (x, rest))
+    → IsField (read_either first second) (λ x. number x ∷ []) (λ _. ⊤)
+either_field {A} first second number one two again = record { spelled = spelled; again = λ x rest h. again x rest }
+  where
+    spelled : (bytes : List ℕ) (z : A × List ℕ) → IsBytes bytes → read_either first second bytes ≡ Ok z → (bytes ≡ (number z.0 ∷ []) ++ z.1) × ⊤
+    spelled [] z small e = absurd cc
+    spelled (zero ∷ rest) z small e = absurd cc
+    spelled (suc zero ∷ rest) z small e = subst (λ (w : A × List ℕ). (1 ∷ rest ≡ (number w.0 ∷ []) ++ w.1) × ⊤) (ok_is (first, rest) z e) (rw one refl, tt)
+    spelled (suc (suc zero) ∷ rest) z small e = subst (λ (w : A × List ℕ). (2 ∷ rest ≡ (number w.0 ∷ []) ++ w.1) × ⊤) (ok_is (second, rest) z e) (rw two refl, tt)
+    spelled (suc (suc (suc n)) ∷ rest) z small e = absurd (refused_read OutOfRange z (sym unknown ∙ e))
+      where
+        unknown : read_either first second (suc (suc (suc n)) ∷ rest) ≡ Err OutOfRange
+        unknown = rw (ne_eqb (suc (suc (suc n))) 1 (λ same. omega (arith, same)), ne_eqb (suc (suc (suc n))) 2 (λ same. omega (arith, same))) refl
+
+pub policy_field : PolicyIsField
+policy_field = either_field Open Final policy_byte refl refl again
+  where
+    again : (policy : Policy) (rest : List ℕ) → read_policy (policy_byte policy ∷ rest) ≡ Ok (policy, rest)
+    again Open rest = refl
+    again Final rest = refl
+
+pub policy_if_field : (has : Bool) → IsField (read_policy_if has) policy_bytes (λ policy. has_policy policy ≡ has)
+policy_if_field false = record { spelled = λ bytes z small e. subst (λ (w : Option Policy × List ℕ). (bytes ≡ policy_bytes w.0 ++ w.1) × (has_policy w.0 ≡ false)) (ok_is (None, bytes) z e) (refl, refl); again = again }
+  where
+    again : (policy : Option Policy) (rest : List ℕ) → has_policy policy ≡ false → read_policy_if false (policy_bytes policy ++ rest) ≡ Ok (policy, rest)
+    again None rest h = refl
+    again (Some policy) rest h = absurd cc
+policy_if_field true =
+    record {
+      spelled = λ bytes z small e.
+          let u = bind_ok (read_policy bytes) (λ x. Ok (Some x.0, x.1)) z e in
+          let one = policy_field.spelled bytes u.0 small u.1 in
+          subst (λ (w : Option Policy × List ℕ). (bytes ≡ policy_bytes w.0 ++ w.1) × (has_policy w.0 ≡ true)) (ok_is (Some u.0.0, u.0.1) z u.2) (one.0, refl);
+      again = again;
+    }
+  where
+    again : (policy : Option Policy) (rest : List ℕ) → has_policy policy ≡ true → read_policy_if true (policy_bytes policy ++ rest) ≡ Ok (policy, rest)
+    again None rest h = absurd cc
+    again (Some policy) rest h = rw (policy_field.again policy rest tt) refl
+
+-- a kind and a version
+pub version_field : (kind : ℕ) → kind < 256 → IsField (read_version kind) (λ has. kind ∷ version has ∷ []) (λ _. ⊤)
+version_field kind small =
+    behind_field (kind ∷ []) (read_either false true) (λ has. version has ∷ []) (λ _. ⊤) (IsBytes-one kind small)
+    (either_field false true version refl refl again)
+  where
+    again : (has : Bool) (rest : List ℕ) → read_either false true (version has ∷ rest) ≡ Ok (has, rest)
+    again false rest = refl
+    again true rest = refl
 
 -- ---- whole bytes
 

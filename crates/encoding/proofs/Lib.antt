@@ -5,5 +5,6 @@ pub mod ByteLists
 pub mod Fields
 pub mod FieldsOf
 pub mod NumberBytes
+pub mod Policies
 pub mod Prefixes
 pub mod Sides

@@ -1,12 +1,13 @@
 -- What it means that a reader reads exactly a form: it reads only spellings, and it reads each of
 -- them, whatever follows. So each value has one spelling, and no spelling begins another.
-use Rattle.std.specs.Prelude.{◌≡◌, ℕ, ◌^◌, ◌<◌, List, [], ◌∷◌, ◌++◌, Result, Ok, Err}
+use Rattle.std.specs.Prelude.{◌≡◌, ℕ, ◌^◌, ◌<◌, List, [], ◌∷◌, ◌++◌, Result, Ok, Err, ⊤}
 use Rattle.byteorder.specs.Endian.{big_bytes}
 use Rattle.encoding.specs.declared.fault.Fault.{Fault}
 use Rattle.encoding.specs.Bytes.{IsBytes, HasBytes}
 use Rattle.encoding.specs.Forms.{counted_bytes}
 use Rattle.encoding.specs.Limits.{IsWithin}
-use Rattle.encoding.specs.Reading.{Reading, read_bytes, read_byte, read_number, read_counted}
+use Rattle.encoding.specs.Policies.{policy_byte}
+use Rattle.encoding.specs.Reading.{Reading, read_bytes, read_byte, read_number, read_counted, read_policy}
 
 -- read reads exactly the values that are Allowed, spelled so
 pub record IsField {A : Type 0} (read : List ℕ → Reading A) (spelling : A → List ℕ) (Allowed : A → Type 0) : Type 0 where
@@ -44,3 +45,6 @@ NumbersAreFields = (count : ℕ) → IsField (read_number count) (big_bytes coun
 
 abbrev pub CountedAreFields : Type 0
 CountedAreFields = (least most : ℕ) → most < 2 ^ 16 → IsField (read_counted least most) counted_bytes (IsWithin least most)
+
+abbrev pub PolicyIsField : Type 0
+PolicyIsField = IsField read_policy (λ policy. policy_byte policy ∷ []) (λ _. ⊤)

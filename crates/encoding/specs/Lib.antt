@@ -6,5 +6,6 @@ pub mod Fields
 pub mod Forms
 pub mod Limits
 pub mod Maps
+pub mod Policies
 pub mod Reading
 pub use Rattle.byteorder.specs.Endian

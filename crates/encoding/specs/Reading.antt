@@ -1,10 +1,12 @@
 -- Reading from the front of bytes, up to the first fault. A reader gives a value with the bytes that
 -- are left, or the fault. Readers of forms are made of these.
-use Rattle.std.specs.Prelude.{◌≡◌, ℕ, zero, suc, ◌&&◌, Bool, List, [], ◌∷◌, length, take, drop, Result, Ok, Err, nat_lt, nat_le, if◌then◌else◌}
+use Rattle.std.specs.Prelude.{◌≡◌, ℕ, zero, suc, ◌==◌, ◌&&◌, Bool, true, false, List, [], ◌∷◌, length, take, drop, Option, Some, None, Result, Ok, Err, nat_lt, nat_le, if◌then◌else◌}
 use Rattle.std.specs.Str.{bytes_eq}
 use Rattle.byteorder.specs.Endian.{big_number}
 use Rattle.encoding.specs.declared.fault.Fault.{Fault}
 use Rattle.encoding.specs.declared.fault.Fault.TheVariants.{Short, Trailing, OutOfRange}
+use Rattle.encoding.specs.declared.policy.Policy.{Policy}
+use Rattle.encoding.specs.declared.policy.Policy.TheVariants.{Open, Final}
 
 -- a value and the bytes that are left, or the fault
 abbrev pub Reading : Type 0 → Type 0
@@ -60,6 +62,22 @@ is_within least most n = nat_le least n && nat_le n most
 -- bytes behind their number in two bytes, where that is within these limits
 unfoldable pub read_counted : ℕ → ℕ → List ℕ → Reading (List ℕ)
 read_counted least most bytes = read_then (read_where (is_within least most) (read_number 2)) read_bytes bytes
+
+-- one of two values, the first as the byte 1 and the second as the byte 2
+abbrev pub read_either : {A : Type 0} → A → A → List ℕ → Reading A
+read_either first second bytes = read_byte bytes >>= λ x. if x.0 == 1 then Ok (first, x.1) else (if x.0 == 2 then Ok (second, x.1) else Err OutOfRange)
+
+abbrev pub read_policy : List ℕ → Reading Policy
+read_policy = read_either Open Final
+
+-- a policy, or no byte where there is none
+abbrev pub read_policy_if : Bool → List ℕ → Reading (Option Policy)
+read_policy_if false = read_nothing None
+read_policy_if true = read_as Some read_policy
+
+-- the version behind this kind: whether there is a policy
+abbrev pub read_version : ℕ → List ℕ → Reading Bool
+read_version kind = read_behind (kind ∷ []) (read_either false true)
 
 -- so many values
 abbrev pub read_list : {A : Type 0} → (List ℕ → Reading A) → ℕ → List ℕ → Reading (List A)

@@ -4,9 +4,9 @@ ghost use Rattle.encoding.specs.Bytes.{HasBytes, IsBytes, Is32Bytes};
 ghost use Rattle.encoding.specs.Forms.{counted_bytes};
 ghost use Rattle.encoding.specs.Limits.{IsBounded, IsWithin};
 ghost use Rattle.encoding.specs.Fields.{Reads};
-ghost use Rattle.encoding.specs.Reading.{Gives, read_bytes, read_byte, read_number, read_counted};
+ghost use Rattle.encoding.specs.Reading.{Gives, read_bytes, read_byte, read_number, read_counted, read_policy, read_policy_if, read_version};
 
-use crate::{Bounded, Fault, Hash32, MIN_LEN};
+use crate::{Bounded, Fault, Hash32, MIN_LEN, Policy};
 use byteorder::{BigEndian, ByteOrder};
 use std::marker::Model;
 
@@ -153,6 +153,52 @@ impl<'a> Cursor<'a> {
         ensures stays { OnErr result (self.new ≡ self.old) }
     {
         Ok(Bounded::within_limits(self.counted(MIN_LEN, MOST)?))
+    }
+
+    /// The next byte as a policy: `Short` if there is none, `OutOfRange` if it is no policy's.
+    pub fn policy(&mut self) -> Result<Policy, Fault>
+        ensures read { Gives (λ policy. policy) result self.new (read_policy self.old) }
+        ensures stays { OnErr result (self.new ≡ self.old) }
+    {
+        match self.bytes {
+            [] => Err(Fault::Short),
+            [byte, rest @ ..] => {
+                let policy = Policy::new(*byte)?;
+                self.bytes = rest;
+                Ok(policy)
+            }
+        }
+    }
+
+    /// The version of a form behind its kind: whether it has a policy. `OutOfRange` if the kind is another
+    /// one or the version is neither 1 nor 2, `Short` if one of them is cut off.
+    pub fn version(&mut self, kind: u8) -> Result<bool, Fault>
+        ensures read { Gives (λ has_policy. has_policy) result self.new (read_version kind self.old) }
+        ensures stays { OnErr result (self.new ≡ self.old) }
+    {
+        let mut ahead = self.copied();
+        if ahead.take(1)? != [kind].as_slice() {
+            return Err(Fault::OutOfRange);
+        }
+        let has_policy = match ahead.u8()? {
+            1 => false,
+            2 => true,
+            _ => return Err(Fault::OutOfRange),
+        };
+        *self = ahead;
+        Ok(has_policy)
+    }
+
+    /// A policy where there is one, refused as by `policy`.
+    pub fn policy_if(&mut self, has_policy: bool) -> Result<Option<Policy>, Fault>
+        ensures read { Gives (λ policy. policy) result self.new (read_policy_if has_policy self.old) }
+        ensures stays { OnErr result (self.new ≡ self.old) }
+    {
+        if has_policy {
+            Ok(Some(self.policy()?))
+        } else {
+            Ok(None)
+        }
     }
 
     /// Nothing is left, or `Trailing`.

@@ -1,7 +1,9 @@
 ghost use Rattle.std.specs.Prelude.{◌≡◌, ℕ, ◌+◌, ◌<◌, ◌≤◌, ◌^◌, List, [], ◌∷◌, ◌++◌, length};
 ghost use Rattle.byteorder.specs.Endian.{big_bytes};
 ghost use Rattle.encoding.specs.Forms.{counted_bytes};
+ghost use Rattle.encoding.specs.Policies.{policy_bytes};
 
+use crate::Policy;
 use arrayvec::ArrayVec;
 use byteorder::{BigEndian, ByteOrder};
 use std::marker::Model;
@@ -12,10 +14,10 @@ pub struct FixedText<const ROOM: usize> {
     bytes: ArrayVec<u8, ROOM>,
 }
 
-/// The room of a `Text`. The longest is a promise: 78 bytes, a name of 255 and a key of 2,048.
+/// The room of a `Text`. The longest is a promise: 79 bytes, a name of 255 and a key of 2,048.
 const TEXT_ROOM: usize = 2400;
 
-/// The room of a `ProofText`. The longest reply to a look-up has 10,681 bytes.
+/// The room of a `ProofText`. The longest reply to a look-up has 10,682 bytes.
 pub const PROOF_TEXT_ROOM: usize = 10700;
 
 /// A text that is signed, hashed or compared: at most 2,400 bytes.
@@ -119,5 +121,17 @@ impl<const ROOM: usize> FixedText<ROOM> {
     {
         self.push_u16(bytes.len() as u16);
         self.push_slice(bytes);
+    }
+
+    /// Appends the byte of a policy, where there is one.
+    pub fn push_policy(&mut self, policy: Option<Policy>)
+        requires { length self.old < ROOM }
+        ensures value { self.new ≡ self.old ++ policy_bytes policy }
+        ensures len { length self.new ≡ length self.old + length (policy_bytes policy) }
+        ensures most { length self.new ≤ length self.old + 1 }
+    {
+        if let Some(policy) = policy {
+            self.push(policy.byte());
+        }
     }
 }

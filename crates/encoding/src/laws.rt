@@ -1,6 +1,6 @@
 ghost use Rattle.std.specs.Prelude.{◌≡◌};
 ghost use Rattle.encoding.specs.BitLaws.{BitsOfCut, BitsOfWithOne, AgreementOfBits};
-ghost use Rattle.encoding.specs.Fields.{BytesAreField, ByteIsField, NumbersAreFields, CountedAreFields};
+ghost use Rattle.encoding.specs.Fields.{BytesAreField, ByteIsField, NumbersAreFields, CountedAreFields, PolicyIsField};
 ghost use Rattle.encoding.specs.declared.bounded.TheConstants.{MIN_LEN};
 ghost use Rattle.encoding.specs.declared.key_data.TheConstants.{MAX_KEY_DATA_LEN};
 ghost use Rattle.encoding.specs.declared.name.TheConstants.{MAX_NAME_LEN};
@@ -47,4 +47,9 @@ pub fn numbers_are_read()
 /// Counted bytes are read exactly where the bytes begin with their spelling, whatever follows.
 pub fn counted_are_read()
     ensures { CountedAreFields }
+{}
+
+/// A policy is read exactly where the bytes begin with its byte, whatever follows.
+pub fn policy_is_read()
+    ensures { PolicyIsField }
 {}

@@ -5,6 +5,7 @@ use Rattle.encoding.specs.Bytes.{Is32Bytes}
 use Rattle.encoding.specs.Limits.{IsKeyData, IsName}
 use Rattle.commit.specs.Commitments.{commitment_bytes}
 use Rattle.prefixtree.specs.Placement.{Items, commitment_of, put}
+use Rattle.encoding.specs.declared.bound_key.BoundKey.{BoundKey}
 use Rattle.book.specs.Steps.{with_pending}
 use Rattle.book.specs.Books.{Book}
 use Rattle.encoding.specs.Maps.{Map, at, put_at}
@@ -41,7 +42,7 @@ resalted provider parts salt left keeps other rest small = record {
   };
 }
 
-module _ (provider : Provider) (parts : Parts) (own : List ℕ) (left : Stream) (keeps : Keeps provider parts (book_of parts own left)) (name key : List ℕ)
+module _ (provider : Provider) (parts : Parts) (own : List ℕ) (left : Stream) (keeps : Keeps provider parts (book_of parts own left)) (name : List ℕ) (key : BoundKey)
     (none : at (pending_of parts) name ≡ None) (free : (other : List ℕ) → HoldsName (book_of parts own left) other → index_of provider other ≡ index_of provider name → other ≡ name)
     (salt : List ℕ) (small : Is32Bytes salt) where
   -- the salts to come, where the binding's own comes first
@@ -67,7 +68,7 @@ module _ (provider : Provider) (parts : Parts) (own : List ℕ) (left : Stream) 
       drawn : (own, left) ≡ fill_bytes 32 ahead
       drawn = sym (first-salt own [] left)
 
-      pub keeps_bound : IsName name → IsKeyData key → Keeps provider parts_bound (book_of parts_bound own left)
+      pub keeps_bound : IsName name → IsKeyData key.value → Keeps provider parts_bound (book_of parts_bound own left)
       keeps_bound is-name is-key = keeps_accepted provider parts salt ahead keeps_ahead name key none free len long version is index commitment own left names waiting indexed committed drawn named waits is-name is-key keeps.sound.salt
 
       pub book_bound : book_of parts_bound own left ≡ with_bound (book_of parts own left) name (record { key = key; salt = salt })
@@ -79,7 +80,7 @@ module _ (provider : Provider) (parts : Parts) (own : List ℕ) (left : Stream) 
           with_drawn drawn-next = record (book_of parts (drawn-next.0) (drawn-next.1)) { pending = put_at (pending_of parts) name (record { key = key; salt = salt }) }
 
 -- once the salt after it is drawn, the book is that in which the binding waits under the next salt
-pub drawn_after : (before middle : Book) (name key next : List ℕ) (rest : Stream) → middle ≡ with_bound before name (record { key = key; salt = before.salt })
+pub drawn_after : (before middle : Book) (name : List ℕ) (key : BoundKey) (next : List ℕ) (rest : Stream) → middle ≡ with_bound before name (record { key = key; salt = before.salt })
     → (next, rest) ≡ fill_bytes 32 middle.left → ◌≡◌ {A = Book} (record middle { salt = next; left = rest }) (with_pending before name key)
 drawn_after before middle name key next rest is drawn =
     ap (λ (x : List ℕ × Stream). record middle { salt = x.0; left = x.1 }) drawn

@@ -13,6 +13,7 @@ use Rattle.rootchain.specs.Promises.{promise_bytes}
 use Rattle.rootchain.specs.declared.promise.Promise.{Promise as PromiseMade}
 use Rattle.rootchain.specs.declared.signed_promise.SignedPromise.{SignedPromise}
 use Rattle.rootchain.specs.declared.signed_root.SignedRoot.{SignedRoot}
+use Rattle.encoding.specs.declared.bound_key.BoundKey.{BoundKey}
 use Rattle.book.specs.declared.reply.Reply.TheVariants as reply
 use Rattle.book.specs.declared.directory_refusal.Refusal.{Refusal}
 use Rattle.book.specs.declared.directory_refusal.Refusal.TheVariants.{IndexTaken, NameTaken, PendingExists}
@@ -70,7 +71,7 @@ record Stand : Type 0 where
   pub salt : List ℕ
   pub left : Stream
 
-module _ (provider : Provider) (parts : Parts) (salt : List ℕ) (left : Stream) (keeps : Keeps provider parts (book_of parts salt left)) (name key : List ℕ)
+module _ (provider : Provider) (parts : Parts) (salt : List ℕ) (left : Stream) (keeps : Keeps provider parts (book_of parts salt left)) (name : List ℕ) (key : BoundKey)
     (none : at (pending_of parts) name ≡ None) (free : (other : List ℕ) → HoldsName (book_of parts salt left) other → index_of provider other ≡ index_of provider name → other ≡ name) where
   -- its index does not wait
   pub index_free : (index : List ℕ) → index ≡ index_of provider name → commitment_of parts.waiting index ≡ None
@@ -104,7 +105,7 @@ module _ (provider : Provider) (parts : Parts) (salt : List ℕ) (left : Stream)
           all-waiting : waiting ≡ put parts.waiting (index_of provider name) (provider.hash (commitment_bytes salt name key))
           all-waiting = waits ∙ ap (λ (i : List ℕ). put parts.waiting i commitment) indexed ∙ ap (put parts.waiting (index_of provider name)) committed
 
-      pub keeps_accepted : IsName name → IsKeyData key → Is32Bytes next → Keeps provider parts_with (book_of parts_with next rest)
+      pub keeps_accepted : IsName name → IsKeyData key.value → Is32Bytes next → Keeps provider parts_with (book_of parts_with next rest)
       keeps_accepted is-name is-key is-salt =
           subst (λ (stand : Stand). Keeps provider stand.parts (book_of stand.parts stand.salt stand.left)) (sym stand-is)
           (keeps_pending provider parts salt left keeps name key none is-name is-key (subst Is32Bytes (ap (λ (x : List ℕ × Stream). x.0) drawn) is-salt) free)

@@ -2,7 +2,8 @@
 use Rattle.std.proofs.Common.{◌≡◌, ℕ, List, Option, None, Result, Ok, Err, MatchResult, refl, sym, ap, ◌∙◌, subst, inl, inr}
 use Rattle.rootchain.specs.declared.signed_promise.SignedPromise.{SignedPromise}
 use Rattle.commands.specs.declared.edit.Verb.TheVariants.{Change}
-use Rattle.commands.specs.Operations.{Edit, Put}
+use Rattle.commands.specs.Operations.{bound_key, AskedKey, Edit, Put}
+use Rattle.encoding.specs.declared.bound_key.BoundKey.{BoundKey}
 use Rattle.book.specs.declared.record.Record.{Record}
 use Rattle.book.specs.declared.record.Record.TheVariants as record_of_a
 use Rattle.book.specs.declared.directory_refusal.Refusal.{Refusal}
@@ -17,12 +18,12 @@ use Rattle.epochs.specs.KeyChanges.{IsRefusedSo}
 use Rattle.epochs.specs.Replied.{promised}
 use Rattle.epochs.proofs.Turned.{put_turn}
 
-module _ (provider : Provider) {K : Type 0} (kept failed : K → Record → K → Type 0) (book : Book) (keeper : K) (name key the_name the_key the_salt : List ℕ)
-    (same_name : the_name ≡ name) (same_key : the_key ≡ key) (same_salt : the_salt ≡ book.salt) where
+module _ (provider : Provider) {K : Type 0} (kept failed : K → Record → K → Type 0) (book : Book) (keeper : K) (name : List ℕ) (key : AskedKey) (the_name : List ℕ) (the_key : BoundKey) (the_salt : List ℕ)
+    (same_name : the_name ≡ name) (same_key : the_key ≡ bound_key key) (same_salt : the_salt ≡ book.salt) where
   abbrev due : List ℕ → Option Refusal
   due of = put_refusal (index_of provider) book Change of
 
-  -- a name and a key within their limits, which the book may refuse
+  -- a name and a key that are allowed, which the book may refuse
   pub change_turn : (r : Result SignedPromise Refusal) (after : Book) (keeper_after : K)
       → refusal (index_of provider) book (Edit (Put Change name key)) ≡ due name
       → MatchResult r

@@ -1,17 +1,19 @@
 -- A change of a name's key: what the tests tell, and what becomes of the history, of the names and of the book.
-use Rattle.std.proofs.Common.{◌≡◌, ℕ, ◌-◌, List, [], ◌∷◌, ◌++◌, length, Option, Some, None, IsSome, Bool, true, false, not, refl, sym, ap, ◌∙◌, subst, MatchResult, Result, Ok, Err}
+use Rattle.std.proofs.Common.{◌≡◌, ℕ, ◌-◌, List, [], ◌∷◌, ◌++◌, length, Option, Some, None, IsSome, Bool, true, false, refl, sym, ap, ◌∙◌, subst, MatchResult, Result, Ok, Err}
 use Rattle.std.specs.Map.{lookup}
 use Rattle.std.specs.Option.{option_and_then, option_map, unwrap_or}
 use Rattle.std.specs.Prelude.{is_some}
 use Rattle.rand_core.specs.Stream.{Stream}
 use Rattle.encoding.specs.Bytes.{Is32Bytes}
 use Rattle.encoding.specs.Limits.{IsKeyData, IsName}
+use Rattle.encoding.specs.Policies.{is_final}
 use Rattle.commands.specs.declared.edit.Verb.TheVariants.{Change}
 use Rattle.commit.specs.Commitments.{commitment_bytes}
 use Rattle.prefixtree.specs.Placement.{Items, put}
+use Rattle.encoding.specs.declared.bound_key.BoundKey.{BoundKey}
 use Rattle.book.specs.Books.{Binding}
 use Rattle.book.specs.declared.directory_refusal.Refusal.{Refusal}
-use Rattle.book.specs.declared.directory_refusal.Refusal.TheVariants.{NoSuchName, PendingExists}
+use Rattle.book.specs.declared.directory_refusal.Refusal.TheVariants.{FinalBinding, NoSuchName, PendingExists}
 use Rattle.encoding.specs.Maps.{at}
 use Rattle.book.specs.Replays.{put_refusal, with_bound}
 use Rattle.book.specs.Shows.{Provider, index_of}
@@ -41,29 +43,31 @@ lacking : (shown waits : Option Binding) → is_some shown ≡ false → change_
 lacking None waits is = refl
 lacking (Some x) waits is = absurd cc
 
-pending : (shown waits : Option Binding) → is_some shown ≡ true → is_some waits ≡ true → change_refusal shown waits ≡ Some PendingExists
-pending (Some x) (Some y) has awaits = refl
-pending (Some x) None has awaits = absurd cc
-pending None waits has awaits = absurd cc
+-- by whether the binding that is shown is final, and whether one waits
+abbrev by_tests : Bool → Bool → Option Refusal
+by_tests final awaits = first ((final, FinalBinding) ∷ (awaits, PendingExists) ∷ [])
 
-opening : (shown waits : Option Binding) → is_some shown ≡ true → is_some waits ≡ false → change_refusal shown waits ≡ None
-opening (Some x) None has awaits = refl
-opening (Some x) (Some y) has awaits = absurd cc
-opening None waits has awaits = absurd cc
+module _ {X : Type 0} (of : X → Binding) (shown waits : Option Binding) where
+  pub lacks_name : option_map of None ≡ shown → change_refusal shown waits ≡ Some NoSuchName
+  lacks_name shows = lacking shown waits (ap is_some (sym shows))
 
-module _ {X : Type 0} (of : X → Binding) (found : Option X) (none : Bool) (tests : is_some found ≡ not none) (shown waits : Option Binding) (shows : option_map of found ≡ shown) where
-  pub lacks_name : none ≡ true → change_refusal shown waits ≡ Some NoSuchName
-  lacks_name is = lacking shown waits (sym (same-some of found shown shows) ∙ tests ∙ ap not is)
+  module _ (x : X) (shows : option_map of (Some x) ≡ shown) where
+    -- the other tests, where a binding is shown
+    has : change_refusal shown waits ≡ by_tests (is_final (of x).key.policy) (is_some waits)
+    has = ap (λ (o : Option Binding). change_refusal o waits) (sym shows)
 
-  module _ (none_is : none ≡ false) (other : Option X) (some : Bool) (asks : some ≡ is_some other) (pends : option_map of other ≡ waits) where
-    has : is_some shown ≡ true
-    has = sym (same-some of found shown shows) ∙ tests ∙ ap not none_is
+    pub has_final : is_final (of x).key.policy ≡ true → change_refusal shown waits ≡ Some FinalBinding
+    has_final final = has ∙ ap (λ (t : Bool). by_tests t (is_some waits)) final
 
-    pub has_pending : some ≡ true → change_refusal shown waits ≡ Some PendingExists
-    has_pending is = pending shown waits has (sym (same-some of other waits pends) ∙ sym asks ∙ is)
+    module _ (may : is_final (of x).key.policy ≡ false) (other : Option X) (some : Bool) (asks : some ≡ is_some other) (pends : option_map of other ≡ waits) where
+      waits_for : change_refusal shown waits ≡ by_tests false some
+      waits_for = has ∙ (λ i. by_tests (may i) ((sym (same-some of other waits pends) ∙ sym asks) i))
 
-    pub may_open : some ≡ false → change_refusal shown waits ≡ None
-    may_open is = opening shown waits has (sym (same-some of other waits pends) ∙ sym asks ∙ is)
+      pub has_pending : some ≡ true → change_refusal shown waits ≡ Some PendingExists
+      has_pending is = waits_for ∙ ap (by_tests false) is
+
+      pub may_open : some ≡ false → change_refusal shown waits ≡ None
+      may_open is = waits_for ∙ ap (by_tests false) is
 
 -- ---- what becomes of a history
 
@@ -141,14 +145,18 @@ histories_changed A B names names_after waits waits_after name version text (Err
 
 opened : (shown waits : Option Binding) → change_refusal shown waits ≡ None → IsSome shown × (waits ≡ None)
 opened None waits is = absurd cc
-opened (Some x) None is = (refl, refl)
-opened (Some x) (Some y) is = absurd cc
+opened (Some x) waits is = (refl, by (is_final x.key.policy) waits is)
+  where
+    by : (final : Bool) (o : Option Binding) → by_tests final (is_some o) ≡ None → o ≡ None
+    by true o e = absurd cc
+    by false None e = refl
+    by false (Some y) e = absurd cc
 
 module _ (provider : Provider) (names : NamesContent) (rest : Parts) where
   abbrev parts : Parts
   parts = record { names = names.versions; roots = rest.roots; trees = rest.trees; waiting = rest.waiting; body_hash = rest.body_hash }
 
-  module _ (own : List ℕ) (left : Stream) (keeps : Keeps provider parts (book_of parts own left)) (are : AreAddresses provider names.addresses) (name key salt : List ℕ) (small : Is32Bytes salt) (len : ℕ) (long : len ≡ length rest.roots) where
+  module _ (own : List ℕ) (left : Stream) (keeps : Keeps provider parts (book_of parts own left)) (are : AreAddresses provider names.addresses) (name : List ℕ) (key : BoundKey) (salt : List ℕ) (small : Is32Bytes salt) (len : ℕ) (long : len ≡ length rest.roots) where
     abbrev due : Option Refusal
     due = put_refusal (index_of provider) (book_of parts own left) Change name
 
@@ -199,7 +207,7 @@ module _ (provider : Provider) (names : NamesContent) (rest : Parts) where
       abbrev Made : Result (List ℕ) Refusal → Type 0
       Made result = ChangedNames A (B (refused_before len (versions_of names.versions name))) names rest.waiting name the_version text result names_after waits_after
 
-      pub keeps_changed : IsName name → IsKeyData key → (result : Result (List ℕ) Refusal) → Made result → Keeps provider parts_changed (book_of parts_changed own left)
+      pub keeps_changed : IsName name → IsKeyData key.value → (result : Result (List ℕ) Refusal) → Made result → Keeps provider parts_changed (book_of parts_changed own left)
       keeps_changed is-name is-key (Ok index) (kept, (refused, place, added, put_in)) =
           let none = sym due-is ∙ refused in
           keeps_bound provider parts own left keeps name key (nothing-waits none) (alone none) salt small len long the_version refl

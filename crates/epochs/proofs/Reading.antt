@@ -21,6 +21,7 @@ use Rattle.prefixtree.specs.declared.path.End.{End as PathEnd}
 use Rattle.rootchain.specs.declared.signed_promise.SignedPromise.{SignedPromise}
 use Rattle.rootchain.specs.declared.signed_root.SignedRoot.{SignedRoot}
 use Rattle.proofs.specs.Replies.{reply_bytes}
+use Rattle.encoding.specs.declared.bound_key.BoundKey.{BoundKey}
 use Rattle.book.specs.declared.directory_refusal.Refusal.{Refusal}
 use Rattle.book.specs.declared.directory_refusal.Refusal.TheVariants.{BadName, NoPromise, NoSuchEpoch}
 use Rattle.book.specs.declared.reply.Reply.TheVariants as reply
@@ -40,11 +41,11 @@ use Rattle.epochs.proofs.Parts.{book_of, last_get, page_kept, root_kept, tree_ke
 two-pass : (a b : Bool) (u v : Refusal) → a ≡ false → b ≡ false → first ((a, u) ∷ (b, v) ∷ []) ≡ None
 two-pass a b u v e f = rw (e, f) refl
 
-name-passes : (name : List ℕ) → IsName name → not (has_length_within 1 255 name) ≡ false
+pub name-passes : (name : List ℕ) → IsName name → not (has_length_within 1 255 name) ≡ false
 name-passes name is = rw (le-leb 1 (length name) is.0, le-leb (length name) 255 is.1) refl
 
 -- the promise of the key that waits is one to read
-pub promise_reads : (provider : Provider) (book : Book) (name key : List ℕ) (signed : SignedPromise) → IsName name → Some key ≡ option_map (λ (binding : Binding). binding.key) (at book.pending name)
+pub promise_reads : (provider : Provider) (book : Book) (name : List ℕ) (key : BoundKey) (signed : SignedPromise) → IsName name → Some key ≡ option_map (λ (binding : Binding). binding.key) (at book.pending name)
     → ((salt : List ℕ) → Shows provider book (Promised name (record { key = key; salt = salt })) (reply.Promised signed)) → ReadsOnly provider book (Query (Promise name)) (reply.Promised signed)
 promise_reads provider book name key signed named waits shows = by (at book.pending name) refl waits
   where
@@ -56,7 +57,7 @@ promise_reads provider book name key signed named waits shows = by (at book.pend
         two-pass (not (has_length_within 1 255 name)) (is_none (at book.pending name)) BadName NoPromise (name-passes name named) (ap (λ (o : Option Binding). is_none o) is) in (
           Promised name binding,
           does_steps (index_of provider) book (Query (Promise name)) (Promised name binding) book none (ap (promise_outcome name) is, refl),
-          subst (λ (k : List ℕ). Shows provider book (Promised name (record { key = k; salt = binding.salt })) (reply.Promised signed)) same (shows binding.salt),
+          subst (λ (k : BoundKey). Shows provider book (Promised name (record { key = k; salt = binding.salt })) (reply.Promised signed)) same (shows binding.salt),
         )
 
 -- ---- of parts that keep their book

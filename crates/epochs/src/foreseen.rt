@@ -4,7 +4,7 @@ ghost use Rattle.commit.specs.Commitments.{commitment_bytes};
 ghost use Rattle.epochs.specs.declared.foreseen.TheConstants.{AT_ONCE};
 
 use commit::{commit, short_commit_text};
-use encoding::{Hash32, KeyData, Name};
+use encoding::{BoundKey, Hash32, Name};
 use nodehash::{NodeHash, NodeText};
 use std::marker::{Model, PhantomData};
 
@@ -63,13 +63,13 @@ impl<H: NodeHash> Foreseen<H> {
     }
 
     /// The commitment that binds a key to a name under a salt, if it is the next one.
-    fn next(&mut self, salt: &Hash32, name: &Name, key: &KeyData) -> Option<Hash32>
+    fn next(&mut self, salt: &Hash32, name: &Name, key: &BoundKey) -> Option<Hash32>
         ensures { IfSome result (λ digest. digest ≡ H.digest_of (commitment_bytes salt.now name.now key.now)) }
     {
         if self.used >= AT_ONCE {
             return None;
         }
-        let text = short_commit_text(salt, name.bytes(), key.bytes())?;
+        let text = short_commit_text(salt, name.bytes(), key.bytes(), key.policy)?;
         if self.texts[self.used].bytes() == text.bytes() {
             let digest = self.digests[self.used];
             self.used += 1;
@@ -84,7 +84,7 @@ impl<H: NodeHash> Foreseen<H> {
         hash: &mut H,
         salt: &Hash32,
         name: &Name,
-        key: &KeyData,
+        key: &BoundKey,
     ) -> Hash32
         ensures value { result ≡ H.digest_of (commitment_bytes salt.now name.now key.now) }
         ensures work { H.digests hash.new ≤ H.digests hash.old + 1 }

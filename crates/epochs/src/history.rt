@@ -5,13 +5,14 @@ ghost use Rattle.std.specs.Prelude.{◌≡◌, ◌<◌, ◌≤◌, ◌++◌, ◌
 ghost use Rattle.std.specs.List.Sorted.{IsPartitionPoint};
 ghost use Rattle.std.specs.Option.{option_map};
 ghost use Rattle.encoding.specs.Limits.{IsSmall};
+ghost use Rattle.encoding.specs.Policies.{is_final};
 ghost use Rattle.book.specs.Turns.{IsUnkept};
 ghost use Rattle.epochs.specs.Histories.{binding_at, waiting};
 ghost use Rattle.epochs.specs.Versions.{AllBefore, Ascends};
 
 use crate::address::Address;
 use book::{Keeper, Record, Refusal};
-use encoding::{Hash32, Index, KeyData, Small};
+use encoding::{BoundKey, Hash32, Index, KeyData, Policy, Small};
 use std::alloc::{AllocError, Global};
 use std::marker::Model;
 
@@ -20,6 +21,7 @@ use std::marker::Model;
 pub(crate) struct Version {
     first_page: usize,
     key: Vec<u8>,
+    policy: Option<Policy>,
     salt: Hash32,
 }
 
@@ -29,7 +31,7 @@ impl Model for Version {
 
     ghost Value = { histories.Version };
 
-    ghost view = { λ version. record { number = version.first_page; binding = record { key = version.key.items; salt = version.salt } } };
+    ghost view = { λ version. record { number = version.first_page; binding = record { key = record { value = version.key.items; policy = version.policy }; salt = version.salt } } };
 
     ghost invariant = { λ version. IsKeyData version.key.items };
 }
@@ -39,7 +41,7 @@ impl Version {
     pub(crate) fn new(
         alloc: Global,
         first_page: usize,
-        key: &KeyData,
+        key: &BoundKey,
         salt: Hash32,
     ) -> Result<Version, AllocError>
         ensures { IfOk result (λ version. version ≡ record { number = first_page; binding = record { key = key.now; salt = salt } }) }
@@ -47,6 +49,7 @@ impl Version {
         Ok(Version {
             first_page,
             key: Vec::from_slice(alloc, key.bytes())?,
+            policy: key.policy,
             salt,
         })
     }
@@ -59,12 +62,26 @@ impl Version {
     }
 
     /// The key.
-    pub(crate) fn key(&self) -> KeyData
+    pub(crate) fn key(&self) -> BoundKey
         ensures { result ≡ self.now.binding.key }
     {
         match KeyData::new(self.key.as_slice()) {
-            Ok(key) => key,
+            Ok(value) => BoundKey {
+                value,
+                policy: self.policy,
+            },
             Err(_) => unreachable!(),
+        }
+    }
+
+    /// Whether the key is never changed.
+    pub(crate) fn is_final(&self) -> bool
+        ensures { result ≡ is_final self.now.binding.key.policy }
+    {
+        match self.policy {
+            Some(Policy::Final) => true,
+            Some(Policy::Open) => false,
+            None => false,
         }
     }
 

@@ -10,7 +10,7 @@ use crate::foreseen::Foreseen;
 use crate::history::{History, Version};
 use crate::seeded::Seeded;
 use book::{Keeper, Record, Refusal};
-use encoding::{Hash32, Index, KeyData, Name};
+use encoding::{BoundKey, Hash32, Index, Name};
 use nodehash::NodeHash;
 use std::alloc::Global;
 use std::collections::HashMap;
@@ -20,7 +20,7 @@ use std::collections::hash_map::Entry;
 #[derive(Clone, Copy)]
 pub(crate) struct KeyChange<'a> {
     pub(crate) name: &'a Name,
-    pub(crate) key: &'a KeyData,
+    pub(crate) key: &'a BoundKey,
     pub(crate) salt: Hash32,
     pub(crate) page: usize,
 }
@@ -30,7 +30,8 @@ pub(crate) struct KeyChange<'a> {
 ///
 /// # Errors
 ///
-/// `NoSuchName`, `PendingExists`, `Memory`, `KeepFailed`: the first that applies. All then stays as it was.
+/// `NoSuchName`, `FinalBinding`, `PendingExists`, `Memory`, `KeepFailed`: the first that applies. All then stays
+/// as it was.
 pub(crate) fn change_at<H: NodeHash, K: Keeper>(
     alloc: Global,
     history: &mut History,
@@ -60,13 +61,16 @@ pub(crate) fn change_at<H: NodeHash, K: Keeper>(
     add_at(history, commitments, keeper, what, version, commitment)
 }
 
-// Whether the page before this one shows a version, and none waits for this one.
+// Whether the page before this one shows a version that is not final, and none waits for this one.
 fn may_change(history: &History, page: usize) -> Result<(), Refusal>
     requires { 0 < page }
     ensures { MatchResult result (λ _. refused_before page history.now.versions ≡ None) (λ why. refused_before page history.now.versions ≡ Some why) }
 {
-    if history.shown(page - 1).is_none() {
+    let Some(shown) = history.shown(page - 1) else {
         return Err(Refusal::NoSuchName);
+    };
+    if shown.is_final() {
+        return Err(Refusal::FinalBinding);
     }
     if history.waiting(page).is_some() {
         return Err(Refusal::PendingExists);

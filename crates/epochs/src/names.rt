@@ -120,7 +120,8 @@ impl Names {
     ///
     /// # Errors
     ///
-    /// `NoSuchName`, `PendingExists`, `Memory`, `KeepFailed`: the first that applies. All then stays as it was.
+    /// `NoSuchName`, `FinalBinding`, `PendingExists`, `Memory`, `KeepFailed`: the first that applies. All then stays
+    /// as it was.
     pub(crate) fn change<H: NodeHash, K: Keeper>(
         &mut self,
         commitments: &mut HashMap<Index, Hash32, Seeded>,

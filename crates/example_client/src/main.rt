@@ -5,7 +5,7 @@
 use anyhow::{Context, Result, bail, ensure};
 use asking::{AskFault, Asker, Checks, MAX_LISTS, Said};
 use commands::Verb;
-use encoding::{Hash32, KeyData, Name};
+use encoding::{BoundKey, Hash32, KeyData, Name};
 use nodehash::NodeHash;
 use play::Ask;
 use sigiface::Verifier;
@@ -24,7 +24,10 @@ fn main(rt: HostRuntime) -> Result<()> {
     let signing_key = Hash32::new(option_hex32(signing_key).context("reading PROVIDER_KEY")?);
     let owned = Name::new(name.as_bytes()).context("reading NAME")?;
     let key = hex::decode(alloc, key.as_bytes()).context("reading KEY")?;
-    let expected = KeyData::new(&key).context("reading KEY")?;
+    let expected = BoundKey {
+        value: KeyData::new(&key).context("reading KEY")?,
+        policy: None,
+    };
     let seconds = seconds.parse::<u64>().context("reading SECONDS")?;
 
     // Start at the directory's latest root. The token is that of the operator, which a user does not have.
@@ -45,7 +48,13 @@ fn main(rt: HostRuntime) -> Result<()> {
         // The client keeps the promise, and the monitor expects the key from the next epoch on.
         let verb = Verb::Register;
         let name = Vec::from_slice(alloc, owned.bytes())?;
-        let asked = ask(&mut asker, stream, &Ask::Put { verb, name, key }, said);
+        let put = Ask::Put {
+            verb,
+            name,
+            key,
+            policy: None,
+        };
+        let asked = ask(&mut asker, stream, &put, said);
         tell(&rt, asked, said)?;
     }
     // Follow the chain. At each new root, the monitor looks the name up, and the promise is tested if it is due.

@@ -31,7 +31,8 @@ question_is Head are = tt
 
 request_is : (token : List ℕ) (requested : request.RequestContent) (asked : Operation) → request.IsAsked requested → command token requested ≡ Some asked → IsCommand asked
 request_is token (request.Query question) asked are e = subst IsCommand (let same : Query question ≡ asked = cc in same) (question_is question are)
-request_is token (request.Put verb name key) asked (of_name, of_key) e = subst IsCommand (let same : Edit (Put verb name key) ≡ asked = cc in same) (of_name.2, of_key.2)
+request_is token (request.Put verb name (key, None)) asked (of_name, of_key) e = subst IsCommand (let same : Edit (Put verb name (key, None)) ≡ asked = cc in same) (of_name.2, of_key.2)
+request_is token (request.Put verb name (key, Some policy)) asked (of_policy, (of_name, of_key)) e = subst IsCommand (let same : Edit (Put verb name (key, Some policy)) ≡ asked = cc in same) (of_name.2, of_key.2)
 request_is token (request.Turn given epoch nonce) asked are e = by_token (bytes_eq given token) e
   where
     fine : (nonce : Option (List ℕ)) → request.IsAsked (request.Turn given epoch nonce) → IsCommand (Edit (Turn epoch nonce))

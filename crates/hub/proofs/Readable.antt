@@ -8,7 +8,7 @@ use Rattle.rootchain.specs.SignedRoots.{IsSignedRoot}
 use Rattle.rootchain.specs.declared.signed_root.SignedRoot.{SignedRoot}
 use Rattle.book.specs.declared.record.Record.{Record}
 use Rattle.book.specs.declared.directory_refusal.Refusal.{Refusal}
-use Rattle.book.specs.declared.directory_refusal.Refusal.TheVariants.{BadName, BadKey, NameTaken, NoSuchName, PendingExists, IndexTaken, NoSuchEpoch, EpochNotLater, NoPromise, Memory, BadRange, KeepFailed}
+use Rattle.book.specs.declared.directory_refusal.Refusal.TheVariants.{BadName, BadKey, BadPolicy, NameTaken, NoSuchName, FinalBinding, PendingExists, IndexTaken, NoSuchEpoch, EpochNotLater, NoPromise, Memory, BadRange, KeepFailed}
 use Rattle.book.specs.declared.reply.Reply.{Reply}
 use Rattle.book.specs.declared.reply.Reply.TheVariants as reply
 use Rattle.book.specs.Steps.{Answer, Answers, step}
@@ -101,8 +101,10 @@ module _ (provider : Provider) where
 number_small : (why : Refusal) → book_refusal_number why < 256
 number_small BadName = omega arith
 number_small BadKey = omega arith
+number_small BadPolicy = omega arith
 number_small NameTaken = omega arith
 number_small NoSuchName = omega arith
+number_small FinalBinding = omega arith
 number_small PendingExists = omega arith
 number_small IndexTaken = omega arith
 number_small NoSuchEpoch = omega arith

@@ -4,7 +4,7 @@ use Rattle.std.specs.List.{AllZip}
 use Rattle.book.specs.declared.reply.Reply.{Reply}
 use Rattle.book.specs.declared.reply.Reply.TheVariants as reply
 use Rattle.book.specs.declared.directory_refusal.Refusal.{Refusal}
-use Rattle.book.specs.declared.directory_refusal.Refusal.TheVariants.{BadName, BadKey, NameTaken, NoSuchName, PendingExists, IndexTaken, NoSuchEpoch, EpochNotLater, NoPromise, Memory, BadRange, KeepFailed}
+use Rattle.book.specs.declared.directory_refusal.Refusal.TheVariants.{BadName, BadKey, BadPolicy, NameTaken, NoSuchName, FinalBinding, PendingExists, IndexTaken, NoSuchEpoch, EpochNotLater, NoPromise, Memory, BadRange, KeepFailed}
 use Rattle.commands.specs.Operations.{Operation}
 use Rattle.book.specs.Refusals.{book_refusal_number}
 use Rattle.book.specs.Replies as seen
@@ -99,8 +99,10 @@ byte_at place bytes = get_or bytes place 0
 not_kept : (why : Refusal) → book_refusal_number why ≡ 19 → why ≡ KeepFailed
 not_kept BadName is = let e : 4 ≡ 19 = is in absurd (omega (arith, e))
 not_kept BadKey is = let e : 5 ≡ 19 = is in absurd (omega (arith, e))
+not_kept BadPolicy is = let e : 26 ≡ 19 = is in absurd (omega (arith, e))
 not_kept NameTaken is = let e : 6 ≡ 19 = is in absurd (omega (arith, e))
 not_kept NoSuchName is = let e : 7 ≡ 19 = is in absurd (omega (arith, e))
+not_kept FinalBinding is = let e : 25 ≡ 19 = is in absurd (omega (arith, e))
 not_kept PendingExists is = let e : 8 ≡ 19 = is in absurd (omega (arith, e))
 not_kept IndexTaken is = let e : 9 ≡ 19 = is in absurd (omega (arith, e))
 not_kept NoSuchEpoch is = let e : 10 ≡ 19 = is in absurd (omega (arith, e))

@@ -103,34 +103,42 @@ impl<H: NodeHash, V: Vuf, S: Signer, R: Rng, K: Keeper> Desk<H, V, S, R, K> {
     /// Puts a key to a name.
     fn put(&mut self, put: &Put<'_>, output: &mut Vec<u8>)
         requires { vec_len output.old + MAX_ANSWER_LEN ≤ vec_capacity output.old }
-        ensures { (reply : List ℕ) × ServesRequest H.digest_of V.value_of S.signature_of R.stream K.kept K.failed self.old (asks.Put put.now.verb put.now.name.now put.now.key.now) reply self.new
+        ensures { (reply : List ℕ) × ServesRequest H.digest_of V.value_of S.signature_of R.stream K.kept K.failed self.old (asks.Put put.now.verb put.now.name.now (put.now.key.now, put.now.policy)) reply self.new
             × (output.new.items ≡ output.old.items ++ reply) }
     {
         match put.verb {
-            Verb::Register => self.register(put.name, put.key, output),
-            Verb::Change => self.change(put.name, put.key, output),
+            Verb::Register => self.register(put, output),
+            Verb::Change => self.change(put, output),
         }
     }
 
     /// Each of these calls has a function of its own that is not inlined, since a function clears the room
     /// of all its replies when it is entered.
     #[inline(never)]
-    fn register(&mut self, name: &[u8], key: &[u8], output: &mut Vec<u8>)
+    fn register(&mut self, put: &Put<'_>, output: &mut Vec<u8>)
         requires { vec_len output.old + MAX_ANSWER_LEN ≤ vec_capacity output.old }
-        ensures { (reply : List ℕ) × ServesRequest H.digest_of V.value_of S.signature_of R.stream K.kept K.failed self.old (asks.Put Register name.now key.now) reply self.new
+        ensures { (reply : List ℕ) × ServesRequest H.digest_of V.value_of S.signature_of R.stream K.kept K.failed self.old (asks.Put Register put.now.name.now (put.now.key.now, put.now.policy)) reply self.new
             × (output.new.items ≡ output.old.items ++ reply) }
     {
-        write_promise(self.directory.register(&mut self.keeper, name, key), output)
+        let keeper = &mut self.keeper;
+        let promise = self
+            .directory
+            .register_with(keeper, put.name, put.key, put.policy);
+        write_promise(promise, output)
     }
 
     /// Changes the key of a name.
     #[inline(never)]
-    fn change(&mut self, name: &[u8], key: &[u8], output: &mut Vec<u8>)
+    fn change(&mut self, put: &Put<'_>, output: &mut Vec<u8>)
         requires { vec_len output.old + MAX_ANSWER_LEN ≤ vec_capacity output.old }
-        ensures { (reply : List ℕ) × ServesRequest H.digest_of V.value_of S.signature_of R.stream K.kept K.failed self.old (asks.Put Change name.now key.now) reply self.new
+        ensures { (reply : List ℕ) × ServesRequest H.digest_of V.value_of S.signature_of R.stream K.kept K.failed self.old (asks.Put Change put.now.name.now (put.now.key.now, put.now.policy)) reply self.new
             × (output.new.items ≡ output.old.items ++ reply) }
     {
-        write_promise(self.directory.change(&mut self.keeper, name, key), output)
+        let keeper = &mut self.keeper;
+        let promise = self
+            .directory
+            .change_with(keeper, put.name, put.key, put.policy);
+        write_promise(promise, output)
     }
 
     /// Answers with the promise that waits for a name.

@@ -1,8 +1,8 @@
 -- The readers of records tell cuts.
-use Rattle.std.proofs.Common.{◌≡◌, ◌≢◌, ℕ, zero, suc, ◌+◌, ◌*◌, ◌<◌, ◌≤◌, ◌^◌, Bool, true, false, cond, leb, List, [], ◌∷◌, ◌++◌, length, replicate, Some, None, Ok, Err, refl, sym, ap, subst, ◌∙◌, arith, lit≤}
+use Rattle.std.proofs.Common.{◌≡◌, ◌≢◌, ℕ, zero, suc, ◌+◌, ◌*◌, ◌<◌, ◌≤◌, ◌^◌, Bool, true, false, cond, leb, List, [], ◌∷◌, ◌++◌, length, replicate, Option, Some, None, Ok, Err, refl, sym, ap, subst, ◌∙◌, arith, lit≤}
 use Rattle.std.specs.Prelude.{◌==◌}
 use Rattle.std.specs.Int.{byte_at}
-use Rattle.std.proofs.lemmas.Bool.{and_parts, eqb-true, leb-true, le-leb, le-ltb}
+use Rattle.std.proofs.lemmas.Bool.{and_parts, eqb-true, leb-true, le-leb, le-ltb, ne_eqb}
 use Rattle.std.proofs.lemmas.List.{length-append, length-replicate}
 use Rattle.byteorder.specs.Endian.{big_bytes, big_number}
 use Rattle.encoding.specs.declared.fault.Fault.TheVariants.{Short, OutOfRange}
@@ -10,16 +10,21 @@ use Rattle.encoding.specs.Bytes.{IsBytes, Is32Bytes}
 use Rattle.encoding.specs.Fields.{IsField}
 use Rattle.encoding.specs.Forms.{counted_bytes}
 use Rattle.encoding.specs.Limits.{IsWithin}
-use Rattle.encoding.specs.Reading.{Reading, ◌>>=◌, is_within, read_byte, read_bytes, read_counted, read_number, read_then, read_where}
+use Rattle.encoding.specs.Policies.{has_policy, policy_bytes}
+use Rattle.encoding.specs.declared.policy.Policy.{Policy}
+use Rattle.encoding.specs.declared.policy.Policy.TheVariants.{Open, Final}
+use Rattle.encoding.specs.Reading.{Reading, ◌>>=◌, is_within, read_byte, read_bytes, read_counted, read_number, read_policy_if, read_then, read_where}
 use Rattle.encoding.proofs.ByteLists.{IsBytes-two, IsBytes-zeros}
 use Rattle.encoding.proofs.Fields.{bytes_field, numbers_field, refused_read, tested_field}
 use Rattle.encoding.proofs.NumberBytes.{bytes-of_number}
+use Rattle.commands.specs.declared.edit.Verb.{Verb}
+use Rattle.commands.specs.declared.edit.Verb.TheVariants.{Register, Change}
 use Rattle.book.specs.declared.record.Record.{Record}
 use Rattle.book.specs.declared.record.Record.TheVariants.{Start, Bound, Turned}
 use Rattle.journal.specs.declared.beginning.Beginning.{Beginning}
-use Rattle.journal.specs.Records.{beginning_of, bound_of, read_bound, read_later, read_later_of, read_rotated, read_start, read_turned, read_up_to, read_verb, rotated_of, turned_of, verb_of, record_bytes, start_bytes, verb_byte, IsLater, IsStart}
+use Rattle.journal.specs.Records.{beginning_of, bound_of, read_bound, read_later, read_later_of, read_rotated, read_start, read_turned, read_up_to, read_verb, read_verb_of, read_with, rotated_of, turned_of, record_bytes, start_bytes, verb_byte, IsLater, IsStart}
 use Rattle.journal.proofs.Cuts.{allowed_cuts, both_cuts, bytes_cuts, mark_cuts, numbers_cuts, renamed_cuts, refused, respelled_cuts, then_cuts, where_is, TellsCuts}
-use Rattle.journal.proofs.Spelled.{beginning_is, beginning_parts, binding_is, bound_parts, bound_same, counted_up_to, epoch_of, is_beginning, is_binding, is_rotated, is_turned, is_verb, kind_of, later_parts, length_byte, rotated_is, rotated_parts, rotated_same, spelled_beginning, spelled_bound, spelled_rotated, turned_is, turned_same, verb_again, verb_field, BeginningParts, BoundParts, IsBeginning, IsBinding, IsRotated, IsTurned, IsVerbByte, OfKind, RotatedParts}
+use Rattle.journal.proofs.Spelled.{beginning_is, beginning_parts, binding_is, bound_parts, bound_same, counted_up_to, epoch_of, is_beginning, is_binding, is_rotated, is_turned, kind_of, later_parts, length_byte, rotated_is, rotated_parts, rotated_same, spelled_beginning, spelled_bound, spelled_rotated, turned_is, turned_same, verb_field, is_mark, mark_field, mark_of, mark_with, policy_behind, verb_bytes, with_mark, BeginningParts, BoundParts, HasMark, IsBeginning, IsBinding, IsMark, IsRotated, IsTurned, OfKind, RotatedParts, Verbed}
 
 -- ---- values that are there
 
@@ -148,24 +153,76 @@ counted_cuts high most low some small fits =
 
 -- ---- records
 
-verb_cuts : TellsCuts read_verb (λ verb. verb_byte verb ∷ []) (λ _. Unit {0})
+-- no value is short of itself
+no_more : (xs more : List ℕ) → [] ≡ xs ++ more → more ≢ [] → ⊥
+no_more xs [] e ne = ne refl
+no_more xs (m ∷ more) e ne = omega (arith, ap length e, length-append xs (m ∷ more))
+
+policy_if_cuts : (has : Bool) → TellsCuts (read_policy_if has) policy_bytes (λ policy. has_policy policy ≡ has)
+policy_if_cuts false = record { cut = λ bytes is e. absurd (refused_read Short (None, bytes) (sym e)); short = short }
+  where
+    short : (policy : Option Policy) (bytes more : List ℕ) → policy_bytes policy ≡ bytes ++ more → more ≢ [] → has_policy policy ≡ false → read_policy_if false bytes ≡ Err Short
+    short None bytes more e ne h = absurd (no_more bytes more e ne)
+    short (Some policy) bytes more e ne h = absurd cc
+policy_if_cuts true = record { cut = cut; short = short }
+  where
+    one_of : (byte : ℕ) (rest : List ℕ) → read_policy_if true (byte ∷ rest) ≡ Err Short → ⊥
+    one_of zero rest e = refused e
+    one_of (suc zero) rest e = refused_read Short (Some Open, rest) (sym e)
+    one_of (suc (suc zero)) rest e = refused_read Short (Some Final, rest) (sym e)
+    one_of (suc (suc (suc byte))) rest e = refused (sym (rw (ne_eqb (suc (suc (suc byte))) 1 (λ same. omega (arith, same)), ne_eqb (suc (suc (suc byte))) 2 (λ same. omega (arith, same))) refl) ∙ e)
+
+    cut : (bytes : List ℕ) → IsBytes bytes → read_policy_if true bytes ≡ Err Short → (policy : Option Policy) × (more : List ℕ) × (policy_bytes policy ≡ bytes ++ more) × (has_policy policy ≡ true)
+    cut [] is e = (Some Open, 1 ∷ [], refl, refl)
+    cut (byte ∷ rest) is e = absurd (one_of byte rest e)
+
+    short : (policy : Option Policy) (bytes more : List ℕ) → policy_bytes policy ≡ bytes ++ more → more ≢ [] → has_policy policy ≡ true → read_policy_if true bytes ≡ Err Short
+    short None bytes more e ne h = absurd cc
+    short (Some policy) [] more e ne h = refl
+    short (Some policy) (byte ∷ rest) more e ne h = absurd (no_more rest more (cc e) ne)
+
+with_cuts : (verb : Verb) (has : Bool) → TellsCuts (read_with verb has) policy_behind (HasMark (verb_byte verb has))
+with_cuts verb has =
+    allowed_cuts (with_mark verb has) (mark_with verb has)
+    (renamed_cuts (λ (policy : Option Policy). (verb, policy)) (λ (verbed : Verbed). verbed.1) (read_policy_if has) policy_bytes (λ policy. has_policy policy ≡ has) (λ _ _. refl) (policy_if_cuts has))
+
+verbs_cuts : (byte : ℕ) → IsMark byte → TellsCuts (read_verb_of byte) policy_behind (HasMark byte)
+verbs_cuts zero h = absurd cc
+verbs_cuts (suc zero) h = with_cuts Register false
+verbs_cuts (suc (suc zero)) h = with_cuts Change false
+verbs_cuts (suc (suc (suc zero))) h = with_cuts Register true
+verbs_cuts (suc (suc (suc (suc zero)))) h = with_cuts Change true
+verbs_cuts (suc (suc (suc (suc (suc byte))))) h = absurd (omega (arith, leb-true (suc (suc (suc (suc (suc byte))))) 4 (and_parts _ _ h.1).1))
+
+-- some verb has each of these bytes
+some_verb : (byte : ℕ) → IsMark byte → (verbed : Verbed) × HasMark byte verbed
+some_verb zero h = absurd cc
+some_verb (suc zero) h = ((Register, None), (tt, refl))
+some_verb (suc (suc zero)) h = ((Change, None), (tt, refl))
+some_verb (suc (suc (suc zero))) h = ((Register, Some Open), (tt, refl))
+some_verb (suc (suc (suc (suc zero)))) h = ((Change, Some Open), (tt, refl))
+some_verb (suc (suc (suc (suc (suc byte))))) h = absurd (omega (arith, leb-true (suc (suc (suc (suc (suc byte))))) 4 (and_parts _ _ h.1).1))
+
+byte_cuts : TellsCuts (read_where (is_within 1 4) read_byte) (λ byte. byte ∷ []) IsMark
+byte_cuts = record { cut = cut; short = short }
+  where
+    passes : (byte : ℕ) (rest : List ℕ) → (b : Bool) → is_within 1 4 byte ≡ b → read_where (is_within 1 4) read_byte (byte ∷ rest) ≡ Err Short → ⊥
+    passes byte rest true b e = refused_read Short (byte, rest) (sym e ∙ where_is (is_within 1 4) byte rest true b)
+    passes byte rest false b e = refused (sym (where_is (is_within 1 4) byte rest false b) ∙ e)
+
+    cut : (bytes : List ℕ) → IsBytes bytes → read_where (is_within 1 4) read_byte bytes ≡ Err Short → (x : ℕ) × (more : List ℕ) × (x ∷ [] ≡ bytes ++ more) × IsMark x
+    cut [] is e = (1, 1 ∷ [], refl, (lit≤ tt, refl))
+    cut (byte ∷ rest) is e = absurd (passes byte rest (is_within 1 4 byte) refl e)
+
+    short : (x : ℕ) (bytes more : List ℕ) → x ∷ [] ≡ bytes ++ more → more ≢ [] → IsMark x → read_where (is_within 1 4) read_byte bytes ≡ Err Short
+    short x [] more e ne h = refl
+    short x (byte ∷ rest) more e ne h = absurd (no_more rest more (cc e) ne)
+
+verb_cuts : TellsCuts read_verb verb_bytes (λ _. Unit {0})
 unfolding read_verb
 verb_cuts =
-    allowed_cuts (λ _ _. tt) (λ verb _. is_verb verb)
-    (renamed_cuts verb_of verb_byte (read_where (is_within 1 2) read_byte) (λ byte. byte ∷ []) IsVerbByte verb_again (record { cut = cut; short = short }))
-  where
-    passes : (byte : ℕ) (rest : List ℕ) → (b : Bool) → is_within 1 2 byte ≡ b → read_where (is_within 1 2) read_byte (byte ∷ rest) ≡ Err Short → ⊥
-    passes byte rest true b e = refused_read Short (byte, rest) (sym e ∙ where_is (is_within 1 2) byte rest true b)
-    passes byte rest false b e = refused (sym (where_is (is_within 1 2) byte rest false b) ∙ e)
-
-    cut : (bytes : List ℕ) → IsBytes bytes → read_where (is_within 1 2) read_byte bytes ≡ Err Short → (x : ℕ) × (more : List ℕ) × (x ∷ [] ≡ bytes ++ more) × IsVerbByte x
-    cut [] is e = (1, 1 ∷ [], refl, (lit≤ tt, refl))
-    cut (byte ∷ rest) is e = absurd (passes byte rest (is_within 1 2 byte) refl e)
-
-    short : (x : ℕ) (bytes more : List ℕ) → x ∷ [] ≡ bytes ++ more → more ≢ [] → IsVerbByte x → read_where (is_within 1 2) read_byte bytes ≡ Err Short
-    short x [] more e ne h = refl
-    short x (byte ∷ rest) [] e ne h = absurd (ne refl)
-    short x (byte ∷ rest) (m ∷ more) e ne h = absurd (omega (arith, ap length e, length-append rest (m ∷ more)))
+    allowed_cuts (λ _ _. tt) (λ verbed _. (is_mark verbed.0 (has_policy verbed.1), tt))
+    (then_cuts mark_of (read_where (is_within 1 4) read_byte) read_verb_of (λ byte. byte ∷ []) policy_behind IsMark (λ _. Unit {0}) mark_field byte_cuts verbs_cuts some_verb)
 
 pub start_cuts : TellsCuts read_start start_bytes IsStart
 unfolding read_start

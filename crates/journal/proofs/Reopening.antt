@@ -5,7 +5,7 @@ use Rattle.std.specs.Prelude.{option_map}
 use Rattle.std.specs.Io.KnownBytes.{Appends}
 use Rattle.rand_core.specs.Stream.{Stream}
 use Rattle.commands.specs.declared.edit.Verb.TheVariants.{Register, Change}
-use Rattle.commands.specs.Operations.{Operation, Query, Edit, Put, Turn}
+use Rattle.commands.specs.Operations.{bound_key, AskedKey, Operation, Query, Edit, Put, Turn}
 use Rattle.book.specs.declared.record.Record.{Record}
 use Rattle.book.specs.declared.record.Record.TheVariants.{Start, Bound, Turned}
 use Rattle.book.specs.declared.directory_refusal.Refusal.{Refusal}
@@ -17,7 +17,8 @@ use Rattle.std.specs.List.{AllByRecursion}
 use Rattle.book.specs.Replays.{after_answer, replayed, replayed_all, with_salt_of, with_salts_of}
 use Rattle.book.specs.Shows.{Provider, index_of}
 use Rattle.book.specs.Turns.{Declines, KeepsOne, Turn as Turns}
-use Rattle.book.proofs.Stepping.{stepped}
+use Rattle.book.proofs.Keys.{asked_again}
+use Rattle.book.proofs.Stepping.{put_passed, stepped}
 use Rattle.journal.specs.declared.beginning.Beginning.{Beginning}
 use Rattle.journal.specs.Journals.{KeepsRecord, LosesRecord, JournalState}
 use Rattle.journal.specs.Openings.{IsCut, OpensTo, RecordsLead}
@@ -52,18 +53,24 @@ module _ (by : List ℕ → List ℕ) (other : Book) where
   again book middle (Query question) answer kept e does = absurd cc
   again book middle (Edit (Put Register name key)) answer kept e does =
       let s = stepped by book (Edit (Put Register name key)) answer middle does in
-      let same : Bound Register book.salt name key ≡ kept = cc in
+      let has = put_passed by book Register name key s.none in
+      let same : Bound Register book.salt name (bound_key key) ≡ kept = cc in
       let old = with_salts_of other book in
-      let R : Option Refusal → Option Book = λ why. option_map (with_salts_of old) (after_answer (unless_refused why (with_salt_of (Bound Register book.salt name key) old) (Edit (Put Register name key)))) in
+      let salted = with_salt_of (Bound Register book.salt name (bound_key key)) old in
+      let R : Option Refusal → Option Book = λ why. option_map (with_salts_of old) (after_answer (unless_refused why salted (Edit (Put Register name key)))) in
       subst (λ (k : Record). replayed by old k ≡ Some (with_salts_of other middle)) same
-      (ap R s.none ∙ ap (λ (b : Book). Some (with_salts_of other b)) (sym s.does.1))
+      (subst (λ (k : AskedKey). option_map (with_salts_of old) (after_answer (step by salted (Edit (Put Register name k)))) ≡ Some (with_salts_of other middle)) (sym (asked_again key has.policy))
+      (ap R s.none ∙ ap (λ (b : Book). Some (with_salts_of other b)) (sym s.does.1)))
   again book middle (Edit (Put Change name key)) answer kept e does =
       let s = stepped by book (Edit (Put Change name key)) answer middle does in
-      let same : Bound Change book.salt name key ≡ kept = cc in
+      let has = put_passed by book Change name key s.none in
+      let same : Bound Change book.salt name (bound_key key) ≡ kept = cc in
       let old = with_salts_of other book in
-      let R : Option Refusal → Option Book = λ why. option_map (with_salts_of old) (after_answer (unless_refused why (with_salt_of (Bound Change book.salt name key) old) (Edit (Put Change name key)))) in
+      let salted = with_salt_of (Bound Change book.salt name (bound_key key)) old in
+      let R : Option Refusal → Option Book = λ why. option_map (with_salts_of old) (after_answer (unless_refused why salted (Edit (Put Change name key)))) in
       subst (λ (k : Record). replayed by old k ≡ Some (with_salts_of other middle)) same
-      (ap R s.none ∙ ap (λ (b : Book). Some (with_salts_of other b)) (sym s.does.1))
+      (subst (λ (k : AskedKey). option_map (with_salts_of old) (after_answer (step by salted (Edit (Put Change name k)))) ≡ Some (with_salts_of other middle)) (sym (asked_again key has.policy))
+      (ap R s.none ∙ ap (λ (b : Book). Some (with_salts_of other b)) (sym s.does.1)))
   again book middle (Edit (Turn epoch nonce)) answer kept e does =
       let s = stepped by book (Edit (Turn epoch nonce)) answer middle does in
       let same : Turned epoch nonce ≡ kept = cc in

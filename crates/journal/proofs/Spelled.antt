@@ -1,6 +1,6 @@
 -- A record is read exactly where one is spelled.
-use Rattle.std.proofs.Common.{◌≡◌, ℕ, zero, suc, ◌+◌, ◌*◌, ◌<◌, ◌≤◌, ◌^◌, List, [], ◌∷◌, ◌++◌, length, Bool, true, false, leb, Some, None, Ok, Err, refl, sym, ap, subst, ◌∙◌, arith, lit≤, true≢false}
-use Rattle.std.specs.Prelude.{◌==◌}
+use Rattle.std.proofs.Common.{◌≡◌, ℕ, zero, suc, ◌+◌, ◌*◌, ◌<◌, ◌≤◌, ◌^◌, List, [], ◌∷◌, ◌++◌, length, Bool, true, false, leb, Option, Some, None, Ok, Err, refl, sym, ap, subst, ◌∙◌, arith, lit≤, true≢false}
+use Rattle.std.specs.Prelude.{◌==◌, if◌then◌else◌}
 use Rattle.std.proofs.lemmas.Bool.{and_parts, eqb-true, eq-eqb, leb-true, le-leb}
 use Rattle.std.specs.Int.{byte_at}
 use Rattle.encoding.specs.declared.fault.Fault.TheVariants.{OutOfRange}
@@ -9,48 +9,99 @@ use Rattle.encoding.specs.Endian.{big_bytes}
 use Rattle.encoding.specs.Fields.{IsField}
 use Rattle.encoding.specs.Forms.{counted_bytes}
 use Rattle.encoding.specs.Limits.{IsKeyData, IsName, IsWithin}
-use Rattle.encoding.specs.Reading.{Reading, is_within, read_byte, read_counted, read_number, read_where}
-use Rattle.encoding.proofs.Fields.{allowed_field, byte_field, bytes_field, counted_field, numbers_field, refused_read, renamed_field, respelled_field, tested_field, then_field}
+use Rattle.encoding.specs.Policies.{has_policy, policy_bytes}
+use Rattle.encoding.specs.declared.policy.Policy.{Policy}
+use Rattle.encoding.specs.Reading.{Reading, is_within, read_byte, read_counted, read_number, read_policy_if, read_where}
+use Rattle.encoding.proofs.Fields.{allowed_field, byte_field, bytes_field, counted_field, numbers_field, policy_if_field, refused_read, renamed_field, respelled_field, tested_field, then_field}
 use Rattle.encoding.proofs.FieldsOf.{both}
 use Rattle.commands.specs.declared.edit.Verb.{Verb}
 use Rattle.commands.specs.declared.edit.Verb.TheVariants.{Register, Change}
 use Rattle.book.specs.declared.record.Record.{Record}
 use Rattle.book.specs.declared.record.Record.TheVariants.{Start, Bound, Turned}
 use Rattle.journal.specs.declared.beginning.Beginning.{Beginning}
-use Rattle.journal.specs.Records.{beginning_of, bound_of, read_bound, read_later, read_later_of, read_mark, read_rotated, read_start, read_turned, read_up_to, read_verb, rotated_of, turned_of, verb_of, record_bytes, start_bytes, verb_byte, IsLater, IsStart}
+use Rattle.journal.specs.Records.{beginning_of, bound_of, read_bound, read_later, read_later_of, read_mark, read_rotated, read_start, read_turned, read_up_to, read_verb, read_verb_of, read_with, rotated_of, turned_of, record_bytes, start_bytes, verb_byte, IsLater, IsStart}
 
 -- ---- verbs
 
-abbrev pub IsVerbByte : ℕ → Type 0
-IsVerbByte byte = (byte < 256) × (is_within 1 2 byte ≡ true)
+-- a verb, and the policy behind it if there is one
+abbrev pub Verbed : Type 0
+Verbed = Verb × Option Policy
 
-abbrev pub IsVerb : Verb → Type 0
-IsVerb verb = IsVerbByte (verb_byte verb) × (verb_of (verb_byte verb) ≡ verb)
+abbrev pub mark_of : Verbed → ℕ
+mark_of verbed = verb_byte verbed.0 (has_policy verbed.1)
 
-pub is_verb : (verb : Verb) → IsVerb verb
-is_verb Register = ((lit≤ tt, refl), refl)
-is_verb Change = ((lit≤ tt, refl), refl)
+abbrev pub policy_behind : Verbed → List ℕ
+policy_behind verbed = policy_bytes verbed.1
 
-pub verb_again : (byte : ℕ) → IsVerbByte byte → verb_byte (verb_of byte) ≡ byte
-verb_again zero h = absurd cc
-verb_again (suc zero) h = refl
-verb_again (suc (suc zero)) h = refl
-verb_again (suc (suc (suc byte))) h = absurd (omega (arith, leb-true (suc (suc (suc byte))) 2 (and_parts _ _ h.1).1))
+abbrev pub verb_bytes : Verbed → List ℕ
+verb_bytes verbed = (mark_of verbed ∷ []) ++ policy_behind verbed
 
-pub verb_field : IsField read_verb (λ verb. verb_byte verb ∷ []) (λ _. Unit {0})
+-- the byte of some verb
+abbrev pub IsMark : ℕ → Type 0
+IsMark byte = (byte < 256) × (is_within 1 4 byte ≡ true)
+
+pub is_mark : (verb : Verb) (has : Bool) → IsMark (verb_byte verb has)
+is_mark Register false = (lit≤ tt, refl)
+is_mark Change false = (lit≤ tt, refl)
+is_mark Register true = (lit≤ tt, refl)
+is_mark Change true = (lit≤ tt, refl)
+
+-- the verb of a byte, and whether a policy follows
+abbrev marked : ℕ → Verb × Bool
+marked byte = if byte == 1 then (Register, false) else (if byte == 2 then (Change, false) else (if byte == 3 then (Register, true) else (Change, true)))
+
+marked_again : (verb : Verb) (has : Bool) → marked (verb_byte verb has) ≡ (verb, has)
+marked_again Register false = refl
+marked_again Change false = refl
+marked_again Register true = refl
+marked_again Change true = refl
+
+-- what has this verb, and a policy or none
+abbrev IsWith : Verb → Bool → Verbed → Type 0
+IsWith verb has verbed = (has_policy verbed.1 ≡ has) × ((verb, verbed.1) ≡ verbed)
+
+-- what begins with this byte
+abbrev pub HasMark : ℕ → Verbed → Type 0
+HasMark byte verbed = Unit {0} × (mark_of verbed ≡ byte)
+
+pub with_mark : (verb : Verb) (has : Bool) (verbed : Verbed) → IsWith verb has verbed → HasMark (verb_byte verb has) verbed
+with_mark verb has verbed h = (tt, ap mark_of (sym h.1) ∙ ap (verb_byte verb) h.0)
+
+pub mark_with : (verb : Verb) (has : Bool) (verbed : Verbed) → HasMark (verb_byte verb has) verbed → IsWith verb has verbed
+mark_with verb has verbed h =
+    let same : (verbed.0, has_policy verbed.1) ≡ (verb, has) = sym (marked_again verbed.0 (has_policy verbed.1)) ∙ ap marked h.1 ∙ marked_again verb has in
+    (ap (λ (x : Verb × Bool). x.1) same, ap (λ (x : Verb × Bool). (x.0, verbed.1)) (sym same))
+
+with_field : (verb : Verb) (has : Bool) → IsField (read_with verb has) policy_behind (HasMark (verb_byte verb has))
+with_field verb has =
+    allowed_field _ policy_behind (IsWith verb has) (HasMark (verb_byte verb has)) (with_mark verb has) (mark_with verb has)
+    (renamed_field (λ (policy : Option Policy). (verb, policy)) (λ (verbed : Verbed). verbed.1) (read_policy_if has) policy_bytes (λ policy. has_policy policy ≡ has) (λ _ _. refl) (policy_if_field has))
+
+-- what follows each byte of a verb
+pub marks : (byte : ℕ) → IsMark byte → IsField (read_verb_of byte) policy_behind (HasMark byte)
+marks zero h = absurd cc
+marks (suc zero) h = with_field Register false
+marks (suc (suc zero)) h = with_field Change false
+marks (suc (suc (suc zero))) h = with_field Register true
+marks (suc (suc (suc (suc zero)))) h = with_field Change true
+marks (suc (suc (suc (suc (suc byte))))) h = absurd (omega (arith, leb-true (suc (suc (suc (suc (suc byte))))) 4 (and_parts _ _ h.1).1))
+
+pub mark_field : IsField (read_where (is_within 1 4) read_byte) (λ byte. byte ∷ []) IsMark
+mark_field = tested_field (is_within 1 4) read_byte (λ byte. byte ∷ []) (λ byte. byte < 256) byte_field
+
+pub verb_field : IsField read_verb verb_bytes (λ _. Unit {0})
 unfolding read_verb
 verb_field =
-    allowed_field _ _ IsVerb (λ _. Unit {0}) (λ _ _. tt) (λ verb _. is_verb verb)
-    (renamed_field verb_of verb_byte (read_where (is_within 1 2) read_byte) (λ byte. byte ∷ []) IsVerbByte verb_again
-    (tested_field (is_within 1 2) read_byte (λ byte. byte ∷ []) (λ byte. byte < 256) byte_field))
+    allowed_field _ _ (λ verbed. IsMark (mark_of verbed) × Unit {0}) (λ _. Unit {0}) (λ _ _. tt) (λ verbed _. (is_mark verbed.0 (has_policy verbed.1), tt))
+    (then_field mark_of (read_where (is_within 1 4) read_byte) read_verb_of (λ byte. byte ∷ []) policy_behind IsMark (λ _. Unit {0}) mark_field marks)
 
 -- ---- marks, and lengths that are refused at their first byte
 
-pub mark_field : {A : Type 0} (mark : ℕ) {f : List ℕ → Reading A} {s : A → List ℕ} {P : A → Type 0} → mark < 256 → IsField f s P → IsField (read_mark mark f) (λ x. mark ∷ s x) P
-mark_field mark {f} {s} {P} small field =
-    let IsMark : ℕ → Type 0 = λ byte. (byte < 256) × ((mark == byte) ≡ true) in
-    allowed_field (read_mark mark f) (λ x. mark ∷ s x) (λ x. IsMark mark × P x) P (λ x h. h.1) (λ x h. ((small, eq-eqb mark mark refl), h))
-    (then_field (λ _. mark) (read_where (λ byte. mark == byte) read_byte) (λ _. f) (λ byte. byte ∷ []) s IsMark P
+pub marked_field : {A : Type 0} (mark : ℕ) {f : List ℕ → Reading A} {s : A → List ℕ} {P : A → Type 0} → mark < 256 → IsField f s P → IsField (read_mark mark f) (λ x. mark ∷ s x) P
+marked_field mark {f} {s} {P} small field =
+    let IsThis : ℕ → Type 0 = λ byte. (byte < 256) × ((mark == byte) ≡ true) in
+    allowed_field (read_mark mark f) (λ x. mark ∷ s x) (λ x. IsThis mark × P x) P (λ x h. h.1) (λ x h. ((small, eq-eqb mark mark refl), h))
+    (then_field (λ _. mark) (read_where (λ byte. mark == byte) read_byte) (λ _. f) (λ byte. byte ∷ []) s IsThis P
     (tested_field (λ byte. mark == byte) read_byte (λ byte. byte ∷ []) (λ byte. byte < 256) byte_field)
     (λ byte h. allowed_field f s P (λ x. P x × (mark ≡ byte)) (λ x p. (p, eqb-true mark byte h.1)) (λ x p. p.0) field))
 
@@ -104,7 +155,7 @@ is_beginning beginning h = ((h.0, (h.1, (h.2, h.3))), refl)
 pub start_field : IsField read_start start_bytes IsStart
 unfolding read_start
 start_field =
-    mark_field 0x4e (lit≤ tt) (mark_field 1 (lit≤ tt)
+    marked_field 0x4e (lit≤ tt) (marked_field 1 (lit≤ tt)
     (allowed_field _ (λ beginning. spelled_beginning (beginning_parts beginning)) IsBeginning IsStart beginning_is is_beginning
     (renamed_field beginning_of beginning_parts _ spelled_beginning BeginningParts (λ _ _. refl)
     (both (numbers_field 8) (both (bytes_field 32) (both (bytes_field 32) (bytes_field 32)))))))
@@ -114,7 +165,7 @@ start_field =
 -- what follows the kind byte
 abbrev pub later_parts : Record → List ℕ
 later_parts (Start epoch nonce signing_key vuf_key) = []
-later_parts (Bound verb salt name key) = (verb_byte verb ∷ []) ++ (salt ++ (counted_bytes name ++ counted_bytes key))
+later_parts (Bound verb salt name key) = verb_bytes (verb, key.policy) ++ (salt ++ (counted_bytes name ++ counted_bytes key.value))
 later_parts (Turned epoch None) = big_bytes 8 epoch
 later_parts (Turned epoch (Some nonce)) = big_bytes 8 epoch ++ nonce
 
@@ -127,15 +178,15 @@ kind_of (Turned epoch (Some nonce)) = 0x4b
 abbrev pub OfKind : ℕ → Record → Type 0
 OfKind kind kept = IsLater kept × (kind_of kept ≡ kind)
 
-abbrev pub bound_parts : Record → Verb × (List ℕ × (List ℕ × List ℕ))
-bound_parts (Start epoch nonce signing_key vuf_key) = (Register, ([], ([], [])))
-bound_parts (Bound verb salt name key) = (verb, (salt, (name, key)))
-bound_parts (Turned epoch _) = (Register, ([], ([], [])))
+abbrev pub bound_parts : Record → Verbed × (List ℕ × (List ℕ × List ℕ))
+bound_parts (Start epoch nonce signing_key vuf_key) = ((Register, None), ([], ([], [])))
+bound_parts (Bound verb salt name key) = ((verb, key.policy), (salt, (name, key.value)))
+bound_parts (Turned epoch _) = ((Register, None), ([], ([], [])))
 
-abbrev pub spelled_bound : Verb × (List ℕ × (List ℕ × List ℕ)) → List ℕ
-spelled_bound parts = (verb_byte parts.0 ∷ []) ++ (parts.1.0 ++ (counted_bytes parts.1.1.0 ++ counted_bytes parts.1.1.1))
+abbrev pub spelled_bound : Verbed × (List ℕ × (List ℕ × List ℕ)) → List ℕ
+spelled_bound parts = verb_bytes parts.0 ++ (parts.1.0 ++ (counted_bytes parts.1.1.0 ++ counted_bytes parts.1.1.1))
 
-abbrev pub BoundParts : Verb × (List ℕ × (List ℕ × List ℕ)) → Type 0
+abbrev pub BoundParts : Verbed × (List ℕ × (List ℕ × List ℕ)) → Type 0
 BoundParts parts = Unit {0} × (Is32Bytes parts.1.0 × (IsName parts.1.1.0 × IsKeyData parts.1.1.1))
 
 abbrev pub IsBinding : Record → Type 0

@@ -1,12 +1,14 @@
 -- The records: how they are written (the forms are this directory's own), and how they are read from the front of
 -- bytes. A number has its highest byte first.
-use Rattle.std.specs.Prelude.{ℕ, ◌<◌, ◌^◌, ◌/◌, ◌==◌, nat_le, if◌then◌else◌, List, [], ◌∷◌, ◌++◌, Some, None, Err, flat_map}
+use Rattle.std.specs.Prelude.{ℕ, ◌<◌, ◌^◌, ◌/◌, ◌==◌, nat_le, if◌then◌else◌, Bool, true, false, List, [], ◌∷◌, ◌++◌, Option, Some, None, Err, flat_map}
 use Rattle.byteorder.specs.Endian.{big_bytes}
 use Rattle.encoding.specs.Bytes.{Is32Bytes}
 use Rattle.encoding.specs.Forms.{counted_bytes}
 use Rattle.encoding.specs.Limits.{IsName, IsKeyData}
-use Rattle.encoding.specs.Reading.{Reading, is_within, read_as, read_both, read_byte, read_bytes, read_counted, read_number, read_then, read_where}
+use Rattle.encoding.specs.Policies.{has_policy, policy_bytes}
+use Rattle.encoding.specs.Reading.{Reading, is_within, read_as, read_both, read_byte, read_bytes, read_counted, read_number, read_policy_if, read_then, read_where}
 use Rattle.encoding.specs.declared.fault.Fault.TheVariants.{OutOfRange}
+use Rattle.encoding.specs.declared.policy.Policy.{Policy}
 use Rattle.encoding.specs.declared.bounded.TheConstants.{MIN_LEN}
 use Rattle.encoding.specs.declared.key_data.TheConstants.{MAX_KEY_DATA_LEN}
 use Rattle.encoding.specs.declared.name.TheConstants.{MAX_NAME_LEN}
@@ -20,17 +22,19 @@ use Rattle.journal.specs.declared.forms.Later.TheVariants as later
 
 -- ---- written
 
--- 01 for a registration, 02 for a change
-abbrev pub verb_byte : Verb → ℕ
-verb_byte Register = 1
-verb_byte Change = 2
+-- 01 for a registration, 02 for a change; where a policy follows, 03 and 04
+abbrev pub verb_byte : Verb → Bool → ℕ
+verb_byte Register false = 1
+verb_byte Change false = 2
+verb_byte Register true = 3
+verb_byte Change true = 4
 
--- A start: N, the version, the epoch, the nonce, and the two public keys. A binding: O, the verb, the salt, and
--- name and key, each behind its length in two bytes. A new page: C and its epoch; or, under a nonce of its own, K,
--- its epoch and the nonce.
+-- A start: N, the version, the epoch, the nonce, and the two public keys. A binding: O, the verb, the policy if there
+-- is one, the salt, and name and key, each behind its length in two bytes. A new page: C and its epoch; or, under a
+-- nonce of its own, K, its epoch and the nonce.
 abbrev pub record_bytes : Record → List ℕ
 record_bytes (Start epoch nonce signing_key vuf_key) = 0x4e ∷ 1 ∷ (big_bytes 8 epoch ++ (nonce ++ (signing_key ++ vuf_key)))
-record_bytes (Bound verb salt name key) = 0x4f ∷ verb_byte verb ∷ (salt ++ (counted_bytes name ++ counted_bytes key))
+record_bytes (Bound verb salt name key) = 0x4f ∷ verb_byte verb (has_policy key.policy) ∷ (policy_bytes key.policy ++ (salt ++ (counted_bytes name ++ counted_bytes key.value)))
 record_bytes (Turned epoch None) = 0x43 ∷ big_bytes 8 epoch
 record_bytes (Turned epoch (Some nonce)) = 0x4b ∷ (big_bytes 8 epoch ++ nonce)
 
@@ -47,7 +51,7 @@ start_bytes beginning = record_bytes (start_of beginning)
 -- the parts are within their limits
 abbrev pub IsRecord : Record → Type 0
 IsRecord (Start epoch nonce signing_key vuf_key) = (epoch < 2 ^ 64) × Is32Bytes nonce × Is32Bytes signing_key × Is32Bytes vuf_key
-IsRecord (Bound verb salt name key) = Is32Bytes salt × IsName name × IsKeyData key
+IsRecord (Bound verb salt name key) = Is32Bytes salt × IsName name × IsKeyData key.value
 IsRecord (Turned epoch None) = epoch < 2 ^ 64
 IsRecord (Turned epoch (Some nonce)) = (epoch < 2 ^ 64) × Is32Bytes nonce
 
@@ -63,17 +67,24 @@ IsLater (Turned epoch nonce) = IsRecord (Turned epoch nonce)
 
 -- ---- read
 
-abbrev pub verb_of : ℕ → Verb
-verb_of byte = if byte == 1 then Register else Change
+-- this verb, and the policy behind it if there is one
+abbrev pub read_with : Verb → Bool → List ℕ → Reading (Verb × Option Policy)
+read_with verb has_policy = read_as (λ policy. (verb, policy)) (read_policy_if has_policy)
 
-unfoldable pub read_verb : List ℕ → Reading Verb
-read_verb = read_as verb_of (read_where (is_within 1 2) read_byte)
+-- what follows this byte of a verb
+abbrev pub read_verb_of : ℕ → List ℕ → Reading (Verb × Option Policy)
+read_verb_of byte bytes =
+    if byte == 1 then read_with Register false bytes else (if byte == 2 then read_with Change false bytes
+    else (if byte == 3 then read_with Register true bytes else (if byte == 4 then read_with Change true bytes else Err OutOfRange)))
+
+unfoldable pub read_verb : List ℕ → Reading (Verb × Option Policy)
+read_verb = read_then (read_where (is_within 1 4) read_byte) read_verb_of
 
 abbrev pub beginning_of : ℕ × (List ℕ × (List ℕ × List ℕ)) → Beginning
 beginning_of parts = record { epoch = parts.0; nonce = parts.1.0; signing_key = parts.1.1.0; vuf_key = parts.1.1.1 }
 
-abbrev pub bound_of : Verb × (List ℕ × (List ℕ × List ℕ)) → Record
-bound_of parts = Bound parts.0 parts.1.0 parts.1.1.0 parts.1.1.1
+abbrev pub bound_of : (Verb × Option Policy) × (List ℕ × (List ℕ × List ℕ)) → Record
+bound_of parts = Bound parts.0.0 parts.1.0 parts.1.1.0 (record { value = parts.1.1.1; policy = parts.0.1 })
 
 -- a value behind one byte, as a kind or a version
 abbrev pub read_mark : {A : Type 0} → ℕ → (List ℕ → Reading A) → List ℕ → Reading A
@@ -114,5 +125,5 @@ read_later = read_then read_byte read_later_of
 
 -- the record of a command, which is read with its name and its key where they stand
 abbrev pub later_seen : Later → Record
-later_seen (later.Bound verb salt name key) = Bound verb salt name.now key.now
+later_seen (later.Bound verb salt name key policy) = Bound verb salt name.now (record { value = key.now; policy = policy })
 later_seen (later.Turned epoch nonce) = Turned epoch nonce

@@ -12,7 +12,8 @@ use crate::beginning::Beginning;
 use book::Record;
 use commands::Verb;
 use encoding::{
-    Cursor, Fault, Hash32, KeyData, MAX_KEY_DATA_LEN, MAX_NAME_LEN, MIN_LEN, Name, Text,
+    BoundKey, Cursor, Fault, Hash32, KeyData, MAX_KEY_DATA_LEN, MAX_NAME_LEN, MIN_LEN, Name,
+    Policy, Text, policy_len,
 };
 
 /// The kind byte of a start, the letter N.
@@ -33,7 +34,7 @@ const ROTATED: u8 = 0x4b;
 /// How many bytes a start has.
 pub(crate) const START_SIZE: usize = 106;
 
-/// How many bytes a binding has beside its name and its key.
+/// How many bytes a binding has beside its policy, its name and its key.
 const BOUND_SIZE: usize = 38;
 
 /// How many bytes a new page has.
@@ -46,12 +47,13 @@ const ROTATED_SIZE: usize = 41;
 /// of them, and is copied wherever it is handed on.
 #[derive(Drop)]
 pub(crate) enum Later<'a> {
-    /// A key that is put to a name, with the salt of the commitment.
+    /// A key that is put to a name, with its policy if it has one, and the salt of the commitment.
     Bound {
         verb: Verb,
         salt: Hash32,
         name: &'a [u8],
         key: &'a [u8],
+        policy: Option<Policy>,
     },
     /// A new page, of this epoch, and of this nonce, or of the last page's.
     Turned {
@@ -60,18 +62,20 @@ pub(crate) enum Later<'a> {
     },
 }
 
-/// The byte of a verb.
-fn verb_byte(verb: Verb) -> u8
-    ensures { result ≡ verb_byte verb }
+/// The byte of a verb, where a policy stands behind it or none.
+fn verb_byte(verb: Verb, has_policy: bool) -> u8
+    ensures { result ≡ verb_byte verb has_policy }
 {
     match verb {
+        Verb::Register if has_policy => 3,
         Verb::Register => 1,
+        Verb::Change if has_policy => 4,
         Verb::Change => 2,
     }
 }
 
 /// The bytes of a record: 106 of a start, 9 of a new page, 41 of one under a nonce of its own, and 38 of a
-/// binding beside its name and key.
+/// binding beside its policy, its name and its key.
 pub(crate) fn record_text(what: &Record) -> Text
     ensures text { result ≡ record_bytes what.now }
     ensures record { IsRecord what.now }
@@ -96,7 +100,8 @@ pub(crate) fn record_text(what: &Record) -> Text
             name,
             key,
         } => {
-            text.push_slice(&[BOUND, verb_byte(*verb)]);
+            text.push_slice(&[BOUND, verb_byte(*verb, key.policy.is_some())]);
+            text.push_policy(key.policy);
             text.push_slice(salt.bytes());
             text.push_counted(name.bytes());
             text.push_counted(key.bytes());
@@ -160,8 +165,10 @@ pub(crate) fn read_later<'a>(cursor: &mut Cursor<'a>) -> Result<Later<'a>, Fault
 fn read_bound<'a>(cursor: &mut Cursor<'a>) -> Result<Later<'a>, Fault>
     ensures { Gives later_seen result cursor.new (read_bound cursor.old) }
 {
+    let (verb, policy) = read_verb(cursor)?;
     Ok(Later::Bound {
-        verb: read_verb(cursor)?,
+        verb,
+        policy,
         salt: cursor.hash32()?,
         name: read_up_to(cursor, MAX_NAME_LEN)?,
         key: read_up_to(cursor, MAX_KEY_DATA_LEN)?,
@@ -169,12 +176,14 @@ fn read_bound<'a>(cursor: &mut Cursor<'a>) -> Result<Later<'a>, Fault>
 }
 
 #[tactic(auto, unfolding(crate::specs::Records::read_verb))]
-fn read_verb(cursor: &mut Cursor<'_>) -> Result<Verb, Fault>
-    ensures { Gives (λ verb. verb) result cursor.new (read_verb cursor.old) }
+fn read_verb(cursor: &mut Cursor<'_>) -> Result<(Verb, Option<Policy>), Fault>
+    ensures { Gives (λ read. read) result cursor.new (read_verb cursor.old) }
 {
     match cursor.u8()? {
-        1 => Ok(Verb::Register),
-        2 => Ok(Verb::Change),
+        1 => Ok((Verb::Register, cursor.policy_if(false)?)),
+        2 => Ok((Verb::Change, cursor.policy_if(false)?)),
+        3 => Ok((Verb::Register, cursor.policy_if(true)?)),
+        4 => Ok((Verb::Change, cursor.policy_if(true)?)),
         _ => Err(Fault::OutOfRange),
     }
 }
@@ -200,18 +209,22 @@ pub(crate) fn later_record(what: &Later<'_>) -> Record
             salt,
             name,
             key,
+            policy,
         } => {
             let Ok(name) = Name::new(name) else {
                 unreachable!();
             };
-            let Ok(key) = KeyData::new(key) else {
+            let Ok(value) = KeyData::new(key) else {
                 unreachable!();
             };
             Record::Bound {
                 verb: *verb,
                 salt: *salt,
                 name,
-                key,
+                key: BoundKey {
+                    value,
+                    policy: *policy,
+                },
             }
         }
         Later::Turned { epoch, nonce } => Record::Turned {
@@ -227,7 +240,12 @@ pub(crate) fn later_size(what: &Later<'_>) -> usize
     ensures { result ≡ length (record_bytes (later_seen what.now)) }
 {
     match what {
-        Later::Bound { name, key, .. } => BOUND_SIZE + name.len() + key.len(),
+        Later::Bound {
+            name,
+            key,
+            policy,
+            ..
+        } => BOUND_SIZE + policy_len(*policy) + name.len() + key.len(),
         Later::Turned { nonce: None, .. } => TURNED_SIZE,
         Later::Turned { nonce: Some(_), .. } => ROTATED_SIZE,
     }

@@ -98,8 +98,9 @@ fn text_ahead(ahead: &mut Cursor<'_>) -> Option<NodeText> {
             salt,
             name,
             key,
+            policy,
             ..
-        } => short_commit_text(&salt, name, key),
+        } => short_commit_text(&salt, name, key, policy),
         Later::Turned { .. } => None,
     }
 }

@@ -4,7 +4,7 @@ use crate::roots::provider_vuf;
 use crate::run::Run;
 use crate::tree::Plain;
 use commit::commit;
-use encoding::{Hash32, Index, KeyData, Name, Small};
+use encoding::{BoundKey, Hash32, Index, KeyData, Name, Small};
 use nodehash::Sha256Hash;
 use prefixtree::{Item, Tree, placed};
 use proofs::End;
@@ -17,7 +17,7 @@ pub(crate) struct Held {
     pub(crate) value: Small,
     pub(crate) index: Index,
     pub(crate) salt: Hash32,
-    pub(crate) key: KeyData,
+    pub(crate) key: BoundKey,
 }
 
 /// A number that this one is spread to, so that neighbours lie far apart.
@@ -47,11 +47,14 @@ fn named(bytes: &[u8; 16]) -> Name {
 }
 
 /// These bytes as a key.
-pub(crate) fn keyed(bytes: &[u8; 32]) -> KeyData {
-    let Ok(key) = KeyData::new(bytes) else {
+pub(crate) fn keyed(bytes: &[u8; 32]) -> BoundKey {
+    let Ok(value) = KeyData::new(bytes) else {
         unreachable!()
     };
-    key
+    BoundKey {
+        value,
+        policy: None,
+    }
 }
 
 impl Held {

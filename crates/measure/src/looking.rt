@@ -8,7 +8,7 @@ use proofs::Statement;
 fn look(run: &Run, hash: &mut Sha256Hash, client: &mut Following, answer: &Answered) -> u64 {
     let (vuf, epoch) = (provider_vuf(), answer.body.epoch);
     match client.look(hash, &vuf, &answer.name, epoch, &answer.reply) {
-        Ok(Statement::Present(_)) => 1,
+        Ok(Statement::Present(_, _)) => 1,
         Ok(_) => 0,
         Err(_) => {
             run.fail();

@@ -84,6 +84,7 @@ fn write_frame(run: &Run, kind: Kind, entry: &Entry, stream: &mut Vec<u8>) {
             verb: Verb::Register,
             name,
             key,
+            policy: None,
         }),
     };
     if !request.fits() || request.write(stream).is_err() {

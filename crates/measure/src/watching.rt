@@ -54,7 +54,7 @@ fn measure_rounds(run: &Run, monitor: &mut Watching, pages: &Pages, epochs: usiz
 /// A monitor of the first name.
 fn monitor_of(run: &Run, pages: &Pages, client: Following) -> Option<Watching> {
     match pages.held.first() {
-        Some(held) => Some(Monitor::new(
+        Some(held) => Some(Monitor::from_start(
             run.alloc(),
             client,
             held.name.copied(),

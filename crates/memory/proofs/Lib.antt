@@ -4,6 +4,7 @@ pub mod Left
 pub mod Joined
 pub mod Indexed
 pub mod OneWord
+pub mod FoundTexts
 pub mod OneItem
 pub mod SaidLines
 pub mod Least

@@ -1,5 +1,5 @@
 -- A line is of one item.
-use Rattle.std.proofs.Common.{◌≡◌, ℕ, Bool, true, false, List, [], ◌∷◌, Option, codes, refl, sym, ap, ap₂, subst, ◌∙◌, inl, inr, arith}
+use Rattle.std.proofs.Common.{◌≡◌, ℕ, Bool, true, false, List, [], ◌∷◌, Option, None, Some, codes, refl, sym, ap, ap₂, subst, ◌∙◌, inl, inr, arith}
 use Rattle.std.specs.Fmt.{decimal}
 use Rattle.std.specs.List.{AllByRecursion}
 use Rattle.auditor.specs.declared.evidence.Evidence.{Evidence as EvidenceMade}
@@ -8,14 +8,15 @@ use Rattle.audits.specs.Parts.{evidence_parts}
 use Rattle.audits.proofs.Parts.{IsBytes-first, IsBytes-second}
 use Rattle.auditor.specs.declared.evidence.Evidence.TheVariants.{Root, Broken}
 use Rattle.rootchain.specs.declared.evidence.RootEvidence.TheVariants.{Fork, Link, Skip}
+use Rattle.encoding.specs.declared.bound_key.BoundKey.{BoundKey}
 use Rattle.hex.specs.Hex.{encode_lower}
 use Rattle.rootchain.specs.Promises.{signed_promise_bytes}
-use Rattle.memory.specs.Lines.{found_word, item_line, line_of, promise_word, IsEvidenceLine, IsLineOf, IsMark, IsOlderLine, IsSound}
+use Rattle.memory.specs.Lines.{found_words, item_line, line_of, promise_word, IsEvidenceLine, IsLineOf, IsMark, IsOlderLine, IsSound}
 use Rattle.memory.specs.declared.alarm.Alarm.{Alarm as AlarmMade}
 use Rattle.memory.specs.declared.item.Item.{Item}
 use Rattle.memory.specs.declared.item.Item.TheVariants.{Promised, Watched, Alarm, Evidence}
 use Rattle.memory.specs.declared.mark.Mark.{Mark}
-use Rattle.memory.proofs.OneWord.{decimal_same, found_same, hex_same, other_words, own_same, plain-found, plain-promise_word, plain_word, promise_same, IsBytes-promise}
+use Rattle.memory.proofs.OneWord.{IsBytes-promise, decimal_same, few, found_same, heads, hex_same, other_words, own_same, plain-found, plain-promise_word, plain_word, promise_same}
 use Rattle.memory.proofs.Plain.{no_space, plain-append, plain-decimal, plain-hex, IsPlain}
 use Rattle.memory.proofs.Splits.{first_same, never_alone}
 
@@ -60,7 +61,7 @@ first_of (Evidence line) = line
 abbrev pub rest_of : Item → List (List ℕ)
 rest_of (Promised promised) = encode_lower (signed_promise_bytes promised.signed) ∷ []
 rest_of (Watched mark) = encode_lower mark.name ∷ decimal mark.since ∷ decimal mark.epoch ∷ []
-rest_of (Alarm alarm) = encode_lower alarm.name ∷ decimal alarm.epoch ∷ found_word alarm.found ∷ []
+rest_of (Alarm alarm) = encode_lower alarm.name ∷ decimal alarm.epoch ∷ found_words alarm.found
 rest_of (Evidence line) = []
 
 pub line_parts : (item : Item) → item_line item ≡ line_of (first_of item ∷ rest_of item)
@@ -81,7 +82,7 @@ plain-since mark sound = plain-decimal mark.since (omega (arith, sound.1, sound.
 pub plain-item : (item : Item) → IsSound item → ArePlain (first_of item ∷ rest_of item)
 plain-item (Promised promised) sound = (plain-promise_word promised.is_own, (plain-hex (signed_promise_bytes promised.signed) (IsBytes-promise promised.signed sound), tt))
 plain-item (Watched mark) sound = (plain-watched, (plain-hex mark.name sound.0.2, (plain-since mark sound, (plain-decimal mark.epoch sound.2, tt))))
-plain-item (Alarm alarm) sound = (plain-alarm, (plain-hex alarm.name sound.0.2, (plain-decimal alarm.epoch sound.1, (plain-found alarm.found sound.2, tt))))
+plain-item (Alarm alarm) sound = (plain-alarm, (plain-hex alarm.name sound.0.2, (plain-decimal alarm.epoch sound.1, plain-found alarm.found sound.2)))
 plain-item (Evidence line) sound = (plain-evidence line sound, tt)
 
 -- ---- equal lines
@@ -110,14 +111,8 @@ alarm_same : (one other : AlarmMade) → one.name ≡ other.name → one.epoch �
 alarm_same one other name epoch found =
     let P : List ℕ → AlarmMade = λ x. record { name = x; epoch = one.epoch; found = one.found } in
     let Q : ℕ → AlarmMade = λ x. record { name = other.name; epoch = x; found = one.found } in
-    let R : Option (List ℕ) → AlarmMade = λ x. record { name = other.name; epoch = other.epoch; found = x } in
+    let R : Option BoundKey → AlarmMade = λ x. record { name = other.name; epoch = other.epoch; found = x } in
     ap P name ∙ ap Q epoch ∙ ap R found
-
-heads : (a b : List ℕ) (xs ys : List (List ℕ)) → a ∷ xs ≡ b ∷ ys → (a ≡ b) × (xs ≡ ys)
-heads a b xs ys e = (cc, cc)
-
-few : (w : List ℕ) (ws : List (List ℕ)) → [] ≡ w ∷ ws → ⊥
-few w ws e = cc
 
 same_rest : (one other : Item) → IsSound one → IsSound other → first_of one ≡ first_of other → rest_of one ≡ rest_of other → one ≡ other
 same_rest (Promised one) (Promised other) p q first rest =
@@ -133,8 +128,7 @@ same_rest (Watched one) (Watched other) p q first rest =
 same_rest (Alarm one) (Alarm other) p q first rest =
     let a = heads _ _ _ _ rest in
     let b = heads _ _ _ _ a.1 in
-    let c = heads _ _ _ _ b.1 in
-    ap Alarm (alarm_same one other (hex_same one.name other.name p.0.2 q.0.2 a.0) (decimal_same one.epoch other.epoch p.1 q.1 b.0) (found_same one.found other.found p.2 q.2 c.0))
+    ap Alarm (alarm_same one other (hex_same one.name other.name p.0.2 q.0.2 a.0) (decimal_same one.epoch other.epoch p.1 q.1 b.0) (found_same one.found other.found p.2 q.2 b.1))
 same_rest (Evidence one) (Evidence other) p q first rest = ap Evidence first
 same_rest (Promised one) (Watched other) p q first rest = absurd (promise_watched one.is_own first)
 same_rest (Promised one) (Alarm other) p q first rest = absurd (promise_alarm one.is_own first)
@@ -165,7 +159,11 @@ plain-older mark sound = (plain-watched, (plain-hex mark.name sound.0.2, (plain-
 other_rest : (one : Item) (mark : Mark) → rest_of one ≡ older_rest mark → ⊥
 other_rest (Promised one) mark rest = few _ _ (heads _ _ _ _ rest).1
 other_rest (Watched one) mark rest = few _ _ (sym (heads _ _ _ _ (heads _ _ _ _ rest).1).1)
-other_rest (Alarm one) mark rest = few _ _ (sym (heads _ _ _ _ (heads _ _ _ _ rest).1).1)
+other_rest (Alarm one) mark rest = none one.found (heads _ _ _ _ (heads _ _ _ _ rest).1).1
+  where
+    none : (found : Option BoundKey) → found_words found ≡ [] → ⊥
+    none None e = few _ _ (sym e)
+    none (Some key) e = few _ _ (sym e)
 other_rest (Evidence one) mark rest = few _ _ rest
 
 -- a line of the older form is no line of the newer one

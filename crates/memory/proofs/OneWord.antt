@@ -1,7 +1,7 @@
 -- A word says one thing, and has neither spaces nor LFs.
 use Rattle.std.proofs.Common.{◌≡◌, ◌≢◌, ℕ, ◌^◌, ◌<◌, Bool, true, false, List, [], ◌∷◌, ◌++◌, Option, None, Some, MatchOption, Result, Ok, Err, IfSome, codes, nat_lt, ltb-true, true≢false, refl, sym, ap, subst, ◌∙◌}
 use Rattle.std.specs.Fmt.{decimal}
-use Rattle.std.specs.List.{list_all}
+use Rattle.std.specs.List.{list_all, AllByRecursion}
 use Rattle.std.specs.Str.{bytes_eq, IsUtf8}
 use Rattle.std.specs.Str.Parse.{digits_value, ParsesUnsigned}
 use Rattle.std.proofs.lemmas.Bool.{and_parts}
@@ -11,6 +11,9 @@ use Rattle.std.proofs.lemmas.Str.{IsUtf8-from_ascii}
 use Rattle.encoding.proofs.Fields.{one_spelling}
 use Rattle.encoding.specs.Bytes.{IsBytes}
 use Rattle.encoding.specs.Limits.{IsKeyData, IsName}
+use Rattle.encoding.specs.declared.bound_key.BoundKey.{BoundKey}
+use Rattle.encoding.specs.declared.policy.Policy.{Policy}
+use Rattle.encoding.specs.declared.policy.Policy.TheVariants.{Open, Final}
 use Rattle.hex.specs.Hex.{decode_of, encode_lower}
 use Rattle.hex.specs.declared.error.FromHexError.{FromHexError}
 use Rattle.hex.proofs.HexLemmas.{decode_of-encode_lower, decode_of-ok}
@@ -20,8 +23,9 @@ use Rattle.rootchain.specs.Promises.{read_signed_promise, signed_promise_bytes, 
 use Rattle.rootchain.specs.declared.signed_promise.SignedPromise.{SignedPromise}
 use Rattle.rootchain.proofs.Sizes.{signed_promise_few}
 use Rattle.memory.specs.Finding.{Finds}
-use Rattle.memory.specs.Lines.{found_word, promise_word}
-use Rattle.memory.specs.Words.{IsFoundWord, IsHexOf, IsNameWord, IsPromiseWord}
+use Rattle.encoding.specs.Policies.{policy_word}
+use Rattle.memory.specs.Lines.{found_words, policy_words, promise_word}
+use Rattle.memory.specs.Words.{IsHexOf, IsNameWord, IsPromiseWord}
 use Rattle.memory.proofs.Plain.{plain-hex, IsPlain}
 
 pub other_words : (one other : List ℕ) → bytes_eq one other ≡ false → one ≡ other → ⊥
@@ -53,15 +57,48 @@ pub absent_is_no_hex : (key : List ℕ) → IsBytes key → codes "absent" ≡ e
 unfolding hex_on_literals
 absent_is_no_hex key small e = let read = ap decode_of e ∙ decode_of-encode_lower key small in cc
 
-pub found_same : (one other : Option (List ℕ)) → IfSome one IsKeyData → IfSome other IsKeyData → found_word one ≡ found_word other → one ≡ other
-found_same None None p q e = refl
-found_same None (Some key) p q e = absurd (absent_is_no_hex key q.2 e)
-found_same (Some key) None p q e = absurd (absent_is_no_hex key p.2 (sym e))
-found_same (Some one) (Some other) p q e = ap Some (hex_same one other p.2 q.2 e)
+pub heads : (a b : List ℕ) (xs ys : List (List ℕ)) → a ∷ xs ≡ b ∷ ys → (a ≡ b) × (xs ≡ ys)
+heads a b xs ys e = (cc, cc)
 
-pub plain-found : (found : Option (List ℕ)) → IfSome found IsKeyData → IsPlain (found_word found)
-plain-found None sound = plain_word (codes "absent") refl
-plain-found (Some key) sound = plain-hex key sound.2
+pub few : (w : List ℕ) (ws : List (List ℕ)) → [] ≡ w ∷ ws → ⊥
+few w ws e = cc
+
+pub policy_word_same : (one other : Policy) → policy_word one ≡ policy_word other → one ≡ other
+policy_word_same Open Open e = refl
+policy_word_same Final Final e = refl
+policy_word_same Open Final e = absurd (other_words (codes "open") (codes "final") refl e)
+policy_word_same Final Open e = absurd (other_words (codes "final") (codes "open") refl e)
+
+policy_same : (one other : Option Policy) → policy_words one ≡ policy_words other → one ≡ other
+policy_same None None e = refl
+policy_same None (Some policy) e = absurd (few _ _ e)
+policy_same (Some policy) None e = absurd (few _ _ (sym e))
+policy_same (Some one) (Some other) e = ap Some (policy_word_same one other (heads _ _ _ _ e).0)
+
+abbrev HasKeyData : BoundKey → Type 0
+HasKeyData key = IsKeyData key.value
+
+pub found_same : (one other : Option BoundKey) → IfSome one HasKeyData → IfSome other HasKeyData → found_words one ≡ found_words other → one ≡ other
+found_same None None p q e = refl
+found_same None (Some key) p q e = absurd (absent_is_no_hex key.value q.2 (heads _ _ _ _ e).0)
+found_same (Some key) None p q e = absurd (absent_is_no_hex key.value p.2 (sym (heads _ _ _ _ e).0))
+found_same (Some one) (Some other) p q e =
+    let parts = heads _ _ _ _ e in
+    let value : one.value ≡ other.value = hex_same one.value other.value p.2 q.2 parts.0 in
+    let policy : one.policy ≡ other.policy = policy_same one.policy other.policy parts.1 in
+    λ i. Some (record { value = value i; policy = policy i })
+
+pub plain-policy_word : (policy : Policy) → IsPlain (policy_word policy)
+plain-policy_word Open = plain_word (codes "open") refl
+plain-policy_word Final = plain_word (codes "final") refl
+
+plain-policy : (policy : Option Policy) → AllByRecursion IsPlain (policy_words policy)
+plain-policy None = tt
+plain-policy (Some policy) = (plain-policy_word policy, tt)
+
+pub plain-found : (found : Option BoundKey) → IfSome found HasKeyData → AllByRecursion IsPlain (found_words found)
+plain-found None sound = (plain_word (codes "absent") refl, tt)
+plain-found (Some key) sound = (plain-hex key.value sound.2, plain-policy key.policy)
 
 pub plain-promise_word : (is_own : Bool) → IsPlain (promise_word is_own)
 plain-promise_word true = plain_word (codes "change") refl
@@ -104,23 +141,11 @@ module _ (word bytes : List ℕ) (hex : IsHexOf word bytes) where
   name_found None none = λ name is. none (subst IsName (sym (hex_same bytes name hex.0 is.0.2 (sym hex.1 ∙ is.1))) is.0)
   name_found (Some name) (sound, same) = (subst IsName (sym same) sound, hex.1 ∙ ap encode_lower (sym same))
 
-  pub key_found : (r : Option (Option (List ℕ))) → MatchOption r (¬ IsKeyData bytes) (λ found. IsKeyData bytes × (found ≡ Some bytes)) → Finds (IsFoundWord word) r
-  key_found None none = by
-    where
-      by : (found : Option (List ℕ)) → IsFoundWord word found → ⊥
-      by None is = absent_is_no_hex bytes hex.0 (sym is.1 ∙ hex.1)
-      by (Some key) is = none (subst IsKeyData (sym (hex_same bytes key hex.0 is.0.2 (sym hex.1 ∙ is.1))) is.0)
-  key_found (Some found) (sound, same) = subst (λ (f : Option (List ℕ)). IsFoundWord word f) (sym same) (sound, hex.1)
-
   pub promise_found : (r : Option SignedPromise) → Finds (SpellsPromise bytes) r → Finds (IsPromiseWord word) r
   promise_found None none = λ signed is.
       let same = hex_same bytes (signed_promise_bytes signed) hex.0 (IsBytes-promise signed is.0) (sym hex.1 ∙ is.1) in
       none signed (same, is.0)
   promise_found (Some signed) (is, sound) = (sound, hex.1 ∙ ap encode_lower is)
-
-pub no_found : (word : List ℕ) → word ≢ codes "absent" → ((bytes : List ℕ) → ¬ IsHexOf word bytes) → (found : Option (List ℕ)) → ¬ IsFoundWord word found
-no_found word other none None is = other is.1
-no_found word other none (Some key) is = none key (is.0.2, is.1)
 
 pub no_promise : (word : List ℕ) → ((bytes : List ℕ) → ¬ IsHexOf word bytes) → (signed : SignedPromise) → ¬ IsPromiseWord word signed
 no_promise word none signed is = none (signed_promise_bytes signed) (IsBytes-promise signed is.0, is.1)

@@ -1,15 +1,17 @@
 -- What the words of a line say, and that nothing else says it.
 use Rattle.std.proofs.Common.{◌≡◌, ◌≢◌, ℕ, ◌^◌, ◌<◌, Bool, true, false, List, [], ◌∷◌, ◌++◌, Option, codes, refl, sym, subst, ◌∙◌, inl, inr, arith}
 use Rattle.std.specs.Fmt.{decimal}
+use Rattle.encoding.specs.declared.bound_key.BoundKey.{BoundKey}
 use Rattle.hex.specs.Hex.{encode_lower}
 use Rattle.rootchain.specs.declared.signed_promise.SignedPromise.{SignedPromise}
 use Rattle.rootchain.specs.Promises.{signed_promise_bytes}
-use Rattle.memory.specs.Lines.{found_word, line_of, promise_word, IsEvidenceLine, IsLineOf}
-use Rattle.memory.specs.Words.{HasNoSpace, IsAlarmText, IsFinding, IsFoundWord, IsMarkText, IsNameWord, IsNumberWord, IsPromiseWord, IsSpan}
+use Rattle.memory.specs.Lines.{found_words, line_of, promise_word, IsEvidenceLine, IsLineOf}
+use Rattle.memory.specs.Words.{HasNoSpace, IsAlarmText, IsFinding, IsFoundText, IsMarkText, IsNameWord, IsNumberWord, IsPromiseWord, IsSpan}
 use Rattle.memory.specs.declared.alarm.Alarm.{Alarm as AlarmMade}
 use Rattle.memory.specs.declared.item.Item.{Item}
 use Rattle.memory.specs.declared.item.Item.TheVariants.{Promised, Watched, Alarm, Evidence}
 use Rattle.memory.specs.declared.mark.Mark.{Mark}
+use Rattle.memory.proofs.FoundTexts.{found-line}
 use Rattle.memory.proofs.OneItem.{plain-alarm, plain-evidence, plain-watched, promise_alarm, promise_watched, watched_alarm}
 use Rattle.memory.proofs.OneWord.{decimal_same, plain-promise_word}
 use Rattle.memory.proofs.Plain.{no_space, plain-decimal, plain-hex}
@@ -47,13 +49,13 @@ no_epoch text none refuses span is = refuses span.1 (span_alone text none span i
 
 -- ---- an epoch, and what was found
 
-pub no_finding : (text : List ℕ) → HasNoSpace text → (finding : ℕ × Option (List ℕ)) → ¬ IsFinding text finding
-no_finding text none finding is = never_alone (decimal finding.0) (found_word finding.1) text none (sym is.2)
+pub no_finding : (text : List ℕ) → HasNoSpace text → (finding : ℕ × Option BoundKey) → ¬ IsFinding text finding
+no_finding text none finding is = never_alone (decimal finding.0) (line_of (found_words finding.1)) text none (sym (is.2 ∙ found-line (decimal finding.0) finding.1))
 
-pub finding_two : (text first second : List ℕ) → text ≡ first ++ 32 ∷ second → HasNoSpace first → (finding : ℕ × Option (List ℕ)) → IsFinding text finding
-    → IsNumberWord first finding.0 × IsFoundWord second finding.1
+pub finding_two : (text first second : List ℕ) → text ≡ first ++ 32 ∷ second → HasNoSpace first → (finding : ℕ × Option BoundKey) → IsFinding text finding
+    → IsNumberWord first finding.0 × IsFoundText second finding.1
 finding_two text first second parts none finding is =
-    let same = first_same first (decimal finding.0) second (found_word finding.1) none (no_space _ (plain-decimal finding.0 is.0)) (sym parts ∙ is.2) in
+    let same = first_same first (decimal finding.0) second (line_of (found_words finding.1)) none (no_space _ (plain-decimal finding.0 is.0)) (sym parts ∙ is.2 ∙ found-line (decimal finding.0) finding.1) in
     ((is.0, same.0), (is.1, same.1))
 
 -- ---- what stands behind the first words
@@ -99,7 +101,7 @@ says word behind none (Watched mark) (sound, inr (at, is)) =
     let same = first_same word (codes "watched") behind (encode_lower mark.name ++ 32 ∷ decimal mark.epoch) none (no_space (codes "watched") plain-watched) is in
     (same.0, (sound.0, (decimal mark.epoch, same.1, (sound.1, sound.2, inr (at, refl)))))
 says word behind none (Alarm alarm) (sound, inl is) =
-    let rest = line_of (decimal alarm.epoch ∷ found_word alarm.found ∷ []) in
+    let rest = line_of (decimal alarm.epoch ∷ found_words alarm.found) in
     let same = first_same word (codes "alarm") behind (encode_lower alarm.name ++ 32 ∷ rest) none (no_space (codes "alarm") plain-alarm) is in
     (same.0, (sound.0, (rest, same.1, (sound.1, sound.2, refl))))
 says word behind none (Evidence line) (sound, inl is) = never_evidence word behind line sound is

@@ -5,6 +5,9 @@ use Rattle.auditor.specs.declared.evidence.Evidence.{Evidence as EvidenceMade}
 use Rattle.audits.specs.Files.{evidence_text}
 use Rattle.audits.specs.Parts.{IsFormed}
 use Rattle.encoding.specs.Limits.{IsName, IsKeyData}
+use Rattle.encoding.specs.declared.bound_key.BoundKey.{BoundKey}
+use Rattle.encoding.specs.declared.policy.Policy.{Policy}
+use Rattle.encoding.specs.Policies.{policy_word}
 use Rattle.hex.specs.Hex.{encode_lower}
 use Rattle.rootchain.specs.Promises.{signed_promise_bytes, IsSignedPromise}
 use Rattle.memory.specs.declared.alarm.Alarm.{Alarm as AlarmMade}
@@ -21,15 +24,19 @@ abbrev pub promise_word : Bool → List ℕ
 promise_word true = codes "change"
 promise_word false = codes "promise"
 
--- a key, or that there was none
-abbrev pub found_word : Option (List ℕ) → List ℕ
-found_word None = codes "absent"
-found_word (Some key) = encode_lower key
+abbrev pub policy_words : Option Policy → List (List ℕ)
+policy_words None = []
+policy_words (Some policy) = policy_word policy ∷ []
+
+-- a key, with its policy behind it if it has one, or that there was none
+abbrev pub found_words : Option BoundKey → List (List ℕ)
+found_words None = codes "absent" ∷ []
+found_words (Some key) = encode_lower key.value ∷ policy_words key.policy
 
 abbrev pub item_words : Item → List (List ℕ)
 item_words (Promised promised) = promise_word promised.is_own ∷ encode_lower (signed_promise_bytes promised.signed) ∷ []
 item_words (Watched mark) = codes "watched" ∷ encode_lower mark.name ∷ decimal mark.since ∷ decimal mark.epoch ∷ []
-item_words (Alarm alarm) = codes "alarm" ∷ encode_lower alarm.name ∷ decimal alarm.epoch ∷ found_word alarm.found ∷ []
+item_words (Alarm alarm) = codes "alarm" ∷ encode_lower alarm.name ∷ decimal alarm.epoch ∷ found_words alarm.found
 item_words (Evidence line) = line ∷ []
 
 abbrev pub item_line : Item → List ℕ
@@ -50,7 +57,7 @@ abbrev pub IsMark : Mark → Type 0
 IsMark mark = IsName mark.name × (mark.since ≤ mark.epoch) × (mark.epoch < 2 ^ 64)
 
 abbrev pub IsAlarm : AlarmMade → Type 0
-IsAlarm alarm = IsName alarm.name × (alarm.epoch < 2 ^ 64) × IfSome alarm.found IsKeyData
+IsAlarm alarm = IsName alarm.name × (alarm.epoch < 2 ^ 64) × IfSome alarm.found (λ key. IsKeyData key.value)
 
 -- what an item may hold
 abbrev pub IsSound : Item → Type 0

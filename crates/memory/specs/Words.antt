@@ -3,10 +3,11 @@ use Rattle.std.specs.Prelude.{◌≡◌, ◌≢◌, ◌⊎◌, ℕ, ◌^◌, ◌
 use Rattle.std.specs.List.{AllByRecursion}
 use Rattle.encoding.specs.Bytes.{IsBytes}
 use Rattle.encoding.specs.Limits.{IsName, IsKeyData}
+use Rattle.encoding.specs.declared.bound_key.BoundKey.{BoundKey}
 use Rattle.hex.specs.Hex.{encode_lower}
 use Rattle.rootchain.specs.Promises.{signed_promise_bytes, IsSignedPromise}
 use Rattle.rootchain.specs.declared.signed_promise.SignedPromise.{SignedPromise}
-use Rattle.memory.specs.Lines.{found_word, line_of}
+use Rattle.memory.specs.Lines.{found_words, line_of}
 use Rattle.memory.specs.declared.alarm.Alarm.{Alarm}
 use Rattle.memory.specs.declared.mark.Mark.{Mark}
 
@@ -24,8 +25,8 @@ IsNumberWord word number = (number < 2 ^ 64) × (word ≡ decimal number)
 abbrev pub IsNameWord : List ℕ → List ℕ → Type 0
 IsNameWord word name = IsName name × (word ≡ encode_lower name)
 
-abbrev pub IsFoundWord : List ℕ → Option (List ℕ) → Type 0
-IsFoundWord word found = IfSome found IsKeyData × (word ≡ found_word found)
+abbrev pub IsFoundText : List ℕ → Option BoundKey → Type 0
+IsFoundText text found = IfSome found (λ key. IsKeyData key.value) × (text ≡ line_of (found_words found))
 
 abbrev pub IsPromiseWord : List ℕ → SignedPromise → Type 0
 IsPromiseWord word signed = IsSignedPromise signed × (word ≡ encode_lower (signed_promise_bytes signed))
@@ -36,8 +37,8 @@ IsSpan text span = (span.0 ≤ span.1) × (span.1 < 2 ^ 64)
     × ((text ≡ line_of (decimal span.0 ∷ decimal span.1 ∷ [])) ⊎ ((span.0 ≡ span.1) × (text ≡ decimal span.1)))
 
 -- an epoch, and what was found
-abbrev pub IsFinding : List ℕ → ℕ × Option (List ℕ) → Type 0
-IsFinding text finding = (finding.0 < 2 ^ 64) × IfSome finding.1 IsKeyData × (text ≡ line_of (decimal finding.0 ∷ found_word finding.1 ∷ []))
+abbrev pub IsFinding : List ℕ → ℕ × Option BoundKey → Type 0
+IsFinding text finding = (finding.0 < 2 ^ 64) × IfSome finding.1 (λ key. IsKeyData key.value) × (text ≡ line_of (decimal finding.0 ∷ found_words finding.1))
 
 -- what stands behind the word `watched`
 abbrev pub IsMarkText : List ℕ → Mark → Type 0

@@ -31,7 +31,20 @@ pub(crate) fn leave_promises(promises: &mut Vec<Promised>, marks: &[Mark], teste
 fn is_needed(promised: &Promised, marks: &[Mark], tested: &[SignedPromise]) -> bool
     ensures { IsTrue result ↔ IsNeeded tested.now marks.now promised.now }
 {
-    !tested.contains(&promised.signed) || promised.is_own && has_awaiting(&promised.signed, marks)
+    is_untested(&promised.signed, tested)
+        || promised.is_own && has_awaiting(&promised.signed, marks)
+}
+
+/// Whether a promise is not among these.
+fn is_untested(signed: &SignedPromise, tested: &[SignedPromise]) -> bool
+    ensures { IsTrue result ↔ All (λ other. other ≢ signed.now) tested.now }
+{
+    for other in tested {
+        if *other == *signed {
+            return false;
+        }
+    }
+    true
 }
 
 /// Whether a mark awaits the promise.

@@ -10,7 +10,7 @@ use crate::words::{first_part, read_found, read_name, read_number, read_promise}
 use crate::{Alarm, EvidenceLine, Item, Mark, Promised};
 use auditor::Evidence;
 use audits::{ReadFault, evidence_json, read_evidence};
-use encoding::KeyData;
+use encoding::BoundKey;
 use std::alloc::{AllocError, Global};
 
 /// The item of a line without its LF, or `None` if no item has it. A mark may have the older form `watched NAME
@@ -85,7 +85,7 @@ fn mark_item(alloc: Global, text: &[u8]) -> Result<Option<Item>, AllocError>
     }
 }
 
-/// The item of a line `alarm NAME EPOCH KEY`, of which this stands behind the first word.
+/// The item of a line `alarm NAME EPOCH KEY [POLICY]`, of which this stands behind the first word.
 fn alarm_item(alloc: Global, text: &[u8]) -> Result<Option<Item>, AllocError>
     ensures { IfOk result (Finds (IsLineOf (codes "alarm" ++ 32 ∷ text.now))) }
 {
@@ -138,8 +138,8 @@ fn two_epochs(first: &[u8], second: &[u8]) -> Option<(u64, u64)>
     }
 }
 
-/// `EPOCH KEY`
-fn read_finding(alloc: Global, text: &[u8]) -> Result<Option<(u64, Option<KeyData>)>, AllocError>
+/// `EPOCH KEY [POLICY]`
+fn read_finding(alloc: Global, text: &[u8]) -> Result<Option<(u64, Option<BoundKey>)>, AllocError>
     ensures { IfOk result (Finds (IsFinding text.now)) }
 {
     let (word, Some(behind)) = first_part(text, b' ') else {

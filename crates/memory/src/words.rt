@@ -6,9 +6,9 @@ ghost use Rattle.encoding.specs.Limits.{IsKeyData, IsName};
 ghost use Rattle.hex.specs.Hex.{decode_of, encode_lower};
 ghost use Rattle.rootchain.specs.Promises.{SpellsPromise};
 ghost use Rattle.memory.specs.Finding.{Finds};
-ghost use Rattle.memory.specs.Words.{IsFoundWord, IsHexOf, IsNameWord, IsNumberWord, IsPromiseWord};
+ghost use Rattle.memory.specs.Words.{HasNoSpace, IsFoundText, IsHexOf, IsNameWord, IsNumberWord, IsPromiseWord};
 
-use encoding::{KeyData, Name};
+use encoding::{BoundKey, KeyData, Name, Policy};
 use hex::FromHexError;
 use itoa::Buffer;
 use rootchain::SignedPromise;
@@ -95,25 +95,54 @@ fn name_of(bytes: &[u8]) -> Option<Name>
     }
 }
 
-/// The key that a word writes, or that there was none.
-pub(crate) fn read_found(alloc: Global, word: &[u8]) -> Result<Option<Option<KeyData>>, AllocError>
-    ensures { IfOk result (Finds (IsFoundWord word.now)) }
+/// The key that a text writes, with its policy if it has one, or that there was none.
+pub(crate) fn read_found(alloc: Global, text: &[u8]) -> Result<Option<Option<BoundKey>>, AllocError>
+    ensures { IfOk result (Finds (IsFoundText text.now)) }
+{
+    match first_part(text, b' ') {
+        (word, Some(behind)) => read_key_with(alloc, word, behind),
+        (word, None) => read_key(alloc, word),
+    }
+}
+
+/// `KEY POLICY`
+fn read_key_with(
+    alloc: Global,
+    word: &[u8],
+    behind: &[u8],
+) -> Result<Option<Option<BoundKey>>, AllocError>
+    requires { HasNoSpace word.now }
+    ensures { IfOk result (Finds (IsFoundText (word.now ++ 32 ∷ behind.now))) }
+{
+    let Some(policy) = Policy::of_word(behind) else {
+        return Ok(None);
+    };
+    match read_hex(alloc, word)? {
+        Some(bytes) => Ok(key_of(&bytes, Some(policy))),
+        None => Ok(None),
+    }
+}
+
+/// `KEY`, or `absent`
+fn read_key(alloc: Global, word: &[u8]) -> Result<Option<Option<BoundKey>>, AllocError>
+    requires { HasNoSpace word.now }
+    ensures { IfOk result (Finds (IsFoundText word.now)) }
 {
     if word == b"absent".as_slice() {
         return Ok(Some(None));
     }
     match read_hex(alloc, word)? {
-        Some(bytes) => Ok(key_of(&bytes)),
+        Some(bytes) => Ok(key_of(&bytes, None)),
         None => Ok(None),
     }
 }
 
-/// The key of these bytes, as what was found.
-fn key_of(bytes: &[u8]) -> Option<Option<KeyData>>
-    ensures { MatchOption result (¬ IsKeyData bytes.now) (λ found. IsKeyData bytes.now × (found ≡ Some bytes.now)) }
+/// The key of these bytes with this policy, as what was found.
+fn key_of(bytes: &[u8], policy: Option<Policy>) -> Option<Option<BoundKey>>
+    ensures { MatchOption result (¬ IsKeyData bytes.now) (λ found. IsKeyData bytes.now × (found ≡ Some (record { value = bytes.now; policy = policy }))) }
 {
     match KeyData::new(bytes) {
-        Ok(key) => Some(Some(key)),
+        Ok(value) => Some(Some(BoundKey { value, policy })),
         Err(_) => None,
     }
 }

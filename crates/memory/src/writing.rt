@@ -1,15 +1,15 @@
 // The lines of what is remembered. Each function appends to the text; an `Err` says that memory ran out, and some of
 // the line may then stand behind what the text was.
 
-ghost use Rattle.std.specs.Prelude.{◌≡◌, ◌++◌, ◌∷◌, [], OnErr, OnOk, codes, decimal};
+ghost use Rattle.std.specs.Prelude.{◌≡◌, ◌++◌, ◌∷◌, [], OnErr, OnOk, Some, codes, decimal};
 ghost use Rattle.std.specs.Io.{StartsWith};
 ghost use Rattle.encoding.specs.Limits.{IsName};
 ghost use Rattle.hex.specs.Hex.{encode_lower};
-ghost use Rattle.memory.specs.Lines.{found_word, item_line, promise_word, IsNamed};
+ghost use Rattle.memory.specs.Lines.{found_words, item_line, line_of, promise_word, IsNamed};
 ghost use Rattle.memory.specs.declared.item.Item.TheVariants as items;
 
 use crate::{Alarm, EvidenceLine, Item, Mark, Promised};
-use encoding::KeyData;
+use encoding::BoundKey;
 use itoa::Buffer;
 use std::alloc::AllocError;
 use textio::{HASH_SIZE, hex_digits};
@@ -101,14 +101,27 @@ fn push_named(text: &mut Vec<u8>, word: &[u8], name: &[u8], epoch: u64) -> Resul
 }
 
 /// Appends what an alarm found.
-fn push_found(text: &mut Vec<u8>, found: &Option<KeyData>) -> Result<(), AllocError>
-    ensures ok { OnOk result (text.new.items ≡ text.old.items ++ found_word found.now) }
+fn push_found(text: &mut Vec<u8>, found: &Option<BoundKey>) -> Result<(), AllocError>
+    ensures ok { OnOk result (text.new.items ≡ text.old.items ++ line_of (found_words found.now)) }
     ensures grows { StartsWith text.new.items text.old.items }
 {
     match found {
-        Some(key) => push_hex(text, key.bytes()),
+        Some(key) => push_key(text, key),
         None => text.extend_from_slice(b"absent"),
     }
+}
+
+/// Appends a key, with its policy behind it if it has one.
+fn push_key(text: &mut Vec<u8>, key: &BoundKey) -> Result<(), AllocError>
+    ensures ok { OnOk result (text.new.items ≡ text.old.items ++ line_of (found_words (Some key.now))) }
+    ensures grows { StartsWith text.new.items text.old.items }
+{
+    push_hex(text, key.bytes())?;
+    if let Some(policy) = key.policy {
+        text.push(b' ')?;
+        text.extend_from_slice(policy.word())?;
+    }
+    Ok(())
 }
 
 /// Appends a number in decimal digits.

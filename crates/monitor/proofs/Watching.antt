@@ -5,6 +5,7 @@ use Rattle.std.proofs.lemmas.Bool.{cases_lt}
 use Rattle.std.proofs.lemmas.List.{get_or_append_left, get_or-append_right, get_or_default}
 use Rattle.std.proofs.lemmas.List.Elements.{Contains-append_cases, Contains-append_left, Contains-push}
 use Rattle.std.proofs.lemmas.List.Quantifiers.{all_pairs_push}
+use Rattle.encoding.specs.declared.bound_key.BoundKey.{BoundKey}
 use Rattle.rootchain.specs.Chains.{Ascend, IsChain}
 use Rattle.rootchain.specs.declared.signed_promise.SignedPromise.{SignedPromise}
 use Rattle.rootchain.specs.declared.signed_root.SignedRoot.{SignedRoot}
@@ -18,7 +19,7 @@ use Rattle.client.specs.UpdatingFrom.{UpdatesFrom}
 use Rattle.client.specs.declared.client_refusal.Refusal.{Refusal}
 use Rattle.monitor.specs.Monitors.{Monitor, new_monitor, with_change, with_watched, IsNext, IsWatching}
 
-pub begun-watching : (client : Client) (name : List ℕ) (start : Option (List ℕ)) → IsWatching (new_monitor client name start)
+pub begun-watching : (client : Client) (name : List ℕ) (start : Option BoundKey) → IsWatching (new_monitor client name start)
 begun-watching client name start = record {
   ascends = λ i j d p q. absurd (omega (arith, q));
   last = inl refl;

@@ -1,6 +1,7 @@
 -- What a monitor is to its callers (CONIKS, section 4): a client, the name that it watches for its
 -- owner, what the owner expects, and how far it watched.
 use Rattle.std.specs.Prelude.{◌≡◌, ◌⊎◌, ℕ, ◌<◌, ◌≤◌, List, [], ◌∷◌, ◌++◌, Option, AllPairs, Contains}
+use Rattle.encoding.specs.declared.bound_key.BoundKey.{BoundKey}
 use Rattle.rootchain.specs.Chains.{IsAt}
 use Rattle.rootchain.specs.Places.{IsNextAfter}
 use Rattle.rootchain.specs.declared.signed_promise.SignedPromise.{SignedPromise}
@@ -17,7 +18,7 @@ pub record Monitor : Type 0 where
   pub watched : ℕ
 
 -- the monitor that has watched nothing yet and expects this from the first epoch on
-abbrev pub new_monitor : Client → List ℕ → Option (List ℕ) → Monitor
+abbrev pub new_monitor : Client → List ℕ → Option BoundKey → Monitor
 new_monitor client name start = record { client = client; name = name; watch = record { start = start; changes = [] }; watched = 0 }
 
 -- the monitor after it watched an epoch with this reply, which its client keeps

@@ -1,5 +1,6 @@
 -- How a monitor watches the next epoch (CONIKS, section 4).
 use Rattle.std.specs.Prelude.{◌≡◌, ◌≢◌, ℕ, List, Option, Some, None, Result, Ok, Err}
+use Rattle.encoding.specs.declared.bound_key.BoundKey.{BoundKey}
 use Rattle.rootchain.specs.declared.signed_root.SignedRoot.{SignedRoot}
 use Rattle.proofs.specs.Accepts.{stated}
 use Rattle.proofs.specs.Comparisons.{IsAcceptedReply, Refuses}
@@ -18,8 +19,9 @@ abbrev pub IsNextEpoch : Monitor → Option ℕ → Type 0
 IsNextEpoch monitor None = (root : SignedRoot) → ¬ IsNext monitor root
 IsNextEpoch monitor (Some epoch) = (root : SignedRoot) × IsNext monitor root × (root.body.epoch ≡ epoch)
 
--- what a step says of the statement at an epoch: that it is the expected one, or else what it is
-abbrev pub StepTells : Watch → ℕ → Option (List ℕ) → Step → Type 0
+-- what a step says of the statement at an epoch: that it is the expected one, or else what it is (CONIKS, section 4:
+-- monitoring for spurious keys)
+abbrev pub StepTells : Watch → ℕ → Option BoundKey → Step → Type 0
 StepTells watch epoch statement Kept = statement ≡ expected watch epoch
 StepTells watch epoch statement (Alarm at found) = (statement ≢ expected watch epoch) × (at ≡ epoch) × (key_stated found ≡ statement)
 

@@ -12,7 +12,7 @@
 //! while let Some(epoch) = monitor.next_epoch() {
 //!     let reply = ask(name, epoch);
 //!     if let Step::Alarm { epoch, found } = monitor.step(&mut hash, &vuf, reply)? {
-//!         // The provider states another key than the owner expects, or none.
+//!         // The provider states another key or policy than the owner expects, or none.
 //!     }
 //! }
 //! ```

@@ -1,7 +1,7 @@
 //! A monitor keeps the changes that its owner expects, ascending by the epochs of their promises, and the
 //! epoch that it watched last. A step looks the name up at the next epoch of the chain, and compares what
 //! is stated there with the last change that was promised before.
-ghost use Rattle.std.specs.Prelude.{◌≡◌, ◌↔◌, ◌+◌, ◌<◌, ◌≤◌, All, AllPairs, IfErr, IsTrue, OnOk, length, option_map};
+ghost use Rattle.std.specs.Prelude.{◌≡◌, ◌↔◌, ◌+◌, ◌<◌, ◌≤◌, All, AllPairs, IfErr, IsTrue, None, OnOk, Some, length, option_map};
 ghost use Rattle.std.specs.List.Sorted.{IsPartitionPoint};
 ghost use Rattle.rootchain.specs.RootFeeds.{told_from};
 ghost use Rattle.rootchain.specs.TakingBytes.{announced};
@@ -18,7 +18,7 @@ ghost use Rattle.monitor.specs.Stepping.{IsNextEpoch, StepTells, Steps};
 
 use crate::{Refusal, Step};
 use client::Client;
-use encoding::{KeyData, Name};
+use encoding::{BoundKey, KeyData, Name, Policy};
 use nodehash::NodeHash;
 use proofs::Statement;
 use rootchain::{Promise, RootFeed, SignedPromise};
@@ -31,13 +31,14 @@ use vrfiface::VufCheck;
 #[derive(Drop)]
 struct Change {
     epoch: u64,
-    key: KeyData,
+    key: BoundKey,
 }
 
 impl Model for Change {
-    ghost use Rattle.std.specs.Prelude.{ℕ, List};
+    ghost use Rattle.std.specs.Prelude.{ℕ};
+    ghost use Rattle.encoding.specs.declared.bound_key.BoundKey.{BoundKey};
 
-    ghost Value = { ℕ × List ℕ };
+    ghost Value = { ℕ × BoundKey };
 
     ghost view = { λ change. (change.epoch, change.key) };
 }
@@ -48,7 +49,7 @@ impl Model for Change {
 pub struct Monitor<H: NodeHash, V: VufCheck, S: Verifier> {
     client: Client<H, V, S>,
     name: Name,
-    start: Option<KeyData>,
+    start: Option<BoundKey>,
     changes: Vec<Change>,
     /// The epoch that was watched last; 0 if none was, since epochs begin at 1.
     watched: u64,
@@ -68,8 +69,46 @@ impl<H: NodeHash, V: VufCheck, S: Verifier> Model for Monitor<H, V, S> {
 
 impl<H: NodeHash, V: VufCheck, S: Verifier> Monitor<H, V, S> {
     /// A monitor of this name, with a client of its own. From the first epoch of the client's chain on it
-    /// expects this key, or no key.
+    /// expects this key without a policy, or no key.
     pub fn new(alloc: Global, client: Client<H, V, S>, name: Name, start: Option<KeyData>) -> Self
+        ensures { result ≡ new_monitor client name (option_map (λ value. record { value = value; policy = None }) start) }
+    {
+        let start = match start {
+            Some(value) => Some(BoundKey {
+                value,
+                policy: None,
+            }),
+            None => None,
+        };
+        Monitor::from_start(alloc, client, name, start)
+    }
+
+    /// A monitor of this name, which from the first epoch of the client's chain on expects this key with
+    /// this policy.
+    pub fn new2(
+        alloc: Global,
+        client: Client<H, V, S>,
+        name: Name,
+        key: KeyData,
+        policy: Policy,
+    ) -> Self
+        ensures { result ≡ new_monitor client name (Some (record { value = key; policy = Some policy })) }
+    {
+        let start = BoundKey {
+            value: key,
+            policy: Some(policy),
+        };
+        Monitor::from_start(alloc, client, name, Some(start))
+    }
+
+    /// A monitor of this name, with a client of its own. From the first epoch of the client's chain on it
+    /// expects this key with its policy or with none, or no key.
+    pub fn from_start(
+        alloc: Global,
+        client: Client<H, V, S>,
+        name: Name,
+        start: Option<BoundKey>,
+    ) -> Self
         ensures { result ≡ new_monitor client name start }
     {
         Monitor {
@@ -106,7 +145,7 @@ impl<H: NodeHash, V: VufCheck, S: Verifier> Monitor<H, V, S> {
 
     /// What is expected of an epoch: the key of the last change that was promised before it, else what was
     /// expected at the start.
-    pub fn expected(&self, epoch: u64) -> Option<&KeyData>
+    pub fn expected(&self, epoch: u64) -> Option<&BoundKey>
         ensures value { option_map (λ key. key.now) result ≡ expected self.now.watch epoch }
         ensures greatest { IsExpected self.now.watch epoch (expected self.now.watch epoch) }
     {
@@ -156,18 +195,67 @@ impl<H: NodeHash, V: VufCheck, S: Verifier> Monitor<H, V, S> {
         self.client.update_from(hash, verifier, feed, piece)
     }
 
-    /// Expects this key above the epoch of the signed promise that these bytes spell. The client keeps the
-    /// promise. Takes at most one digest.
+    /// Expects as `expect` does, a key without a policy.
     ///
     /// # Errors
     ///
-    /// `Client` with the refusal of `Client::keep_promise` except `Memory`; `OtherPromise`; `Client` with
-    /// `Memory`: the first that applies. The monitor then stays as it was.
+    /// Those of `expect`.
     pub fn expect_change(
         &mut self,
         hash: &mut H,
         verifier: &S,
         key: &KeyData,
+        promise_bytes: &[u8],
+    ) -> Result<(), Refusal>
+        ensures expects { Expects H.digest_of S.verified self.old (record { value = key.now; policy = None }) promise_bytes.now result self.new }
+        ensures above { OnOk result ((signed : SignedPromise) × IsGiven H.digest_of S.verified self.old.client promise_bytes.now signed
+            × ExpectsAbove self.old.watch signed.promise.epoch (record { value = key.now; policy = None }) self.new.watch) }
+        ensures counted { H.digests hash.new ≤ H.digests hash.old + 1 }
+    {
+        let key = BoundKey {
+            value: key.copied(),
+            policy: None,
+        };
+        self.expect(hash, verifier, &key, promise_bytes)
+    }
+
+    /// Expects as `expect` does, a key with this policy.
+    ///
+    /// # Errors
+    ///
+    /// Those of `expect`.
+    pub fn expect_change2(
+        &mut self,
+        hash: &mut H,
+        verifier: &S,
+        key: &KeyData,
+        policy: Policy,
+        promise_bytes: &[u8],
+    ) -> Result<(), Refusal>
+        ensures expects { Expects H.digest_of S.verified self.old (record { value = key.now; policy = Some policy }) promise_bytes.now result self.new }
+        ensures above { OnOk result ((signed : SignedPromise) × IsGiven H.digest_of S.verified self.old.client promise_bytes.now signed
+            × ExpectsAbove self.old.watch signed.promise.epoch (record { value = key.now; policy = Some policy }) self.new.watch) }
+        ensures counted { H.digests hash.new ≤ H.digests hash.old + 1 }
+    {
+        let key = BoundKey {
+            value: key.copied(),
+            policy: Some(policy),
+        };
+        self.expect(hash, verifier, &key, promise_bytes)
+    }
+
+    /// Expects this key, with its policy or with none, above the epoch of the signed promise that these bytes
+    /// spell. The client keeps the promise. Takes at most one digest.
+    ///
+    /// # Errors
+    ///
+    /// `Client` with the refusal of `Client::keep_promise` except `Memory`; `OtherPromise`; `Client` with
+    /// `Memory`: the first that applies. The monitor then stays as it was.
+    pub fn expect(
+        &mut self,
+        hash: &mut H,
+        verifier: &S,
+        key: &BoundKey,
         promise_bytes: &[u8],
     ) -> Result<(), Refusal>
         ensures expects { Expects H.digest_of S.verified self.old key.now promise_bytes.now result self.new }
@@ -218,7 +306,7 @@ impl<H: NodeHash, V: VufCheck, S: Verifier> Monitor<H, V, S> {
         &self,
         hash: &mut H,
         verifier: &S,
-        key: &KeyData,
+        key: &BoundKey,
         bytes: &[u8],
     ) -> Result<SignedPromise, Refusal>
         ensures reads { ReadsChange H.digest_of S.verified self.now key.now bytes.now result }
@@ -248,7 +336,7 @@ impl<H: NodeHash, V: VufCheck, S: Verifier> Monitor<H, V, S> {
     }
 
     /// Whether this key may be expected above the epoch of the promise.
-    fn may_expect(&self, key: &KeyData, promise: &Promise) -> bool
+    fn may_expect(&self, key: &BoundKey, promise: &Promise) -> bool
         ensures { IsTrue result ↔ MayExpect self.now key.now promise.now }
     {
         promise.name == self.name
@@ -275,12 +363,14 @@ fn are_before(changes: &[Change], epoch: u64) -> bool
     promised_before(changes, epoch) == changes.len()
 }
 
-/// Whether the statement is the expected key, or absence if no key is expected.
-fn is_expected(found: Statement<'_>, expected: Option<&KeyData>) -> bool
+/// Whether the statement is the expected key with its policy or with none, or absence if no key is expected.
+fn is_expected(found: Statement<'_>, expected: Option<&BoundKey>) -> bool
     ensures { IsTrue result ↔ (key_stated found.entry ≡ option_map (λ key. key.now) expected.entry) }
 {
     match (found, expected) {
-        (Statement::Present(stated), Some(key)) => stated == key.bytes(),
+        (Statement::Present(stated, policy), Some(key)) => {
+            stated == key.bytes() && policy == key.policy
+        }
         (Statement::Absent, None) => true,
         _ => false,
     }

@@ -8,8 +8,8 @@ pub enum Refusal {
     /// The monitor's client refuses.
     #[error(transparent)]
     Client(#[from] client::Refusal),
-    /// The promise is of another name or key; or it is not later than that of some expected change; or an
-    /// epoch above its own was watched.
+    /// The promise is of another name, key or policy; or it is not later than that of some expected change;
+    /// or an epoch above its own was watched.
     #[error("the promise is not one of this change, or comes too late")]
     OtherPromise,
 }

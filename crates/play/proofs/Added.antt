@@ -16,6 +16,7 @@ use Rattle.rootchain.specs.declared.signed_root.SignedRoot.{SignedRoot}
 use Rattle.commands.specs.Operations.{Operation, Query, Head}
 use Rattle.wire.specs.Frames.{Frame, frame_bytes, IsFrame}
 use Rattle.wire.specs.Requests as request
+use Rattle.encoding.specs.declared.bound_key.BoundKey.{BoundKey}
 use Rattle.book.specs.declared.keeper.NoKeeper.{NoKeeper}
 use Rattle.book.specs.declared.reply.Reply.{Reply}
 use Rattle.book.specs.declared.reply.Reply.TheVariants as reply
@@ -68,7 +69,7 @@ earlier-behind epoch (first ∷ next ∷ more) last climb page there = elim (fir
 ]
 
 -- the last page alone is ahead of a watcher that begins there
-pub last-ahead : (book : Book) → Climb 0 (pages book) → (name : List ℕ) (start : Option (List ℕ)) → ahead (watcher_of book name start) (pages book) ≡ book.last ∷ []
+pub last-ahead : (book : Book) → Climb 0 (pages book) → (name : List ℕ) (start : Option BoundKey) → ahead (watcher_of book name start) (pages book) ≡ book.last ∷ []
 last-ahead book climb name start =
     filter-append (is_ahead (last_epoch book.earlier)) book.earlier (book.last ∷ [])
     ∙ ap (λ (front : List Page). front ++ filter (is_ahead (last_epoch book.earlier)) (book.last ∷ []))
@@ -102,7 +103,7 @@ module _ (provider : Provider) where
             (Contains-append_right split.0 (record { page = book.last; root = split.1 } ∷ []) (record { page = book.last; root = split.1 }) (first-there (record { page = book.last; root = split.1 }) []));
       }
 
-  pub begins-there : (key : List ℕ) (book : Book) → Climb 0 (pages book) → (root : SignedRoot) → IsRootOf provider book book.last root → (name : List ℕ) (start : Option (List ℕ))
+  pub begins-there : (key : List ℕ) (book : Book) → Climb 0 (pages book) → (root : SignedRoot) → IsRootOf provider book book.last root → (name : List ℕ) (start : Option BoundKey)
       → IsWatcher key (roots provider book) book (new_monitor (started key root) name start) (watcher_of book name start)
   begins-there key book climb root rooted name start = record {
     name = refl;
@@ -222,7 +223,7 @@ module _ {R : Type 0} (digest_of : List ℕ → List ℕ) (value_of signature_of
       (said.root, (is_body (reply_frame asked.said) asked.read.0 asked.frame ∙ ap (λ (r : Reply). (reply_frame r).body) said.is, (i.form, i.small)), i.signature)
 
 module _ {R : Type 0} (digest_of : List ℕ → List ℕ) (value_of signature_of : List ℕ → List ℕ → List ℕ) (stream : R → Stream) (accepted verified : List ℕ → List ℕ → List ℕ → Type 0)
-    (before mid fin : Parties R) (stand : Stand) (frame body name : List ℕ) (start : Option (List ℕ)) (client : Client)
+    (before mid fin : Parties R) (stand : Stand) (frame body name : List ℕ) (start : Option BoundKey) (client : Client)
     (all : AreAt digest_of value_of signature_of stream accepted verified before stand)
     (asked : HasAsked digest_of value_of signature_of stream accepted verified before (request.Query Head) frame mid)
     (is_body : (whole : Frame) → IsFrame whole → frame ≡ frame_bytes whole → body ≡ whole.body)
@@ -283,7 +284,7 @@ zip-long Z (x ∷ xs) [] all = absurd all
 zip-long Z (x ∷ xs) (y ∷ ys) all = ap (λ (n : ℕ). suc n) (zip-long Z xs ys all.1)
 
 module _ {R : Type 0} (digest_of : List ℕ → List ℕ) (value_of signature_of : List ℕ → List ℕ → List ℕ) (stream : R → Stream) (accepted verified : List ℕ → List ℕ → List ℕ → Type 0)
-    (before parties : Parties R) (stand : Stand) (name : List ℕ) (start : Option (List ℕ)) (place : ℕ) (last : place ≡ length before.monitors)
+    (before parties : Parties R) (stand : Stand) (name : List ℕ) (start : Option BoundKey) (place : ℕ) (last : place ≡ length before.monitors)
     (all : AreAt digest_of value_of signature_of stream accepted verified before stand)
     (more : AreAt digest_of value_of signature_of stream accepted verified parties (record stand { watchers = stand.watchers ++ watcher_of stand.book name start ∷ [] })) where
   abbrev index_at : Parties R → List ℕ → List ℕ

@@ -84,7 +84,7 @@ request-of (request.Turn given at_epoch nonce) name epoch is = by (bytes_eq give
 -- no look-up was asked for
 pub no-lookup : (one : Ask) → ((name : Vec ℕ Global) (epoch : ℕ) → one ≡ made.Lookup name epoch → ⊥) → (name : List ℕ) (epoch : ℕ) → ask_seen one ≡ request.Query (Lookup name epoch) → ⊥
 no-lookup (made.Lookup held at_epoch) none name epoch is = none held at_epoch refl
-no-lookup (made.Put verb held bound) none name epoch is = absurd cc
+no-lookup (made.Put verb held bound policy) none name epoch is = absurd cc
 no-lookup (made.Promise held) none name epoch is = absurd cc
 no-lookup (made.History from count) none name epoch is = absurd cc
 no-lookup made.Head none name epoch is = absurd cc

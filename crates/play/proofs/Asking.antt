@@ -112,7 +112,7 @@ not_memory said responded response fine memory = fine (subst (λ (s : Reply). Is
 
 -- what an `ask` asks is a command, by the token of a script
 pub command_of : (ask : Ask) → (asked : Operation) × (command token (ask_seen ask) ≡ Some asked)
-command_of (ask.Put verb name key) = (Edit (asking.Put verb name.items key.items), refl)
+command_of (ask.Put verb name key policy) = (Edit (asking.Put verb name.items (key.items, policy)), refl)
 command_of (ask.Promise name) = (Query (asking.Promise name.items), refl)
 command_of (ask.Lookup name epoch) = (Query (asking.Lookup name.items epoch), refl)
 command_of (ask.History from count) = (Query (asking.History from count), refl)
@@ -124,7 +124,7 @@ pub asked_as : (it : Ask) (asked : RequestContent) (given : List ℕ) → asked 
 asked_as it asked given is own = is ∙ ap (λ (t : List ℕ). with_token t (ask_seen it)) own ∙ by it
   where
     by : (one : Ask) → with_token token (ask_seen one) ≡ ask_seen one
-    by (ask.Put _ _ _) = refl
+    by (ask.Put _ _ _ _) = refl
     by (ask.Promise _) = refl
     by (ask.Lookup _ _) = refl
     by (ask.History _ _) = refl

@@ -28,6 +28,7 @@ use Rattle.proofs.specs.declared.reply_refusal.Refusal.TheVariants as proof
 use Rattle.proofs.specs.declared.statement.Statement.{Statement}
 use Rattle.proofs.proofs.Passing.{accepts-passed, nothing_left, one_reply, refused-accepts}
 use Rattle.commands.specs.Operations.{Operation, Query, Lookup}
+use Rattle.encoding.specs.declared.bound_key.BoundKey.{BoundKey}
 use Rattle.book.specs.declared.reply.Reply.{Reply}
 use Rattle.book.specs.declared.reply.Reply.TheVariants as reply_of
 use Rattle.book.specs.Books.{Binding, Book, Page, pages}
@@ -164,7 +165,7 @@ module _ (provider : Provider) (accepted verified : List ℕ → List ℕ → Li
   }
 
   never : (latest : ℕ) (name : List ℕ) (epoch : ℕ) (text : List ℕ) (d : IsDouble provider accepted verified key after latest name epoch text)
-      → (body : Body) (other : List ℕ) (statement : Option (List ℕ)) → Accepts provider.hash accepted body other text statement → ⊥
+      → (body : Body) (other : List ℕ) (statement : Option BoundKey) → Accepts provider.hash accepted body other text statement → ⊥
   never latest name epoch text d body other statement accepts =
       d.refused.fails ((accepts-passed provider.hash accepted body other text d.reply d.spelled statement accepts).1 proof.SameIndex)
 

@@ -22,6 +22,7 @@ use Rattle.proofs.specs.declared.reply_refusal.Refusal.{Refusal as ProofRefusal}
 use Rattle.proofs.specs.declared.reply_refusal.Refusal.TheVariants as proof
 use Rattle.proofs.specs.declared.statement.Statement.{Statement}
 use Rattle.proofs.proofs.Passing.{accepts-passed, one_reply, refused-accepts}
+use Rattle.encoding.specs.declared.bound_key.BoundKey.{BoundKey}
 use Rattle.book.specs.Steps.{has_its_index}
 use Rattle.book.specs.Books.{Binding, Book, Page, pages}
 use Rattle.book.specs.ProviderLaws.{KeepsLaws}
@@ -48,6 +49,7 @@ use Rattle.monitor.specs.declared.step.Step.{Step}
 use Rattle.monitor.specs.declared.step.Step.TheVariants as step_of
 use Rattle.play.specs.Checking.{watcher_text, TellsLook, TellsStep}
 use Rattle.play.specs.Lines.{is_double, refused_proof, statement_text}
+use Rattle.play.proofs.Keys.{keys-same, same-keys}
 use Rattle.play.specs.Watchers.{Watcher, same_key, verdict_text, place_text}
 use Rattle.play.proofs.Calling.{accepts-stated, one-asked, one-next, rooted-epoch, same-index, spelled-read}
 use Rattle.play.proofs.Lists.{all-in}
@@ -189,12 +191,6 @@ module _ (provider : Provider) (accepted verified : List ℕ → List ℕ → Li
       by b e (Err (client.RootDiffers evidence)) looks = absurd looks
       by b e (Err client.NoPromise) looks = absurd looks
 
-  same-keys : (one other : Option (List ℕ)) → (same_key one other ≡ true → one ≡ other) × (one ≡ other → same_key one other ≡ true)
-  same-keys None None = ((λ e. refl), (λ e. refl))
-  same-keys (Some one) (Some other) = ((λ e. ap Some ((bytes_eq-Decides one other).0 e)), (λ e. (bytes_eq-Decides one other).1 (let same : one ≡ other = cc in same)))
-  same-keys None (Some other) = ((λ e. absurd cc), (λ e. absurd cc))
-  same-keys (Some one) None = ((λ e. absurd cc), (λ e. absurd cc))
-
   pub steps-told : (watching later : Monitor) (watcher : Watcher) (result : Result Step MonitorRefusal) → watching.name ≡ name → watcher.name ≡ name → watching.watch ≡ watcher.watch
       → IsChain provider.hash verified watching.client.chain → IsNext watching root → Steps provider.hash accepted watching text result later
       → TellsStep watcher.name page result (watcher_text (index_of provider) watcher page)
@@ -225,16 +221,16 @@ module _ (provider : Provider) (accepted verified : List ℕ → List ℕ → Li
       wanted : (root_next : SignedRoot) → IsNext watching root_next → expected watching.watch root_next.body.epoch ≡ expected watcher.watch page.epoch
       wanted root_next is = ap (expected watching.watch) (at-page root_next is) ∙ ap (λ (w : Watch). expected w page.epoch) same
 
-      told : (step : Step) (statement : Option (List ℕ)) (root_next : SignedRoot) → IsNext watching root_next → statement ≡ key_at page name → StepTells watching.watch root_next.body.epoch statement step
+      told : (step : Step) (statement : Option BoundKey) (root_next : SignedRoot) → IsNext watching root_next → statement ≡ key_at page name → StepTells watching.watch root_next.body.epoch statement step
           → (test : Bool) → same_key (key_at page name) (expected watcher.watch page.epoch) ≡ test
           → TellsStep name page (Ok step) (verdict_text test (place_text name page) (key_at page name))
       told step_of.Kept statement root_next is states tells true e = refl
       told step_of.Kept statement root_next is states tells false e =
           let kept : key_at page name ≡ expected watcher.watch page.epoch = sym states ∙ tells ∙ wanted root_next is in
-          let clash : true ≡ false = sym ((same-keys (key_at page name) (expected watcher.watch page.epoch)).1 kept) ∙ e in
+          let clash : true ≡ false = sym (same-keys (key_at page name) (expected watcher.watch page.epoch) kept) ∙ e in
           absurd cc
       told (step_of.Alarm epoch found) statement root_next is states tells true e =
-          absurd (tells.0 (states ∙ (same-keys (key_at page name) (expected watcher.watch page.epoch)).0 e ∙ sym (wanted root_next is)))
+          absurd (tells.0 (states ∙ keys-same (key_at page name) (expected watcher.watch page.epoch) e ∙ sym (wanted root_next is)))
       told (step_of.Alarm epoch found) statement root_next is states tells false e =
           (tells.1 ∙ at-page root_next is, ap (verdict_text false (place_text name page)) (sym (tells.2 ∙ states)))
 

@@ -7,7 +7,8 @@ use Rattle.std.proofs.lemmas.List.{append-nil, get_or_append_left, get_or_push, 
 use Rattle.std.proofs.lemmas.List.Elements.{All-weaker}
 use Rattle.rootchain.specs.Bodies.{body_bytes}
 use Rattle.rootchain.specs.declared.signed_root.SignedRoot.{SignedRoot}
-use Rattle.commands.specs.Operations.{Operation, Query, Edit, Put, Turn}
+use Rattle.commands.specs.Operations.{bound_key, Operation, Query, Edit, Put, Turn}
+use Rattle.encoding.specs.declared.bound_key.BoundKey.{BoundKey}
 use Rattle.book.specs.declared.keeper.NoKeeper.{NoKeeper}
 use Rattle.book.specs.declared.directory_refusal.Refusal.TheVariants.{EpochNotLater}
 use Rattle.book.specs.declared.reply.Reply.{Reply}
@@ -108,7 +109,7 @@ waits_after : (index : List ℕ → List ℕ) (before book after : Book) (asked 
 waits_after index before book after (Query question) answer waits none does = subst (StillWaits before) (sym does.1) waits
 waits_after index before book after (Edit (Put verb name key)) answer (inl less) none does = subst (StillWaits before) (sym does.1) (inl less)
 waits_after index before book after (Edit (Put verb name key)) answer (inr (same, keeps)) none does =
-    subst (StillWaits before) (sym does.1) (inr (same, λ other some. put_waits book.pending name other (record { key = key; salt = book.salt }) (keeps other some)))
+    subst (StillWaits before) (sym does.1) (inr (same, λ other some. put_waits book.pending name other (record { key = bound_key key; salt = book.salt }) (keeps other some)))
 waits_after index before book after (Edit (Turn epoch _)) answer waits none does =
     let above : book.last.epoch < epoch = above-last epoch book.last.epoch (passed (nat_le epoch book.last.epoch, EpochNotLater) [] none).0 in
     subst (StillWaits before) (sym does.1) (inl (below waits above))
@@ -132,13 +133,13 @@ zip_weaker P Q leads (x ∷ xs) [] are = absurd are
 zip_weaker P Q leads (x ∷ xs) (y ∷ ys) are = (leads x y are.0, zip_weaker P Q leads xs ys are.1)
 
 -- the key was promised over the root of an epoch before the last page's, or it waits
-abbrev IsPromised : Watcher → Book → ℕ × List ℕ → Type 0
+abbrev IsPromised : Watcher → Book → ℕ × BoundKey → Type 0
 IsPromised watcher now change = (change.0 < now.last.epoch) ⊎ ((change.0 ≡ now.last.epoch) × IsSome (at now.pending watcher.name))
 
 promised_still : (book after : Book) (watcher : Watcher) → StillWaits book after → ArePromised book watcher → ArePromised after watcher
 promised_still book after watcher waits = All-weaker (IsPromised watcher book) (IsPromised watcher after) (by waits) watcher.watch.changes
   where
-    by : StillWaits book after → (change : ℕ × List ℕ) → IsPromised watcher book change → IsPromised watcher after change
+    by : StillWaits book after → (change : ℕ × BoundKey) → IsPromised watcher book change → IsPromised watcher after change
     by (inl more) change (inl less) = inl (omega (arith, more, less))
     by (inl more) change (inr (is, some)) = inl (omega (arith, more, is))
     by (inr (same, keeps)) change (inl less) = inl (omega (arith, same, less))

@@ -1,5 +1,5 @@
 -- A promise of a key that waits is handed to the monitors of its name, as to the watchers.
-use Rattle.std.proofs.Common.{◌≡◌, ◌≢◌, ◌⊎◌, ℕ, zero, suc, ◌<◌, ◌≤◌, List, [], ◌∷◌, ◌++◌, length, drop, get_or, Option, Some, Ok, Err, Bool, true, if◌then◌else◌, IsSome, Contains, refl, sym, ap, ap₂, subst, inl, inr, ◌∙◌, arith}
+use Rattle.std.proofs.Common.{◌≡◌, ◌≢◌, ◌⊎◌, ℕ, zero, suc, ◌<◌, ◌≤◌, List, [], ◌∷◌, ◌++◌, length, drop, get_or, Option, Some, None, Ok, Err, Bool, true, if◌then◌else◌, IsSome, Contains, refl, sym, ap, ap₂, subst, inl, inr, ◌∙◌, arith}
 use Rattle.std.specs.Prelude.{is_some}
 use Rattle.std.specs.List.{AllByRecursion, AllZip}
 use Rattle.std.specs.Str.{bytes_eq}
@@ -7,7 +7,6 @@ use Rattle.std.proofs.lemmas.Bool.{false_from_ne_true}
 use Rattle.std.proofs.lemmas.List.Elements.{All-push, Contains-append_cases, Contains-append_right}
 use Rattle.std.proofs.lemmas.Slice.Eq.{bytes_eq-Decides}
 use Rattle.rand_core.specs.Stream.{Stream}
-use Rattle.encoding.specs.Limits.{IsKeyData}
 use Rattle.rootchain.specs.Bodies.{body_bytes}
 use Rattle.rootchain.specs.Chains.{Ascend, IsChain, KeyedRoots}
 use Rattle.rootchain.specs.Promises.{signed_promise_bytes, IsSignedPromise, PromiseVerifies, SpellsPromise}
@@ -17,15 +16,16 @@ use Rattle.rootchain.proofs.Agreement.{unique}
 use Rattle.rootchain.proofs.Chains.{ascend-linked}
 use Rattle.proofs.specs.Watches.{Watch}
 use Rattle.commands.specs.declared.edit.Verb.{Verb}
-use Rattle.commands.specs.Operations.{Operation, Edit}
+use Rattle.commands.specs.Operations.{bound_key, AskedKey, Operation, Edit}
 use Rattle.commands.specs.Operations as ask
 use Rattle.wire.specs.Frames.{Frame, frame_bytes, IsFrame}
 use Rattle.wire.specs.Requests as request
 use Rattle.hub.specs.Desks.{reply_frame}
+use Rattle.encoding.specs.declared.bound_key.BoundKey.{BoundKey}
 use Rattle.book.specs.declared.reply.Reply.{Reply}
 use Rattle.book.specs.declared.reply.Reply.TheVariants as reply
 use Rattle.book.specs.declared.directory_refusal.Refusal.{Refusal}
-use Rattle.book.specs.Steps.{Answer, Promised, Found, Told, Last, with_pending}
+use Rattle.book.specs.Steps.{bad_key, bad_policy, first, Answer, Promised, Found, Told, Last, with_pending}
 use Rattle.book.specs.Books.{Binding, Book, Page}
 use Rattle.book.specs.Honest.{IsKept}
 use Rattle.book.specs.Keeps.{KeepsNothing, NeverFails}
@@ -33,6 +33,7 @@ use Rattle.encoding.specs.Maps.{at}
 use Rattle.book.specs.Shows.{Provider, index_of, roots}
 use Rattle.book.specs.Turns.{Shows, Turn}
 use Rattle.book.proofs.Entries.{at_put_same}
+use Rattle.book.proofs.Stepping.{put_passed, stepped}
 use Rattle.book.proofs.Members.{first-or-later, first-there, none-there}
 use Rattle.client.specs.Clients.{HasRootOf}
 use Rattle.monitor.specs.Expecting.{MayExpect}
@@ -51,10 +52,10 @@ use Rattle.play.proofs.InTime.{promises-later}
 use Rattle.play.proofs.Taken.{below-all}
 
 -- a watcher after a promise, by whether it is one of the name
-abbrev given : ℕ → List ℕ → Watcher → Bool → Watcher
+abbrev given : ℕ → BoundKey → Watcher → Bool → Watcher
 given epoch key watcher t = if t then record watcher { watch = expecting epoch key watcher.watch } else watcher
 
-module _ (own : List ℕ) (taken : List SignedRoot) (book : Book) (name key : List ℕ) (promised : SignedPromise) (epoch_is : promised.promise.epoch ≡ book.last.epoch) (key_is : promised.promise.key ≡ key) where
+module _ (own : List ℕ) (taken : List SignedRoot) (book : Book) (name : List ℕ) (key : BoundKey) (promised : SignedPromise) (epoch_is : promised.promise.epoch ≡ book.last.epoch) (key_is : promised.promise.key ≡ key) where
   abbrev after_put : Book
   after_put = with_pending book name key
 
@@ -76,12 +77,12 @@ module _ (own : List ℕ) (taken : List SignedRoot) (book : Book) (name key : Li
       let on = goes-with watching watcher is in
       record {
         name = is.name;
-        watch = ap₂ (λ (e : ℕ) (k : List ℕ). expecting e k watching.watch) epoch_is key_is ∙ ap (λ (w : Watch). expecting book.last.epoch key w) is.watch;
+        watch = ap₂ (λ (e : ℕ) (k : BoundKey). expecting e k watching.watch) epoch_is key_is ∙ ap (λ (w : Watch). expecting book.last.epoch key w) is.watch;
         skipped = is.skipped;
         chain = is.chain;
         some = is.some;
         behind = is.behind;
-        promised = All-push (λ (change : ℕ × List ℕ). (change.0 < book.last.epoch) ⊎ ((change.0 ≡ book.last.epoch) × IsSome (at after_put.pending watcher.name))) watcher.watch.changes (book.last.epoch, key) on.promised
+        promised = All-push (λ (change : ℕ × BoundKey). (change.0 < book.last.epoch) ⊎ ((change.0 ≡ book.last.epoch) × IsSome (at after_put.pending watcher.name))) watcher.watch.changes (book.last.epoch, key) on.promised
             (inr (refl, subst (λ (n : List ℕ). IsSome (at after_put.pending n)) (sym named) (ap is_some (at_put_same name (record { key = key; salt = book.salt }) book.pending))));
         until = is.until;
       }
@@ -136,7 +137,7 @@ shows-promise provider after name binding answer (reply.Last root) is shows = ab
 shows-promise provider after name binding answer (reply.Refused why) is shows = absurd shows
 
 module _ {R : Type 0} (digest_of : List ℕ → List ℕ) (value_of signature_of : List ℕ → List ℕ → List ℕ) (stream : R → Stream) (accepted verified : List ℕ → List ℕ → List ℕ → Type 0)
-    (before asked now : Parties R) (verb : Verb) (name key text : List ℕ) (watchers : List Watcher)
+    (before asked now : Parties R) (verb : Verb) (name : List ℕ) (key : AskedKey) (text : List ℕ) (watchers : List Watcher)
     (may : MayHand digest_of value_of signature_of stream accepted verified before asked now (request.Put verb name key) text watchers) where
   abbrev by : Provider
   by = provider_of digest_of value_of signature_of stream accepted verified before
@@ -188,9 +189,9 @@ module _ {R : Type 0} (digest_of : List ℕ → List ℕ) (value_of signature_of
   -- a promise is over the root of the last page, and of the key
   pub record IsGiven (promised : SignedPromise) : Type 0 where
     pub epoch : promised.promise.epoch ≡ (now_book before).last.epoch
-    pub bound : promised.promise.key ≡ key
+    pub bound : promised.promise.key ≡ bound_key key
     pub form : IsSignedPromise promised
-    pub book : now_book asked ≡ with_pending (now_book before) name key
+    pub book : now_book asked ≡ with_pending (now_book before) name (bound_key key)
     pub answer : Answer
     pub told : come.told ≡ Ok answer
 
@@ -222,8 +223,8 @@ module _ {R : Type 0} (digest_of : List ℕ → List ℕ) (value_of signature_of
       let given = is-given promised is in
       has after others
       (subst (λ (told : message.Upshot). AreAfter after.monitors told) (sym given.told)
-      (subst (λ (book : Book). AreWatchers book after.monitors (handed name (now_book before).last.epoch key watchers)) (sym given.book)
-      (hands-all before.key (roots by (now_book before)) (now_book before) name key promised given.epoch given.bound before.monitors after.monitors watchers may.are
+      (subst (λ (book : Book). AreWatchers book after.monitors (handed name (now_book before).last.epoch (bound_key key) watchers)) (sym given.book)
+      (hands-all before.key (roots by (now_book before)) (now_book before) name (bound_key key) promised given.epoch given.bound before.monitors after.monitors watchers may.are
       (subst (λ (monitors : List Monitor). AllZip (IsHanded name promised) monitors after.monitors) monitors_are all))))
 
   -- ---- how the reply is read
@@ -247,9 +248,15 @@ module _ {R : Type 0} (digest_of : List ℕ → List ℕ) (value_of signature_of
   spells-promise promised is body is_body =
       (is_body (reply_frame may.was.said) may.was.read.0 may.was.frame ∙ ap (λ (said : Reply). (reply_frame said).body) is, (is-given promised is).form)
 
-  -- of a key within its limits
-  pub key-fits : (promised : SignedPromise) → may.was.said ≡ reply.Promised promised → IsKeyData key
-  key-fits promised is = let given = is-given promised is in subst IsKeyData given.bound given.form.0.4
+  -- of a key and a policy that are allowed
+  pub key-fits : (promised : SignedPromise) → may.was.said ≡ reply.Promised promised → first (bad_key key.0 ∷ bad_policy key.1 ∷ []) ≡ None
+  key-fits promised is = so (subst (λ (said : Reply). Turn by KeepsNothing NeverFails (now_book before) before.hub.service.keeper command said (now_book asked) asked.hub.service.keeper) is turn)
+    where
+      so : Turn by KeepsNothing NeverFails (now_book before) before.hub.service.keeper command (reply.Promised promised) (now_book asked) asked.hub.service.keeper → first (bad_key key.0 ∷ bad_policy key.1 ∷ []) ≡ None
+      so (answer, steps, kept_so, shows) =
+          let did = stepped (index_of by) (now_book before) command answer (now_book asked) steps in
+          let passed = put_passed (index_of by) (now_book before) verb name key did.none in
+          rw (passed.keyed, passed.policy) refl
 
   -- ---- each monitor of the name may expect it
 
@@ -260,7 +267,7 @@ module _ {R : Type 0} (digest_of : List ℕ → List ℕ) (value_of signature_of
     promise-given : IsGiven promised
     promise-given = is-given promised is
 
-    is-kept : IsKept by accepted verified before.key (with_pending (now_book before) name key) command promised
+    is-kept : IsKept by accepted verified before.key (with_pending (now_book before) name (bound_key key)) command promised
     is-kept = subst (λ (b : Book). IsKept by accepted verified before.key b command promised) promise-given.book (kept promised is)
 
     up : Ascend all
@@ -287,22 +294,22 @@ module _ {R : Type 0} (digest_of : List ℕ → List ℕ) (value_of signature_of
     -- it is over the last
     over-last : promised.promise.body_hash ≡ by.hash (body_bytes ends.root.body)
     over-last =
-        let own = in-roots by (with_pending (now_book before) name key) is-kept.page is-kept.root is-kept.is in
+        let own = in-roots by (with_pending (now_book before) name (bound_key key)) is-kept.page is-kept.root is-kept.is in
         let same : is-kept.root ≡ ends.root =
         unique (chain_under before.key all) up promised.promise.epoch is-kept.root ends.root (own, sym is-kept.epoch) (in-roots by (now_book before) (now_book before).last ends.root ends.rooted, last-epoch) in
         is-kept.body_hash ∙ ap (λ (r : SignedRoot). by.hash (body_bytes r.body)) same
 
     -- the change was promised before, or it is that which waits
-    abbrev IsTimely : List ℕ → ℕ × List ℕ → Type 0
+    abbrev IsTimely : List ℕ → ℕ × BoundKey → Type 0
     IsTimely own change = (change.0 < (now_book before).last.epoch) ⊎ ((change.0 ≡ (now_book before).last.epoch) × IsSome (at (now_book before).pending own))
 
     -- none waits, since the promise was given
-    lower : (change : ℕ × List ℕ) → IsTimely name change → change.0 < promised.promise.epoch
+    lower : (change : ℕ × BoundKey) → IsTimely name change → change.0 < promised.promise.epoch
     lower change timely =
         let low = (promises-later (index_of by) (now_book before) verb name key promise-given.answer (change ∷ []) (told_is ∙ promise-given.told) (timely, tt)).0 in
         omega (arith, low, promise-given.epoch)
 
-    may-expect : (watching : Monitor) (watcher : Watcher) → IsWatcher before.key all (now_book before) watching watcher → watching.name ≡ name → MayExpect watching key promised.promise
+    may-expect : (watching : Monitor) (watcher : Watcher) → IsWatcher before.key all (now_book before) watching watcher → watching.name ≡ name → MayExpect watching (bound_key key) promised.promise
     may-expect watching watcher own named = record {
       named = is-kept.asked.0 ∙ sym named;
       keyed = promise-given.bound;
@@ -314,7 +321,7 @@ module _ {R : Type 0} (digest_of : List ℕ → List ℕ) (value_of signature_of
       unwatched = let low = until-last own.until.0 own.until.1 in omega (arith, low, own.until.3);
     }
 
-    one-may : (watching : Monitor) (watcher : Watcher) (body : List ℕ) → SpellsPromise body promised → IsWatcher before.key all (now_book before) watching watcher → MayBeHanded by.hash verified name key body watching
+    one-may : (watching : Monitor) (watcher : Watcher) (body : List ℕ) → SpellsPromise body promised → IsWatcher before.key all (now_book before) watching watcher → MayBeHanded by.hash verified name (bound_key key) body watching
     unfolding PromiseVerifies HasRootOf
     one-may watching watcher body spells own named =
         let there : Contains (drop own.skipped all) ends.root =
@@ -328,10 +335,10 @@ module _ {R : Type 0} (digest_of : List ℕ → List ℕ) (value_of signature_of
           ),
         )
 
-    pub may-be-handed : (body : List ℕ) → SpellsPromise body promised → AllByRecursion (MayBeHanded by.hash verified name key body) now.monitors
-    may-be-handed body spells = subst (AllByRecursion (MayBeHanded by.hash verified name key body)) (sym monitors_are) (each before.monitors watchers may.are)
+    pub may-be-handed : (body : List ℕ) → SpellsPromise body promised → AllByRecursion (MayBeHanded by.hash verified name (bound_key key) body) now.monitors
+    may-be-handed body spells = subst (AllByRecursion (MayBeHanded by.hash verified name (bound_key key) body)) (sym monitors_are) (each before.monitors watchers may.are)
       where
-        each : (monitors : List Monitor) (beside : List Watcher) → AllZip (IsWatcher before.key all (now_book before)) monitors beside → AllByRecursion (MayBeHanded by.hash verified name key body) monitors
+        each : (monitors : List Monitor) (beside : List Watcher) → AllZip (IsWatcher before.key all (now_book before)) monitors beside → AllByRecursion (MayBeHanded by.hash verified name (bound_key key) body) monitors
         each [] beside are = tt
         each (m ∷ ms) [] are = absurd are
         each (m ∷ ms) (w ∷ ws) are = (one-may m w body spells are.0, each ms ws are.1)

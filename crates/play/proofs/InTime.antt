@@ -6,9 +6,10 @@ use Rattle.std.specs.List.{AllByRecursion}
 use Rattle.std.specs.Str.{bytes_eq}
 use Rattle.std.proofs.lemmas.Slice.Eq.{bytes_eq-Decides}
 use Rattle.commands.specs.Operations as ask
-use Rattle.commands.specs.Operations.{Operation, Query, Edit, Put}
+use Rattle.commands.specs.Operations.{bound_key, Operation, Query, Edit, Put}
 use Rattle.wire.specs.Requests as request
 use Rattle.wire.specs.Streams.{Message}
+use Rattle.encoding.specs.declared.bound_key.BoundKey.{BoundKey}
 use Rattle.book.specs.declared.directory_refusal.Refusal.{Refusal}
 use Rattle.book.specs.declared.directory_refusal.Refusal.TheVariants.{EpochNotLater}
 use Rattle.book.specs.Steps.{refusal, done, step, unless_refused}
@@ -39,7 +40,7 @@ some-put map name own x some = by (is_at (bytes_cmp own) name) refl
 module _ (index_of : List ℕ → List ℕ) where
   -- from a book to a later one
   abbrev Keeps : Book → Book → Type 0
-  Keeps book after = (name : List ℕ) (change : ℕ × List ℕ) → IsInTime book name change → IsInTime after name change
+  Keeps book after = (name : List ℕ) (change : ℕ × BoundKey) → IsInTime book name change → IsInTime after name change
 
   step-keeps : (book : Book) (asked : Operation) → Keeps book (step index_of book asked).1
   step-keeps book asked name change is = by (refusal index_of book asked) refl
@@ -103,7 +104,7 @@ module _ (index_of : List ℕ → List ℕ) where
       by false = are
 
   -- a promise over the last root, which waits, is handed out
-  handed-in-time : (book : Book) (name key : List ℕ) (epoch : ℕ) → epoch ≡ book.last.epoch → is_some (at book.pending name) ≡ true → (watchers : List Watcher) → AreInTime book watchers
+  handed-in-time : (book : Book) (name : List ℕ) (key : BoundKey) (epoch : ℕ) → epoch ≡ book.last.epoch → is_some (at book.pending name) ≡ true → (watchers : List Watcher) → AreInTime book watchers
       → AreInTime book (handed name epoch key watchers)
   handed-in-time book name key epoch now waits [] are = tt
   handed-in-time book name key epoch now waits (watcher ∷ more) are = (by (bytes_eq watcher.name name) refl, handed-in-time book name key epoch now waits more are.1)
@@ -126,7 +127,7 @@ module _ (index_of : List ℕ → List ℕ) where
       by (Some why) kept = on-keeps stand.book stand.book stand.book stand.watchers kept
       by None kept =
           let after : Book = (done stand.book (Edit (Put verb name key))).1 in
-          handed-in-time after name key stand.book.last.epoch refl (ap is_some (at_put_same name _ stand.book.pending)) (watch_on index_of stand.book after stand.watchers).1
+          handed-in-time after name (bound_key key) stand.book.last.epoch refl (ap is_some (at_put_same name _ stand.book.pending)) (watch_on index_of stand.book after stand.watchers).1
           (on-keeps after stand.book after stand.watchers kept)
   line-in-time stand (Ask requested) are =
       let now = comes_of index_of stand.book (request_asks requested) in
@@ -156,10 +157,10 @@ pub promises-later : PromisesAreLater
 promises-later index_of book verb name key answer changes is are = by (refusal index_of book (Edit (Put verb name key))) refl is
   where
     by : (why : Option Refusal) → refusal index_of book (Edit (Put verb name key)) ≡ why → upshot_of (unless_refused why book (Edit (Put verb name key))).0 ≡ Ok answer
-        → AllByRecursion (λ (change : ℕ × List ℕ). change.0 < book.last.epoch) changes
+        → AllByRecursion (λ (change : ℕ × BoundKey). change.0 < book.last.epoch) changes
     by (Some why) e f = absurd cc
-    by None e f = each-so (IsInTime book name) (λ (change : ℕ × List ℕ). change.0 < book.last.epoch) lower changes are
+    by None e f = each-so (IsInTime book name) (λ (change : ℕ × BoundKey). change.0 < book.last.epoch) lower changes are
       where
-        lower : (change : ℕ × List ℕ) → IsInTime book name change → change.0 < book.last.epoch
+        lower : (change : ℕ × BoundKey) → IsInTime book name change → change.0 < book.last.epoch
         lower change (inl low) = low
         lower change (inr waits) = let clash : true ≡ false = sym waits.1 ∙ (put_passed index_of book verb name key e).pending in absurd cc

@@ -17,6 +17,7 @@ pub mod Handing
 pub mod Heard
 pub mod Hearing
 pub mod InTime
+pub mod Keys
 pub mod LineAsked
 pub mod Lists
 pub mod Looked

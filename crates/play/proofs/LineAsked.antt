@@ -1,12 +1,12 @@
 -- What a line that asks does to a script.
-use Rattle.std.proofs.Common.{◌≡◌, ℕ, Global, ◌<◌, List, [], ◌∷◌, ◌++◌, length, Bool, true, false, cond, Some, Ok, refl, sym, ap, subst, ◌∙◌, inl, inr, arith, append_assoc, append-nil}
+use Rattle.std.proofs.Common.{◌≡◌, ℕ, Global, ◌<◌, List, [], ◌∷◌, ◌++◌, length, Bool, true, false, cond, Option, Some, Ok, refl, sym, ap, subst, ◌∙◌, inl, inr, arith, append_assoc, append-nil}
 use Rattle.std.specs.Prelude.{nat_lt, Vec}
 use Rattle.std.specs.List.{AllZip}
 use Rattle.std.proofs.lemmas.Bool.{lt-ltb}
 use Rattle.rand_core.specs.Stream.{Stream}
 use Rattle.rootchain.specs.declared.signed_root.SignedRoot.{SignedRoot}
 use Rattle.commands.specs.declared.edit.Verb.{Verb}
-use Rattle.commands.specs.Operations.{Operation, Edit}
+use Rattle.commands.specs.Operations.{AskedKey, Operation, Edit}
 use Rattle.commands.specs.Operations as asks
 use Rattle.wire.specs.Requests.{RequestContent}
 use Rattle.wire.specs.Requests as request
@@ -250,8 +250,8 @@ module _ {R : Type 0} (digest_of : List ℕ → List ℕ) (value_of signature_of
 -- ---- where no promise is handed out
 
 -- no key was asked for
-pub no_put : (ask : Ask) → ((verb : Verb) (name key : Vec ℕ Global) → ask ≡ made.Put verb name key → ⊥) → (verb : Verb) (name key : List ℕ) → ask_seen ask ≡ request.Put verb name key → ⊥
-no_put (made.Put own held bound) none verb name key is = none own held bound refl
+pub no_put : (ask : Ask) → ((verb : Verb) (name key : Vec ℕ Global) (policy : Option ℕ) → ask ≡ made.Put verb name key policy → ⊥) → (verb : Verb) (name : List ℕ) (key : AskedKey) → ask_seen ask ≡ request.Put verb name key → ⊥
+no_put (made.Put own held bound policy) none verb name key is = none own held bound policy refl
 no_put (made.Promise held) none verb name key is = absurd cc
 no_put (made.Lookup held epoch) none verb name key is = absurd cc
 no_put (made.History from count) none verb name key is = absurd cc
@@ -261,7 +261,7 @@ no_put (made.Turn epoch _) none verb name key is = absurd cc
 module _ {R : Type 0} (digest_of : List ℕ → List ℕ) (value_of signature_of : List ℕ → List ℕ → List ℕ) (stream : R → Stream) (accepted verified : List ℕ → List ℕ → List ℕ → Type 0)
     (before asked now : Parties R) (requested : RequestContent) (text : List ℕ) (watchers : List Watcher)
     (may : MayHand digest_of value_of signature_of stream accepted verified before asked now requested text watchers) where
-  pub none-handed : ((verb : Verb) (name key : List ℕ) → requested ≡ request.Put verb name key → ⊥)
+  pub none-handed : ((verb : Verb) (name : List ℕ) (key : AskedKey) → requested ≡ request.Put verb name key → ⊥)
       → HasHanded digest_of value_of signature_of stream accepted verified before asked now requested watchers now
   none-handed none = record { others = refl; are = by requested none }
     where
@@ -281,7 +281,7 @@ module _ {R : Type 0} (digest_of : List ℕ → List ℕ) (value_of signature_of
           (sym (ap (λ (p : Parties R). p.monitors) may.others ∙ ap (λ (p : Parties R). p.monitors) may.was.others))
           (watchers_still before.key (roots by_provider (book before)) (book before) (book asked) before.monitors watchers waits may.are)
 
-      by : (r : RequestContent) → ((verb : Verb) (name key : List ℕ) → r ≡ request.Put verb name key → ⊥)
+      by : (r : RequestContent) → ((verb : Verb) (name : List ℕ) (key : AskedKey) → r ≡ request.Put verb name key → ⊥)
           → AllZip (IsWatcher before.key (roots by_provider (book before)) (book asked)) now.monitors
           (after_promise r (book before).last.epoch (comes_of (index_of by_provider) (book before) (request_asks requested)).0 watchers)
       by (request.Put verb name key) none = absurd (none verb name key refl)

@@ -10,11 +10,12 @@ use Rattle.std.proofs.lemmas.Bool.{and_parts, eqb-true, lt-ltb}
 use Rattle.std.proofs.lemmas.List.Elements.{Contains-append_left, Contains-push}
 use Rattle.std.proofs.lemmas.Slice.Eq.{bytes_eq-Decides}
 use Rattle.proofs.specs.Watches.{expected}
-use Rattle.commands.specs.Operations.{Operation, Query, Edit, Put, Turn, Promise, Lookup, History, Head}
+use Rattle.commands.specs.Operations.{bound_key, Operation, Query, Edit, Put, Turn, Promise, Lookup, History, Head}
 use Rattle.textio.specs.Lines.{lines_of}
 use Rattle.wire.specs.Requests as request
 use Rattle.wire.specs.Requests.{RequestContent}
 use Rattle.wire.specs.Streams.{Message}
+use Rattle.encoding.specs.declared.bound_key.BoundKey.{BoundKey}
 use Rattle.book.specs.declared.directory_refusal.Refusal.{Refusal}
 use Rattle.book.specs.Steps.{has_its_index, next_page, refusal, page_range as page_told, with_page, Outcome, done, found_in, promise_outcome, step, unless_refused}
 use Rattle.book.specs.Books.{Binding, Book, Page, page_at, pages}
@@ -85,11 +86,11 @@ session-plain session text = subst (λ (line : List ℕ). is_plain line ≡ true
 watched-plain : (watcher : Watcher) (page : Page) → IsPlain (watched_text watcher page)
 watched-plain watcher page = by (same_key (key_at page watcher.name) (expected watcher.watch page.epoch)) (place_text watcher.name page) (key_at page watcher.name)
   where
-    by : (b : Bool) (place : List ℕ) (key : Option (List ℕ)) → IsPlain (verdict_text b place key)
+    by : (b : Bool) (place : List ℕ) (key : Option BoundKey) → IsPlain (verdict_text b place key)
     by true place key = refl
     by false place key = refl
 
-statement-plain : (epoch : ℕ) (key : Option (List ℕ)) → IsPlain (statement_text epoch key)
+statement-plain : (epoch : ℕ) (key : Option BoundKey) → IsPlain (statement_text epoch key)
 statement-plain epoch None = refl
 statement-plain epoch (Some key) = refl
 
@@ -260,7 +261,7 @@ module _ (index_of : List ℕ → List ℕ) (after : Book) (P Q : List ℕ → T
       by true = all-lines (pages later) (all-in (Contains (pages after)) (pages later) within) watchers named
       by false = (tt, named)
 
-  handed-named : (name : List ℕ) (epoch : ℕ) (key : List ℕ) (watchers : List Watcher) → AreNamed watchers → AreNamed (handed name epoch key watchers)
+  handed-named : (name : List ℕ) (epoch : ℕ) (key : BoundKey) (watchers : List Watcher) → AreNamed watchers → AreNamed (handed name epoch key watchers)
   handed-named name epoch key [] named = tt
   handed-named name epoch key (watcher ∷ more) named = (by (bytes_eq watcher.name name), handed-named name epoch key more named.1)
     where
@@ -269,7 +270,7 @@ module _ (index_of : List ℕ → List ℕ) (after : Book) (P Q : List ℕ → T
       by false = named.0
 
   promised-named : (requested : RequestContent) (epoch : ℕ) (said : Upshot) (watchers : List Watcher) → AreNamed watchers → AreNamed (after_promise requested epoch said watchers)
-  promised-named (request.Put verb name key) epoch (Ok answer) watchers named = handed-named name epoch key watchers named
+  promised-named (request.Put verb name key) epoch (Ok answer) watchers named = handed-named name epoch (bound_key key) watchers named
   promised-named _ epoch said watchers named = named
 
   of-session : (session : ℕ) (texts : List (List ℕ)) → AllByRecursion Q (map (of_session session) texts)

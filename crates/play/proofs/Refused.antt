@@ -1,6 +1,7 @@
 -- What an honest directory gives no cause for: a refusal that is not for want of memory.
 use Rattle.std.proofs.Common.{◌≡◌, ℕ, List, None, Some, Result, Ok, Err, inl, inr, refl, sym, subst, ◌∙◌, arith}
 use Rattle.wire.specs.Frames.{Frame}
+use Rattle.encoding.specs.declared.bound_key.BoundKey.{BoundKey}
 use Rattle.rootchain.specs.Chains.{Verifies}
 use Rattle.rootchain.specs.Promises.{PromiseVerifies}
 use Rattle.rootchain.specs.SignedRoots.{SpellsRoot}
@@ -41,8 +42,10 @@ begins-well book.Memory is = refl
 begins-well book.EpochNotLater is = absurd (omega (arith, is))
 begins-well book.BadName is = absurd is
 begins-well book.BadKey is = absurd is
+begins-well book.BadPolicy is = absurd is
 begins-well book.NameTaken is = absurd is
 begins-well book.NoSuchName is = absurd is
+begins-well book.FinalBinding is = absurd is
 begins-well book.PendingExists is = absurd is
 begins-well book.IndexTaken is = absurd is
 begins-well book.NoSuchEpoch is = absurd is
@@ -106,7 +109,7 @@ steps-well hash accepted before after bytes root next client.NoPromise steps = a
 
 -- ---- a promise that a monitor may expect
 
-module _ (hash : List ℕ → List ℕ) (verified : List ℕ → List ℕ → List ℕ → Type 0) (before after : Monitor) (key bytes : List ℕ) (promised : SignedPromise) (new : IsNewPromise hash verified before key bytes promised) where
+module _ (hash : List ℕ → List ℕ) (verified : List ℕ → List ℕ → List ℕ → Type 0) (before after : Monitor) (key : BoundKey) (bytes : List ℕ) (promised : SignedPromise) (new : IsNewPromise hash verified before key bytes promised) where
   pub expects-well : (result : Result (Unit {0}) MonitorRefusal) → Expects hash verified before key bytes result after → (why : MonitorRefusal) → result ≡ Err why → why ≡ monitor.Client client.Memory
   expects-well (Ok done) expects why is = absurd cc
   expects-well (Err (monitor.Client client.Memory)) expects why is = cc

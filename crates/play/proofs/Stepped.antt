@@ -6,7 +6,6 @@ use Rattle.std.specs.List.{AllZip, find}
 use Rattle.std.proofs.lemmas.Bool.{and_from, eq-eqb, false_from_ne_true, le-leb, ne_eqb}
 use Rattle.std.proofs.lemmas.List.{append-nil}
 use Rattle.std.proofs.lemmas.List.Elements.{All-contains, Contains-append_right}
-use Rattle.std.proofs.lemmas.Slice.Eq.{bytes_eq-Decides}
 use Rattle.hex.specs.Hex.{encode_lower}
 use Rattle.rand_core.specs.Stream.{Stream}
 use Rattle.encoding.specs.Limits.{IsName}
@@ -21,6 +20,7 @@ use Rattle.proofs.specs.declared.reply_refusal.Refusal.TheVariants as proof
 use Rattle.commands.specs.Operations.{Operation, Query, Lookup}
 use Rattle.wire.specs.Frames.{Frame, frame_bytes, IsFrame}
 use Rattle.wire.specs.Requests as request
+use Rattle.encoding.specs.declared.bound_key.BoundKey.{BoundKey}
 use Rattle.book.specs.declared.keeper.NoKeeper.{NoKeeper}
 use Rattle.book.specs.declared.directory_refusal.Refusal.TheVariants.{BadName, NoSuchEpoch}
 use Rattle.book.specs.declared.reply.Reply.{Reply}
@@ -49,6 +49,7 @@ use Rattle.play.specs.Parties.{Parties, book_of, provider_of, AreAt, HasAsked, I
 use Rattle.play.specs.Played.{Stand}
 use Rattle.play.specs.Steps.{HasStepped, Watches}
 use Rattle.play.specs.Telling.{placed_text, step_text}
+use Rattle.play.proofs.Keys.{keys-same, same-keys}
 use Rattle.play.specs.Watchers.{ahead, alarm_key, same_key, verdict_text, watched_text, Watcher}
 use Rattle.play.proofs.Ahead.{above-all, first-ahead}
 use Rattle.play.proofs.Calling.{in-roots, rooted-epoch}
@@ -81,18 +82,6 @@ one-line printed line = append_assoc printed line (10 ∷ []) ∙ ap (λ (more :
 
 -- ---- words
 
-same-keys : (key other : Option (List ℕ)) → key ≡ other → same_key key other ≡ true
-same-keys None None is = refl
-same-keys None (Some other) is = absurd cc
-same-keys (Some key) None is = absurd cc
-same-keys (Some key) (Some other) is = let e : key ≡ other = cc in (bytes_eq-Decides key other).1 e
-
-keys-same : (key other : Option (List ℕ)) → same_key key other ≡ true → key ≡ other
-keys-same None None is = refl
-keys-same None (Some other) is = absurd cc
-keys-same (Some key) None is = absurd cc
-keys-same (Some key) (Some other) is = ap (λ (k : List ℕ). Some k) ((bytes_eq-Decides key other).0 is)
-
 abbrev place-of : Watcher → Page → List ℕ
 place-of watcher page = encode_lower watcher.name ++ codes " " ++ decimal page.epoch
 
@@ -106,7 +95,7 @@ told-text watcher page epoch Kept is tells =
     ∙ sym (ap (by-test watcher page) (same-keys (key_at page watcher.name) (expected watcher.watch page.epoch) tells))
 told-text watcher page epoch (Alarm at found) is (differs, of, states) =
     ap (λ (e : ℕ). placed_text (codes "alarm ") watcher.name e ++ codes " " ++ alarm_key (key_stated found)) of
-    ∙ ap (λ (key : Option (List ℕ)). placed_text (codes "alarm ") watcher.name page.epoch ++ codes " " ++ alarm_key key) states
+    ∙ ap (λ (key : Option BoundKey). placed_text (codes "alarm ") watcher.name page.epoch ++ codes " " ++ alarm_key key) states
     ∙ sym (ap (by-test watcher page) (false_from_ne_true (same_key (key_at page watcher.name) (expected watcher.watch page.epoch)) (λ e. differs (keys-same (key_at page watcher.name) (expected watcher.watch page.epoch) e))))
 
 refused-text : (why : ProofRefusal) → why ≡ proof.SameIndex → codes "client refuses proof " ++ decimal (reply_refusal_number why) ≡ refused_proof
@@ -323,7 +312,7 @@ module _ {R : Type 0} (digest_of : List ℕ → List ℕ) (value_of signature_of
       let tells_page : StepTells watcher.watch s.0.epoch (key_at s.0 watcher.name) told
       = subst (λ (w : Watch). StepTells w s.0.epoch (key_at s.0 watcher.name) told) is.watch
       (subst (λ (name : List ℕ). StepTells watching.watch s.0.epoch (key_at s.0 name) told) is.name
-      (subst (λ (key : Option (List ℕ)). StepTells watching.watch s.0.epoch key told) states.0
+      (subst (λ (key : Option BoundKey). StepTells watching.watch s.0.epoch key told) states.0
       (subst (λ (e : ℕ). StepTells watching.watch e (stated spelled.end) told) of tells))) in
       let line : step_text watching.name epoch told ≡ watched_text watcher s.0
       = ap (λ (name : List ℕ). step_text name epoch told) is.name ∙ told-text watcher s.0 epoch told (sym (of-epoch root nearest) ∙ of) tells_page in

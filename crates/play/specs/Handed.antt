@@ -2,6 +2,7 @@
 use Rattle.std.specs.Prelude.{◌≡◌, ◌≢◌, ◌⊎◌, ℕ, List}
 use Rattle.std.specs.List.{AllZip}
 use Rattle.rand_core.specs.Stream.{Stream}
+use Rattle.encoding.specs.declared.bound_key.BoundKey.{BoundKey}
 use Rattle.rootchain.specs.declared.signed_promise.SignedPromise.{SignedPromise}
 use Rattle.wire.specs.Requests.{RequestContent}
 use Rattle.book.specs.Shows.{index_of, roots}
@@ -17,7 +18,7 @@ abbrev pub IsHanded : List ℕ → SignedPromise → Monitor → Monitor → Typ
 IsHanded name promised before after = ((before.name ≡ name) × (after ≡ with_change before promised)) ⊎ ((before.name ≢ name) × (after ≡ before))
 
 -- if the monitor is one of the name, the bytes spell a promise of the key that it may expect
-abbrev pub MayBeHanded : (List ℕ → List ℕ) → (List ℕ → List ℕ → List ℕ → Type 0) → List ℕ → List ℕ → List ℕ → Monitor → Type 0
+abbrev pub MayBeHanded : (List ℕ → List ℕ) → (List ℕ → List ℕ → List ℕ → Type 0) → List ℕ → BoundKey → List ℕ → Monitor → Type 0
 MayBeHanded hash verified name key bytes monitor = monitor.name ≡ name → (promised : SignedPromise) × IsNewPromise hash verified monitor key bytes promised
 
 module _ {R : Type 0} (digest_of : List ℕ → List ℕ) (value_of signature_of : List ℕ → List ℕ → List ℕ) (stream : R → Stream) (accepted verified : List ℕ → List ℕ → List ℕ → Type 0) where

@@ -3,7 +3,8 @@ use Rattle.std.specs.Prelude.{◌≡◌, ◌⊎◌, ℕ, ◌<◌, true, List, Ok
 use Rattle.std.specs.List.{AllByRecursion}
 use Rattle.rand_core.specs.Stream.{Stream}
 use Rattle.commands.specs.declared.edit.Verb.{Verb}
-use Rattle.commands.specs.Operations.{Edit, Put}
+use Rattle.encoding.specs.declared.bound_key.BoundKey.{BoundKey}
+use Rattle.commands.specs.Operations.{AskedKey, Edit, Put}
 use Rattle.book.specs.Steps.{Answer}
 use Rattle.book.specs.Books.{Book}
 use Rattle.encoding.specs.Maps.{at}
@@ -13,7 +14,7 @@ use Rattle.play.specs.Played.{opening}
 use Rattle.play.specs.Watchers.{Watcher}
 
 -- the change was promised over the root of a page before the last, or over that of the last, and waits
-abbrev pub IsInTime : Book → List ℕ → ℕ × List ℕ → Type 0
+abbrev pub IsInTime : Book → List ℕ → ℕ × BoundKey → Type 0
 IsInTime book name change = (change.0 < book.last.epoch) ⊎ ((change.0 ≡ book.last.epoch) × (is_some (at book.pending name) ≡ true))
 
 -- each change that a monitor expects
@@ -27,6 +28,6 @@ MonitorsAreInTime = (index_of : List ℕ → List ℕ) (salts : Stream) (lines :
 
 -- A key that is then accepted for a name is promised above all changes that a monitor of the name expects.
 abbrev pub PromisesAreLater : Type 0
-PromisesAreLater = (index_of : List ℕ → List ℕ) (book : Book) (verb : Verb) (name key : List ℕ) (answer : Answer) (changes : List (ℕ × List ℕ))
+PromisesAreLater = (index_of : List ℕ → List ℕ) (book : Book) (verb : Verb) (name : List ℕ) (key : AskedKey) (answer : Answer) (changes : List (ℕ × BoundKey))
     → (comes_of index_of book (Ok (Edit (Put verb name key)))).0 ≡ Ok answer → AllByRecursion (IsInTime book name) changes
     → AllByRecursion (λ change. change.0 < book.last.epoch) changes

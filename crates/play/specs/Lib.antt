@@ -18,6 +18,7 @@ pub mod Parties
 pub mod Played
 pub mod PlayedLines
 pub mod Plays
+pub mod Policies
 pub mod Printing
 pub mod Reading
 pub mod Rotations

@@ -2,6 +2,9 @@
 use Rattle.std.specs.Prelude.{ℕ, ◌&&◌, Bool, if◌then◌else◌, List, [], ◌∷◌, ◌++◌, Option, Some, None, Ok, Err, codes, decimal, is_none}
 use Rattle.std.specs.List.{flat_map}
 use Rattle.hex.specs.Hex.{encode_lower}
+use Rattle.encoding.specs.declared.bound_key.BoundKey.{BoundKey}
+use Rattle.encoding.specs.Policies.{policy_word}
+use Rattle.encoding.specs.declared.policy.Policy.{Policy}
 use Rattle.book.specs.Steps.{Answer, Promised, Found, Told, Last, has_its_index}
 use Rattle.book.specs.Books.{Book, Page}
 use Rattle.book.specs.Honest.{key_at}
@@ -39,10 +42,18 @@ is_double index_of page name = is_none (at page.bindings name) && has_its_index 
 abbrev pub refused_proof : List ℕ
 refused_proof = codes "client refuses proof 5"
 
+-- a policy behind a key, if there is one
+abbrev pub policy_text : Option Policy → List ℕ
+policy_text None = []
+policy_text (Some policy) = 32 ∷ policy_word policy
+
+abbrev pub key_text : BoundKey → List ℕ
+key_text key = encode_lower key.value ++ policy_text key.policy
+
 -- what a client accepts of a name at an epoch: a key, or none
-abbrev pub statement_text : ℕ → Option (List ℕ) → List ℕ
+abbrev pub statement_text : ℕ → Option BoundKey → List ℕ
 statement_text epoch None = codes "absent " ++ decimal epoch
-statement_text epoch (Some key) = codes "present " ++ decimal epoch ++ codes " " ++ encode_lower key
+statement_text epoch (Some key) = codes "present " ++ decimal epoch ++ codes " " ++ key_text key
 
 -- what is found of a name in a page, as the client says it
 abbrev pub found_text : (List ℕ → List ℕ) → Page → List ℕ → List ℕ

@@ -2,6 +2,8 @@
 -- proof. Of hashes there is only the index of a name, by which two names are told apart.
 use Rattle.std.specs.Prelude.{ℕ, nat_lt, if◌then◌else◌, List, [], ◌∷◌, ◌++◌, length, map, Option, Ok, replicate}
 use Rattle.rand_core.specs.Stream as salt
+use Rattle.commands.specs.Operations.{bound_key}
+use Rattle.encoding.specs.declared.bound_key.BoundKey.{BoundKey}
 use Rattle.wire.specs.Requests.{RequestContent, Put}
 use Rattle.wire.specs.Streams.{Remainder, Message, Rest}
 use Rattle.book.specs.Books.{Book, pages}
@@ -26,7 +28,7 @@ opening salts = record { book = books.fresh 1 (replicate 32 0) salts; sessions =
 
 -- only a registration or a change hands out its promise
 abbrev pub after_promise : RequestContent → ℕ → Upshot → List Watcher → List Watcher
-after_promise (Put verb name key) epoch (Ok answer) watchers = handed name epoch key watchers
+after_promise (Put verb name key) epoch (Ok answer) watchers = handed name epoch (bound_key key) watchers
 after_promise requested epoch said watchers = watchers
 
 -- a piece of a session's stream: the session is opened, unless it is open or too many are, and takes it
@@ -34,7 +36,7 @@ abbrev pub piece_events : ℕ → List ℕ → List Happening
 piece_events session piece = Open session ∷ Bytes session piece ∷ []
 
 -- a monitor that begins at the last page
-abbrev pub watcher_of : Book → List ℕ → Option (List ℕ) → Watcher
+abbrev pub watcher_of : Book → List ℕ → Option BoundKey → Watcher
 watcher_of book name start = record { name = name; watch = record { start = start; changes = [] }; behind = last_epoch book.earlier }
 
 module _ (index_of : List ℕ → List ℕ) where
@@ -71,7 +73,7 @@ module _ (index_of : List ℕ → List ℕ) where
       )
 
   -- a monitor watches the last page at once
-  abbrev pub watch : Stand → List ℕ → Option (List ℕ) → List (List ℕ) × Stand
+  abbrev pub watch : Stand → List ℕ → Option BoundKey → List (List ℕ) × Stand
   watch stand name start =
       let now = through index_of (watcher_of stand.book name start) (stand.book.last ∷ []) in
       (now.0, record stand { watchers = stand.watchers ++ now.1 ∷ [] })

@@ -1,5 +1,5 @@
 -- What a line of a script says (the form is this directory's own), and what is seen of one that was read.
-use Rattle.std.specs.Prelude.{ℕ, ◌≤◌, ◌^◌, ◌-◌, ◌==◌, ◌&&◌, nat_le, if◌then◌else◌, List, [], ◌∷◌, Option, Some, None, codes, decimal, option_and_then, replicate, ⊤}
+use Rattle.std.specs.Prelude.{ℕ, ◌≤◌, ◌^◌, ◌-◌, ◌==◌, ◌&&◌, nat_le, if◌then◌else◌, List, [], ◌∷◌, Option, Some, None, codes, decimal, option_and_then, option_map, replicate, ⊤}
 use Rattle.std.specs.Int.NonZero.{non_zero_u32_get}
 use Rattle.std.specs.List.{slice_split}
 use Rattle.std.specs.Str.{byte, bytes_eq}
@@ -7,9 +7,13 @@ use Rattle.std.specs.Result.{result_ok}
 use Rattle.std.specs.Str.Parse.{digits_value}
 use Rattle.hex.specs.Hex.{decode_of}
 use Rattle.textio.specs.Digits.{hex32}
+use Rattle.commands.specs.declared.edit.Verb.{Verb}
 use Rattle.commands.specs.declared.edit.Verb.TheVariants.{Register, Change}
 use Rattle.commands.specs.Operations.{Promise, Lookup, History, Head}
+use Rattle.encoding.specs.Policies.{policy_byte, policy_named}
 use Rattle.encoding.specs.declared.bounded.TheConstants.{MIN_LEN}
+use Rattle.encoding.specs.declared.bound_key.BoundKey.{BoundKey}
+use Rattle.encoding.specs.declared.policy.Policy.{Policy}
 use Rattle.encoding.specs.declared.key_data.TheConstants.{MAX_KEY_DATA_LEN}
 use Rattle.encoding.specs.declared.name.TheConstants.{MAX_NAME_LEN}
 use Rattle.wire.specs.declared.frame.TheConstants.{MAX_FRAME_LEN}
@@ -27,8 +31,8 @@ pub data ScriptLine : Type 0 where
   Pass : ScriptLine
   -- ask the directory, through session 0
   Ask : RequestContent → ScriptLine
-  -- a monitor of this name, whose owner expects this key, or none
-  Watch : List ℕ → Option (List ℕ) → ScriptLine
+  -- a monitor of this name, whose owner expects this key, with its policy if it has one, or no key
+  Watch : List ℕ → Option BoundKey → ScriptLine
   -- a piece of this session's stream
   Piece : ℕ → List ℕ → ScriptLine
   -- this session ends
@@ -80,17 +84,30 @@ with_two_words word other_word said (_ ∷ []) = None
 with_two_words word other_word said (one ∷ other ∷ []) = option_and_then (λ a. option_and_then (said a) (other_word other)) (word one)
 with_two_words word other_word said (_ ∷ _ ∷ _ ∷ _) = None
 
+abbrev pub with_three_words : {A B C : Type 0} → (List ℕ → Option A) → (List ℕ → Option B) → (List ℕ → Option C) → (A → B → C → Option ScriptLine) → List (List ℕ) → Option ScriptLine
+with_three_words word other_word third_word said [] = None
+with_three_words word other_word third_word said (one ∷ more) = option_and_then (λ a. with_two_words other_word third_word (said a) more) (word one)
+
 -- a request that a frame can hold
 abbrev pub asking : RequestContent → Option ScriptLine
 asking requested = if nat_le (frame_size (request_frame requested)) MAX_FRAME_LEN then Some (Ask requested) else None
 
-abbrev pub key_or_none : List ℕ → Option (List ℕ)
+abbrev pub key_or_none : List ℕ → Option BoundKey
 key_or_none [] = None
-key_or_none (first ∷ more) = Some (first ∷ more)
+key_or_none (first ∷ more) = Some (record { value = first ∷ more; policy = None })
 
 -- a name and a key of lengths that are allowed, or no key
 abbrev pub watching : List ℕ → List ℕ → Option ScriptLine
 watching name key = if has_length_within MIN_LEN MAX_NAME_LEN name && has_length_within 0 MAX_KEY_DATA_LEN key then Some (Watch name (key_or_none key)) else None
+
+-- a name and a key of lengths that are allowed, and a policy
+abbrev pub watching_with : List ℕ → List ℕ → Policy → Option ScriptLine
+watching_with name key policy =
+    if has_length_within MIN_LEN MAX_NAME_LEN name && has_length_within MIN_LEN MAX_KEY_DATA_LEN key then Some (Watch name (Some (record { value = key; policy = Some policy }))) else None
+
+-- a registration or a change, with a policy
+abbrev pub putting_with : Verb → List ℕ → List ℕ → Policy → Option ScriptLine
+putting_with verb name key policy = asking (Put verb name (key, Some (policy_byte policy)))
 
 -- ---- lines
 
@@ -98,6 +115,7 @@ watching name key = if has_length_within MIN_LEN MAX_NAME_LEN name && has_length
 abbrev pub other_verbs : List (List ℕ × (List (List ℕ) → Option ScriptLine))
 other_verbs =
     (codes "watch", with_two_words hex_word hex_word watching)
+    ∷ (codes "watch2", with_three_words hex_word hex_word policy_named watching_with)
     ∷ (codes "bytes", with_two_words session_word hex_word (λ session piece. Some (Piece session piece)))
     ∷ (codes "end", with_one_word session_word (λ session. Some (End session)))
     ∷ []
@@ -105,8 +123,10 @@ other_verbs =
 -- the same of each command
 abbrev pub verbs : List (List ℕ × (List (List ℕ) → Option ScriptLine))
 verbs =
-    (codes "register", with_two_words hex_word hex_word (λ name key. asking (Put Register name key)))
-    ∷ (codes "change", with_two_words hex_word hex_word (λ name key. asking (Put Change name key)))
+    (codes "register", with_two_words hex_word hex_word (λ name key. asking (Put Register name (key, None))))
+    ∷ (codes "change", with_two_words hex_word hex_word (λ name key. asking (Put Change name (key, None))))
+    ∷ (codes "register2", with_three_words hex_word hex_word policy_named (putting_with Register))
+    ∷ (codes "change2", with_three_words hex_word hex_word policy_named (putting_with Change))
     ∷ (codes "promise", with_one_word hex_word (λ name. asking (Query (Promise name))))
     ∷ (codes "close", with_one_word epoch_word (λ epoch. asking (Turn token epoch None)))
     ∷ (codes "rotate", with_two_words epoch_word hex32 (λ epoch nonce. asking (Turn token epoch (Some nonce))))
@@ -132,7 +152,7 @@ line_of (first ∷ more) = if first == byte "#" then Some Pass else line_of_word
 -- ---- lines that were read, regardless of where their bytes lie
 
 abbrev pub ask_seen : AskMade → RequestContent
-ask_seen (ask.Put verb name key) = Put verb name.items key.items
+ask_seen (ask.Put verb name key policy) = Put verb name.items (key.items, policy)
 ask_seen (ask.Promise name) = Query (Promise name.items)
 ask_seen (ask.Lookup name epoch) = Query (Lookup name.items epoch)
 ask_seen (ask.History from count) = Query (History from count)
@@ -179,6 +199,10 @@ two_of [] = None
 two_of (_ ∷ []) = None
 two_of (one ∷ other ∷ []) = Some (one, other)
 two_of (_ ∷ _ ∷ _ ∷ _) = None
+
+abbrev pub three_of : List (List ℕ) → Option (List ℕ × List ℕ × List ℕ)
+three_of [] = None
+three_of (one ∷ more) = option_map (λ (both : List ℕ × List ℕ). (one, both.0, both.1)) (two_of more)
 
 -- the line that asks it
 abbrev pub asked_line : AskMade → ScriptLine

@@ -12,6 +12,7 @@ other_lines =
     ∷ codes "rotate 2" ∷ codes "rotate 2 -" ∷ codes "rotate 2 00" ∷ (codes "rotate 2 " ++ repeated 33 (codes "00")) ∷ (codes "rotate " ++ repeated 32 (codes "00"))
     ∷ codes "bytes 0 0000000106" ∷ codes "bytes 4294967296 0000000106" ∷ codes "end 0"
     ∷ (codes "watch " ++ repeated 256 (codes "61") ++ codes " 6b") ∷ codes "watch - 6b"
+    ∷ codes "register2 61 6b" ∷ codes "change2 61 6b Open" ∷ codes "watch2 61 6b" ∷ codes "watch2 61 - open"
     ∷ []
 
 -- a key of 2,049 bytes

@@ -1,11 +1,13 @@
 -- The monitors of a script, and what each prints of the pages that it watches, one after another.
-use Rattle.std.specs.Prelude.{ℕ, nat_lt, Bool, true, false, if◌then◌else◌, List, [], ◌∷◌, ◌++◌, filter, map, Option, Some, None, codes, decimal}
+use Rattle.std.specs.Prelude.{ℕ, nat_lt, ◌&&◌, Bool, true, false, if◌then◌else◌, List, [], ◌∷◌, ◌++◌, filter, map, Option, Some, None, codes, decimal}
 use Rattle.std.specs.Str.{bytes_eq}
 use Rattle.hex.specs.Hex.{encode_lower}
+use Rattle.encoding.specs.Policies.{policy_bytes}
+use Rattle.encoding.specs.declared.bound_key.BoundKey.{BoundKey}
 use Rattle.proofs.specs.Watches.{Watch, expected}
 use Rattle.book.specs.Books.{Page}
 use Rattle.book.specs.Honest.{key_at}
-use Rattle.play.specs.Lines.{is_double, refused_proof}
+use Rattle.play.specs.Lines.{is_double, key_text, refused_proof}
 
 pub record Watcher : Type 0 where
   pub name : List ℕ
@@ -13,19 +15,20 @@ pub record Watcher : Type 0 where
   -- the epoch of the last page behind it: one that it watched, or that came before its first
   pub behind : ℕ
 
-abbrev pub same_key : Option (List ℕ) → Option (List ℕ) → Bool
+-- one key, with one policy or none, or no key
+abbrev pub same_key : Option BoundKey → Option BoundKey → Bool
 same_key None None = true
-same_key (Some key) (Some other) = bytes_eq key other
+same_key (Some key) (Some other) = bytes_eq key.value other.value && bytes_eq (policy_bytes key.policy) (policy_bytes other.policy)
 same_key None (Some other) = false
 same_key (Some key) None = false
 
 -- the key of an alarm
-abbrev pub alarm_key : Option (List ℕ) → List ℕ
+abbrev pub alarm_key : Option BoundKey → List ℕ
 alarm_key None = codes "absent"
-alarm_key (Some key) = encode_lower key
+alarm_key (Some key) = key_text key
 
 -- what a monitor says of a page that has this key: that it is what the owner expects, or else what it is
-abbrev pub verdict_text : Bool → List ℕ → Option (List ℕ) → List ℕ
+abbrev pub verdict_text : Bool → List ℕ → Option BoundKey → List ℕ
 verdict_text true place key = codes "kept " ++ place
 verdict_text false place key = codes "alarm " ++ place ++ codes " " ++ alarm_key key
 
@@ -61,9 +64,9 @@ all_through index_of pages (watcher ∷ more) =
     (now.0 ++ later.0, now.1 ∷ later.1)
 
 -- a key that was promised over the root of an epoch is expected above it
-abbrev pub expecting : ℕ → List ℕ → Watch → Watch
+abbrev pub expecting : ℕ → BoundKey → Watch → Watch
 expecting epoch key watch = record watch { changes = watch.changes ++ (epoch, key) ∷ [] }
 
 -- a promise is handed to the monitors of its name
-abbrev pub handed : List ℕ → ℕ → List ℕ → List Watcher → List Watcher
+abbrev pub handed : List ℕ → ℕ → BoundKey → List Watcher → List Watcher
 handed name epoch key = map (λ (watcher : Watcher). if bytes_eq watcher.name name then record watcher { watch = expecting epoch key watcher.watch } else watcher)

@@ -1,15 +1,16 @@
 // What a line asks of the directory: how its words are read, and the request that asks it.
 
 ghost use Rattle.std.specs.Prelude.{◌≡◌, ◌↔◌, IfOk, IsTrue, MatchOption, None, Some, option_map};
+ghost use Rattle.encoding.specs.Policies.{policy_named};
 ghost use Rattle.commands.specs.Operations as asked;
 ghost use Rattle.wire.specs.Requests as asks;
 ghost use Rattle.wire.specs.Requests.{request_seen};
 ghost use Rattle.textio.specs.Digits.{hex32};
-ghost use Rattle.play.specs.Scripts.{ask_seen, asked_line, asking, count_word, epoch_word, hex_word, other_verbs, said_among, token, verbs, with_no_word, with_one_word, with_token, with_two_words, words_behind, RequestFits};
+ghost use Rattle.play.specs.Scripts.{ask_seen, asked_line, asking, count_word, epoch_word, hex_word, other_verbs, putting_with, said_among, token, verbs, with_no_word, with_one_word, with_three_words, with_token, with_two_words, words_behind, RequestFits};
 
-use crate::word::{one_word, read_bytes, read_count, read_epoch, two_words};
+use crate::word::{one_word, read_bytes, read_count, read_epoch, three_words, two_words};
 use commands::{Put, Query, Verb};
-use encoding::Hash32;
+use encoding::{Hash32, Policy};
 use std::alloc::{AllocError, Global};
 use textio::hex32;
 use wire::Request;
@@ -28,6 +29,8 @@ pub enum Ask {
         verb: Verb,
         name: Vec<u8>,
         key: Vec<u8>,
+        /// The byte of a policy: of `register2` and `change2`.
+        policy: Option<u8>,
     },
     Promise {
         name: Vec<u8>,
@@ -54,10 +57,16 @@ impl Ask {
         ensures { request_seen result ≡ with_token token (ask_seen self.now) }
     {
         match self {
-            Ask::Put { verb, name, key } => Request::Put(Put {
+            Ask::Put {
+                verb,
+                name,
+                key,
+                policy,
+            } => Request::Put(Put {
                 verb: *verb,
                 name,
                 key,
+                policy: *policy,
             }),
             Ask::Promise { name } => Request::Query(Query::Promise { name }),
             Ask::Lookup { name, epoch } => Request::Query(Query::Lookup {
@@ -106,6 +115,12 @@ pub(crate) fn read_ask(
     }
     if verb == b"change".as_slice() {
         return Ok(Some(read_put(alloc, Verb::Change, behind)?));
+    }
+    if verb == b"register2".as_slice() {
+        return Ok(Some(read_put_with(alloc, Verb::Register, behind)?));
+    }
+    if verb == b"change2".as_slice() {
+        return Ok(Some(read_put_with(alloc, Verb::Change, behind)?));
     }
     if verb == b"promise".as_slice() {
         return Ok(Some(read_promise(alloc, behind)?));
@@ -174,13 +189,44 @@ fn read_rotate(behind: Option<&[u8]>) -> Option<Ask>
 
 /// `register NAME KEY`, `change NAME KEY`
 fn read_put(alloc: Global, verb: Verb, behind: Option<&[u8]>) -> Result<Option<Ask>, AllocError>
-    ensures { IfOk result (λ read. option_map asked_line read ≡ with_two_words hex_word hex_word (λ name key. asking (asks.Put verb name key)) (words_behind (option_map (λ text. text.now) behind.entry))) }
+    ensures { IfOk result (λ read. option_map asked_line read ≡ with_two_words hex_word hex_word (λ name key. asking (asks.Put verb name (key, None))) (words_behind (option_map (λ text. text.now) behind.entry))) }
 {
     let Some((name, key)) = two_words(behind) else {
         return Ok(None);
     };
     match (read_bytes(alloc, name)?, read_bytes(alloc, key)?) {
-        (Some(name), Some(key)) => Ok(fitting(Ask::Put { verb, name, key })),
+        (Some(name), Some(key)) => Ok(fitting(Ask::Put {
+            verb,
+            name,
+            key,
+            policy: None,
+        })),
+        _ => Ok(None),
+    }
+}
+
+/// `register2 NAME KEY POLICY`, `change2 NAME KEY POLICY`
+fn read_put_with(
+    alloc: Global,
+    verb: Verb,
+    behind: Option<&[u8]>,
+) -> Result<Option<Ask>, AllocError>
+    ensures { IfOk result (λ read. option_map asked_line read ≡ with_three_words hex_word hex_word policy_named (putting_with verb) (words_behind (option_map (λ text. text.now) behind.entry))) }
+{
+    let Some((name, key, policy)) = three_words(behind) else {
+        return Ok(None);
+    };
+    match (
+        read_bytes(alloc, name)?,
+        read_bytes(alloc, key)?,
+        Policy::of_word(policy),
+    ) {
+        (Some(name), Some(key), Some(policy)) => Ok(fitting(Ask::Put {
+            verb,
+            name,
+            key,
+            policy: Some(policy.byte()),
+        })),
         _ => Ok(None),
     }
 }

@@ -34,5 +34,5 @@ pub use playing::play;
 pub use telling::{push_hex, push_number, tell_response, tell_statement, tell_step};
 pub use worked::{
     lines_that_stop, long_names, monitor_scripts, names_and_epochs, one_index_scripts,
-    rotation_scripts, session_scripts, worked_scripts,
+    policy_scripts, rotation_scripts, session_scripts, worked_scripts,
 };

@@ -1,12 +1,13 @@
 // The first word of a line says what it is, and how many words stand behind it.
 
 ghost use Rattle.std.specs.Prelude.{◌≡◌, IfOk, IfSome, Some, option_map};
+ghost use Rattle.encoding.specs.Policies.{policy_named};
 ghost use Rattle.play.specs.Scripts as script;
-ghost use Rattle.play.specs.Scripts.{asked_line, hex_word, line_of, line_seen, other_verbs, said_among, session_word, verbs, watching, with_one_word, with_two_words, words_behind};
+ghost use Rattle.play.specs.Scripts.{asked_line, hex_word, line_of, line_seen, other_verbs, said_among, session_word, verbs, watching, watching_with, with_one_word, with_three_words, with_two_words, words_behind};
 
 use crate::ask::{Ask, read_ask};
-use crate::word::{first_word, one_word, read_bytes, read_session, two_words};
-use encoding::{KeyData, Name};
+use crate::word::{first_word, one_word, read_bytes, read_session, three_words, two_words};
+use encoding::{BoundKey, KeyData, Name, Policy};
 use std::alloc::{AllocError, Global};
 use std::num::NonZeroU32;
 
@@ -17,8 +18,8 @@ pub enum Line {
     Pass,
     /// Something is asked of the directory.
     Ask(Ask),
-    /// A monitor of a name begins, which expects this key, or none.
-    Watch { name: Name, key: Option<KeyData> },
+    /// A monitor of a name begins, which expects this key, with its policy if it has one, or no key.
+    Watch { name: Name, key: Option<BoundKey> },
     /// A piece of a session's stream comes.
     Piece { session: NonZeroU32, piece: Vec<u8> },
     /// A session ends.
@@ -80,6 +81,9 @@ fn read_other(alloc: Global, verb: &[u8], behind: Option<&[u8]>) -> Result<Optio
     if verb == b"watch".as_slice() {
         return read_watch(alloc, behind);
     }
+    if verb == b"watch2".as_slice() {
+        return read_watch_with(alloc, behind);
+    }
     if verb == b"bytes".as_slice() {
         return read_piece(alloc, behind);
     }
@@ -118,10 +122,46 @@ fn watch_of(name: &[u8], key: &[u8]) -> Option<Line>
     if key.is_empty() {
         return Some(Line::Watch { name, key: None });
     }
-    let key = KeyData::new(key).ok()?;
+    let value = KeyData::new(key).ok()?;
     Some(Line::Watch {
         name,
-        key: Some(key),
+        key: Some(BoundKey {
+            value,
+            policy: None,
+        }),
+    })
+}
+
+/// `watch2 NAME KEY POLICY`
+fn read_watch_with(alloc: Global, behind: Option<&[u8]>) -> Result<Option<Line>, AllocError>
+    ensures { IfOk result (λ read. option_map line_seen read ≡ with_three_words hex_word hex_word policy_named watching_with (words_behind (option_map (λ text. text.now) behind.entry))) }
+{
+    let Some((name, key, policy)) = three_words(behind) else {
+        return Ok(None);
+    };
+    match (
+        read_bytes(alloc, name)?,
+        read_bytes(alloc, key)?,
+        Policy::of_word(policy),
+    ) {
+        (Some(name), Some(key), Some(policy)) => Ok(watch_with(&name, &key, policy)),
+        _ => Ok(None),
+    }
+}
+
+/// The line that lets a monitor of this name begin, which expects this key with this policy, if the name and the
+/// key have lengths that are allowed.
+fn watch_with(name: &[u8], key: &[u8], policy: Policy) -> Option<Line>
+    ensures { option_map line_seen result ≡ watching_with name.now key.now policy }
+{
+    let name = Name::new(name).ok()?;
+    let value = KeyData::new(key).ok()?;
+    Some(Line::Watch {
+        name,
+        key: Some(BoundKey {
+            value,
+            policy: Some(policy),
+        }),
     })
 }
 

@@ -9,12 +9,13 @@ ghost use Rattle.proofs.specs.Views.{key_stated};
 ghost use Rattle.proofs.specs.declared.reply_refusal.Refusal.{Refusal as ProofRefusal};
 ghost use Rattle.wire.specs.Responses.{response_seen, Roots};
 ghost use Rattle.client.specs.declared.client_refusal.Refusal.TheVariants as clients;
-ghost use Rattle.play.specs.Lines.{statement_text};
+ghost use Rattle.play.specs.Lines.{key_text, statement_text};
 ghost use Rattle.play.specs.Watchers.{alarm_key};
 ghost use Rattle.play.specs.Hearing.{response_text};
 ghost use Rattle.play.specs.Telling.{placed_text, step_text};
 ghost use Rattle.play.specs.Wanting.{IsOfLook};
 
+use encoding::Policy;
 use itoa::Buffer;
 use monitor::Step;
 use proofs::Statement;
@@ -113,10 +114,10 @@ pub fn tell_statement(
     ensures grows { StartsWith text.new.items text.old.items }
 {
     match statement {
-        Statement::Present(key) => {
+        Statement::Present(key, policy) => {
             push_numbered(text, b"present ", epoch)?;
             text.push(b' ')?;
-            push_hex(text, key)?;
+            push_key(text, key, policy)?;
         }
         Statement::Absent => push_numbered(text, b"absent ", epoch)?,
     }
@@ -148,13 +149,26 @@ pub fn tell_step(
     }
 }
 
+/// Appends a key, and the name of its policy behind it, if it has one.
+fn push_key(text: &mut Vec<u8>, key: &[u8], policy: Option<Policy>) -> Result<(), AllocError>
+    ensures ok { OnOk result (text.new.items ≡ text.old.items ++ key_text (record { value = key.now; policy = policy })) }
+    ensures grows { StartsWith text.new.items text.old.items }
+{
+    push_hex(text, key)?;
+    if let Some(policy) = policy {
+        text.push(b' ')?;
+        text.extend_from_slice(policy.word())?;
+    }
+    Ok(())
+}
+
 /// Appends the end of an alarm's line: what was found.
 fn tell_found(text: &mut Vec<u8>, found: Statement<'_>) -> Result<(), AllocError>
     ensures ok { OnOk result (text.new.items ≡ text.old.items ++ alarm_key (key_stated found.entry) ++ 10 ∷ []) }
     ensures grows { StartsWith text.new.items text.old.items }
 {
     match found {
-        Statement::Present(key) => push_hex(text, key)?,
+        Statement::Present(key, policy) => push_key(text, key, policy)?,
         Statement::Absent => text.extend_from_slice(b"absent")?,
     }
     text.push(b'\n')?;

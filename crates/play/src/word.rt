@@ -2,7 +2,7 @@
 
 ghost use Rattle.std.specs.Prelude.{◌≡◌, ◌∷◌, IfOk, option_map};
 ghost use Rattle.std.specs.Int.NonZero.{non_zero_u32_get};
-ghost use Rattle.play.specs.Scripts.{count_word, epoch_word, hex_word, number_word, one_of, session_word, two_of, words, words_behind};
+ghost use Rattle.play.specs.Scripts.{count_word, epoch_word, hex_word, number_word, one_of, session_word, three_of, two_of, words, words_behind};
 
 use hex::FromHexError;
 use itoa::Buffer;
@@ -38,6 +38,15 @@ pub(crate) fn two_words(behind: Option<&[u8]>) -> Option<(&[u8], &[u8])>
 {
     let (one, more) = first_word(behind?);
     Some((one, one_word(more)?))
+}
+
+/// The words, if there are three.
+pub(crate) fn three_words(behind: Option<&[u8]>) -> Option<(&[u8], &[u8], &[u8])>
+    ensures { option_map (λ all. (all.0.now, all.1.now, all.2.now)) result ≡ three_of (words_behind (option_map (λ text. text.now) behind.entry)) }
+{
+    let (one, more) = first_word(behind?);
+    let (two, three) = two_words(more)?;
+    Some((one, two, three))
 }
 
 /// The number that a word writes in decimal digits, with no zero in front, if it is at most this.

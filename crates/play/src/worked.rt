@@ -3,6 +3,7 @@ ghost use Rattle.play.specs.DoubleScripts.{absence, one_index};
 ghost use Rattle.play.specs.LongNames.{limits_of_names_and_keys};
 ghost use Rattle.play.specs.MonitorScripts.{alarm, change_by_another_session, monitors, promise_of_another_session, several_closings_in_one_piece};
 ghost use Rattle.play.specs.NamesAndEpochs.{old_epochs, words_of_lines};
+ghost use Rattle.play.specs.Policies.{final_bindings, policies, policies_in_frames};
 ghost use Rattle.play.specs.Rotations.{rotations, rotations_in_frames};
 ghost use Rattle.play.specs.Rows.{AreNoCommands, PrintRows, PrintRowsApart, PrintRowsTogether, PrintsUnder, StopsAtLine};
 ghost use Rattle.play.specs.SessionScripts.{only_the_operator_closes, refusals_in_frames, two_sessions};
@@ -54,6 +55,13 @@ pub fn session_scripts()
 pub fn rotation_scripts()
     ensures rotations { PrintRows rotations }
     ensures rotations_in_frames { PrintRows rotations_in_frames }
+{}
+
+/// Bindings with a policy.
+pub fn policy_scripts()
+    ensures policies { PrintRows policies }
+    ensures policies_in_frames { PrintRows policies_in_frames }
+    ensures final_bindings { PrintRowsApart final_bindings }
 {}
 
 /// Two names that have one index.

@@ -5,6 +5,7 @@ use Rattle.std.proofs.lemmas.List.{length-append}
 use Rattle.encoding.specs.Bits.{bit}
 use Rattle.encoding.specs.Bytes.{Is32Bytes}
 use Rattle.encoding.specs.Limits.{IsName}
+use Rattle.encoding.specs.declared.bound_key.BoundKey.{BoundKey}
 use Rattle.encoding.proofs.Beginnings.{same_beginning}
 use Rattle.nodehash.specs.Collisions.{IsCollision}
 use Rattle.nodehash.specs.NodeTexts.{leaf_bytes, level_bytes}
@@ -26,6 +27,9 @@ first_byte (byte ∷ bytes) = byte
 
 abbrev some : List ℕ → Option (List ℕ)
 some x = Some x
+
+abbrev some_key : BoundKey → Option BoundKey
+some_key key = Some key
 
 pub nothing_is_some : (x : List ℕ) → None ≡ some x → ⊥
 nothing_is_some x e = absurd cc
@@ -111,7 +115,7 @@ module _ (hash : List ℕ → List ℕ) (nonce name index : List ℕ) (named : I
         x_is = refl;
         y_is = refl;
         collision = record {
-          differ = λ same. differ (ap some (equal_texts_open_alike salt other_salt name name key other_key (p.0.0 ∙ sym q.0.0) (omega (arith, named.1)) (omega (arith, named.1)) same).2);
+          differ = λ same. differ (ap some_key (equal_texts_open_alike salt other_salt name name key other_key (p.0.0 ∙ sym q.0.0) (omega (arith, named.1)) (omega (arith, named.1)) same).2);
           same = (leaf_parts nonce index index (hash (commitment_bytes salt name key)) (hash (commitment_bytes other_salt name other_key)) n m refl e).1;
         };
       }

@@ -3,6 +3,7 @@ use Rattle.std.proofs.Common.{◌≡◌, ◌↔◌, ℕ, List, [], ◌++◌, len
 use Rattle.std.proofs.lemmas.List.{append-nil}
 use Rattle.encoding.proofs.Fields.{one_spelling}
 use Rattle.prefixtree.specs.Paths.{Way}
+use Rattle.encoding.specs.declared.bound_key.BoundKey.{BoundKey}
 use Rattle.rootchain.specs.declared.body.Body.{Body}
 use Rattle.proofs.specs.declared.reply_refusal.Refusal.{Refusal}
 use Rattle.proofs.specs.declared.reply_refusal.Refusal.TheVariants.{Malformed, Trailing, OtherRoot, BadVuf, SameIndex, OtherPrefix, PathMismatch}
@@ -34,11 +35,11 @@ module _ (hash : List ℕ → List ℕ) where
   end_states nonce name index n Empty _ _ = (refl, refl)
   end_states nonce name index n (Other other commitment) another on_way = (another, on_way, refl, refl)
 
-  abbrev IsTested : List ℕ → List ℕ → List ℕ → ℕ → End → List ℕ → Option (List ℕ) → Type 0
+  abbrev IsTested : List ℕ → List ℕ → List ℕ → ℕ → End → List ℕ → Option BoundKey → Type 0
   IsTested nonce name index n end text statement =
       AbsenceIsByAnother index end × AbsenceIsOnWay index n end × (text ≡ end_text hash nonce name index n end) × (statement ≡ stated end)
 
-  end_tested : (nonce name index : List ℕ) (n : ℕ) (end : End) (text : List ℕ) (statement : Option (List ℕ)) → EndStates hash nonce name index n end text statement
+  end_tested : (nonce name index : List ℕ) (n : ℕ) (end : End) (text : List ℕ) (statement : Option BoundKey) → EndStates hash nonce name index n end text statement
       → IsTested nonce name index n end text statement
   end_tested nonce name index n (Present salt key) text statement states = (tt, tt, states.0, states.1)
   end_tested nonce name index n Empty text statement states = (tt, tt, states.0, states.1)
@@ -56,7 +57,7 @@ module _ (hash : List ℕ → List ℕ) (accepted : List ℕ → List ℕ → Li
       }
 
   -- what states something passes, and states no other thing
-  pub states-passed : (reply : Reply) (statement : Option (List ℕ)) → States hash accepted body name reply statement
+  pub states-passed : (reply : Reply) (statement : Option BoundKey) → States hash accepted body name reply statement
       → (statement ≡ stated reply.end) × ((refusal : Refusal) → Passes hash accepted body name reply refusal)
   states-passed reply statement states = (tested.3, passed)
     where
@@ -74,11 +75,11 @@ module _ (hash : List ℕ → List ℕ) (accepted : List ℕ → List ℕ → Li
 
   -- what passes is accepted, with the statement of its end
   pub passed-accepts : (bytes : List ℕ) (reply : Reply) → SpellsReply bytes reply → ((refusal : Refusal) → Passes hash accepted body name reply refusal)
-      → (statement : Option (List ℕ)) → stated reply.end ≡ statement → Accepts hash accepted body name bytes statement
+      → (statement : Option BoundKey) → stated reply.end ≡ statement → Accepts hash accepted body name bytes statement
   passed-accepts bytes reply spelled passed statement e = (reply, spelled, subst (States hash accepted body name reply) e (passed-states reply passed))
 
   -- what is accepted passes, and has no other statement
-  pub accepts-passed : (bytes : List ℕ) (reply : Reply) → SpellsReply bytes reply → (statement : Option (List ℕ)) → Accepts hash accepted body name bytes statement
+  pub accepts-passed : (bytes : List ℕ) (reply : Reply) → SpellsReply bytes reply → (statement : Option BoundKey) → Accepts hash accepted body name bytes statement
       → (stated reply.end ≡ statement) × ((refusal : Refusal) → Passes hash accepted body name reply refusal)
   accepts-passed bytes reply spelled statement accepts =
       let same : accepts.0 ≡ reply = one_reply bytes accepts.0 reply accepts.1 spelled in
@@ -92,12 +93,12 @@ module _ (hash : List ℕ → List ℕ) (accepted : List ℕ → List ℕ → Li
   -- an answer is Ok with a statement exactly where the bytes are accepted with it, where it is Ok for a
   -- reply that passes
   pub ok-exact : (bytes : List ℕ) (reply : Reply) → SpellsReply bytes reply → ((refusal : Refusal) → Passes hash accepted body name reply refusal)
-      → (statement : Option (List ℕ)) → (stated reply.end ≡ statement) ↔ Accepts hash accepted body name bytes statement
+      → (statement : Option BoundKey) → (stated reply.end ≡ statement) ↔ Accepts hash accepted body name bytes statement
   ok-exact bytes reply spelled passed statement = (passed-accepts bytes reply spelled passed statement, λ accepts. (accepts-passed bytes reply spelled statement accepts).0)
 
   -- and where it is refused for one that does not
   pub refused-exact : {X : Type 0} (reply : Reply) (result : Result X Refusal) (P : X → Type 0) → IsErr result → (refusal : Refusal) → IsFirstToFail (Passes hash accepted body name reply) refusal
-      → (bytes : List ℕ) → SpellsReply bytes reply → (statement : Option (List ℕ)) → IsOkAnd result P ↔ Accepts hash accepted body name bytes statement
+      → (bytes : List ℕ) → SpellsReply bytes reply → (statement : Option BoundKey) → IsOkAnd result P ↔ Accepts hash accepted body name bytes statement
   refused-exact reply (Ok x) P err refusal first bytes spelled statement = absurd cc
   refused-exact reply (Err other) P err refusal first bytes spelled statement =
       (λ ok. absurd ok, λ accepts. absurd (first.fails ((accepts-passed bytes reply spelled statement accepts).1 refusal)))
@@ -114,7 +115,7 @@ module _ (hash : List ℕ → List ℕ) (accepted : List ℕ → List ℕ → Li
   spelled-read bytes reply spelled PathMismatch reads = reads
 
   -- what is refused is not accepted
-  pub refused-accepts : (bytes : List ℕ) (refusal : Refusal) (statement : Option (List ℕ)) → Refuses hash accepted body name bytes refusal
+  pub refused-accepts : (bytes : List ℕ) (refusal : Refusal) (statement : Option BoundKey) → Refuses hash accepted body name bytes refusal
       → ¬ Accepts hash accepted body name bytes statement
   refused-accepts bytes refusal statement (inl reads) accepts = spelled-read bytes accepts.0 accepts.1 refusal reads
   refused-accepts bytes refusal statement (inr checked) accepts =

@@ -1,5 +1,5 @@
 -- A reply is read exactly where one is spelled.
-use Rattle.std.proofs.Common.{◌≡◌, ◌≢◌, ℕ, zero, suc, ◌*◌, ◌<◌, ◌≤◌, ◌^◌, List, [], ◌∷◌, ◌++◌, length, true, leb, Ok, Err, refl, sym, ap, subst, ◌∙◌, arith, lit≤}
+use Rattle.std.proofs.Common.{◌≡◌, ◌≢◌, ℕ, zero, suc, ◌*◌, ◌<◌, ◌≤◌, ◌^◌, Bool, true, false, Option, None, List, [], ◌∷◌, ◌++◌, length, leb, Ok, Err, refl, sym, ap, subst, ◌∙◌, arith, lit≤}
 use Rattle.std.specs.List.{AllByRecursion}
 use Rattle.std.specs.Simd.{first_chunks}
 use Rattle.std.proofs.lemmas.Bool.{and_parts, leb-true, le-leb, ne_eqb}
@@ -10,12 +10,14 @@ use Rattle.encoding.specs.Endian.{big_bytes}
 use Rattle.encoding.specs.Fields.{IsField}
 use Rattle.encoding.specs.Forms.{counted_bytes}
 use Rattle.encoding.specs.Limits.{IsKeyData}
+use Rattle.encoding.specs.Policies.{has_policy, policy_bytes}
+use Rattle.encoding.specs.declared.policy.Policy.{Policy}
 use Rattle.encoding.specs.Reading.{is_within, read_as, read_byte, read_bytes, read_number, read_where}
-use Rattle.encoding.proofs.Fields.{whole-read, whole-refused, allowed_field, byte_field, bytes_field, counted_field, nothing_field, numbers_field, refused_read, renamed_field, respelled_field, tested_field, then_field}
+use Rattle.encoding.proofs.Fields.{whole-read, whole-refused, allowed_field, byte_field, bytes_field, counted_field, nothing_field, numbers_field, policy_if_field, refused_read, renamed_field, respelled_field, tested_field, then_field}
 use Rattle.encoding.proofs.FieldsOf.{both}
 use Rattle.rootchain.specs.declared.body.Body.{Body}
 use Rattle.rootchain.specs.Readable.{body_field}
-use Rattle.proofs.specs.Replies.{End, Present, Empty, Other, Reply, reply_end_bytes, end_kind, end_parts, reply_bytes, sibling_bytes, AreSiblings, IsEnd, IsReply, SpellsReply}
+use Rattle.proofs.specs.Replies.{End, Present, Empty, Other, Reply, present_kind, reply_end_bytes, end_kind, end_parts, reply_bytes, sibling_bytes, AreSiblings, IsEnd, IsReply, SpellsReply}
 use Rattle.proofs.specs.Refusals.{BeginsWithReply}
 use Rattle.proofs.specs.Reading.{read_end, read_end_of, read_other, read_present, read_reply, read_siblings, reply_of}
 use Rattle.proofs.proofs.Chunks.{chunks-hashes, chunks-joined, joined-chunks, joined-hashes, length-chunks}
@@ -26,40 +28,57 @@ use Rattle.proofs.proofs.Chunks.{chunks-hashes, chunks-joined, joined-chunks, jo
 abbrev IsOfKind : ℕ → End → Type 0
 IsOfKind kind end = IsEnd end × (end_kind end ≡ kind)
 
-abbrev opening : End → List ℕ × List ℕ
-opening (Present salt key) = (salt, key)
-opening Empty = ([], [])
-opening (Other index commitment) = ([], [])
+abbrev opening : End → Option Policy × (List ℕ × List ℕ)
+opening (Present salt key) = (key.policy, (salt, key.value))
+opening Empty = (None, ([], []))
+opening (Other index commitment) = (None, ([], []))
 
 abbrev leaf : End → List ℕ × List ℕ
 leaf (Present salt key) = ([], [])
 leaf Empty = ([], [])
 leaf (Other index commitment) = (index, commitment)
 
-abbrev Opened : End → Type 0
-Opened end = (Is32Bytes (opening end).0 × IsKeyData (opening end).1) × (Present (opening end).0 (opening end).1 ≡ end)
+abbrev present : Option Policy × (List ℕ × List ℕ) → End
+present parts = Present parts.1.0 (record { value = parts.1.1; policy = parts.0 })
 
-present_field : IsField read_present end_parts (IsOfKind 1)
-present_field =
-    allowed_field read_present end_parts Opened (IsOfKind 1) to back
-    (respelled_field read_present (λ end. (opening end).0 ++ counted_bytes (opening end).1) end_parts Opened same
-    (renamed_field (λ parts. Present parts.0 parts.1) opening _ _ _ (λ _ _. refl)
-    (both (bytes_field 32) (counted_field 1 2048 (lit≤ tt)))))
+abbrev opened_bytes : End → List ℕ
+opened_bytes end = policy_bytes (opening end).0 ++ ((opening end).1.0 ++ counted_bytes (opening end).1.1)
+
+abbrev Opened : Bool → End → Type 0
+Opened has end = ((has_policy (opening end).0 ≡ has) × (Is32Bytes (opening end).1.0 × IsKeyData (opening end).1.1)) × (present (opening end) ≡ end)
+
+same_kind : (one other : Bool) → present_kind one ≡ present_kind other → one ≡ other
+same_kind false false e = refl
+same_kind false true e = absurd (omega (arith, e))
+same_kind true false e = absurd (omega (arith, e))
+same_kind true true e = refl
+
+-- an opened leaf has the kind 1 or 4
+not_present : (has : Bool) (kind : ℕ) → kind ≢ 1 → kind ≢ 4 → present_kind has ≡ kind → ⊥
+not_present false kind one four e = one (sym e)
+not_present true kind one four e = four (sym e)
+
+present_field : (has : Bool) → IsField (read_present has) end_parts (IsOfKind (present_kind has))
+present_field has =
+    allowed_field (read_present has) end_parts (Opened has) (IsOfKind (present_kind has)) to back
+    (respelled_field (read_present has) opened_bytes end_parts (Opened has) same
+    (renamed_field present opening _ _ _ (λ _ _. refl)
+    (both (policy_if_field has) (both (bytes_field 32) (counted_field 1 2048 (lit≤ tt))))))
   where
-    same : (end : End) → Opened end → (opening end).0 ++ counted_bytes (opening end).1 ≡ end_parts end
+    same : (end : End) → Opened has end → opened_bytes end ≡ end_parts end
     same (Present salt key) h = refl
     same Empty h = absurd cc
     same (Other index commitment) h = absurd cc
 
-    to : (end : End) → Opened end → IsOfKind 1 end
-    to (Present salt key) h = (h.0, refl)
+    to : (end : End) → Opened has end → IsOfKind (present_kind has) end
+    to (Present salt key) h = (h.0.1, ap present_kind h.0.0)
     to Empty h = absurd cc
     to (Other index commitment) h = absurd cc
 
-    back : (end : End) → IsOfKind 1 end → Opened end
-    back (Present salt key) h = (h.0, refl)
-    back Empty h = absurd (omega (arith, h.1))
-    back (Other index commitment) h = absurd (omega (arith, h.1))
+    back : (end : End) → IsOfKind (present_kind has) end → Opened has end
+    back (Present salt key) h = ((same_kind (has_policy key.policy) has h.1, h.0), refl)
+    back Empty h = absurd (not_present has 2 (λ e. omega (arith, e)) (λ e. omega (arith, e)) (sym h.1))
+    back (Other index commitment) h = absurd (not_present has 3 (λ e. omega (arith, e)) (λ e. omega (arith, e)) (sym h.1))
 
 abbrev Told : End → Type 0
 Told end = (Is32Bytes (leaf end).0 × Is32Bytes (leaf end).1) × (Other (leaf end).0 (leaf end).1 ≡ end)
@@ -82,7 +101,7 @@ other_field =
     to (Other index commitment) h = (h.0, refl)
 
     back : (end : End) → IsOfKind 3 end → Told end
-    back (Present salt key) h = absurd (omega (arith, h.1))
+    back (Present salt key) h = absurd (not_present (has_policy key.policy) 3 (λ e. omega (arith, e)) (λ e. omega (arith, e)) h.1)
     back Empty h = absurd (omega (arith, h.1))
     back (Other index commitment) h = (h.0, refl)
 
@@ -102,33 +121,46 @@ empty_field =
     to (Other index commitment) h = absurd cc
 
     back : (end : End) → IsOfKind 2 end → Empty ≡ end
-    back (Present salt key) h = absurd (omega (arith, h.1))
+    back (Present salt key) h = absurd (not_present (has_policy key.policy) 2 (λ e. omega (arith, e)) (λ e. omega (arith, e)) h.1)
     back Empty h = refl
     back (Other index commitment) h = absurd (omega (arith, h.1))
 
--- the parts of an end of each kind; no end is of another kind
+-- no end is of another kind than 1 to 4
+no_end : (kind : ℕ) → kind ≢ 1 → kind ≢ 2 → kind ≢ 3 → kind ≢ 4 → (end : End) → ¬ IsOfKind kind end
+no_end kind one two three four (Present salt key) h = not_present (has_policy key.policy) kind one four h.1
+no_end kind one two three four Empty h = two (sym h.1)
+no_end kind one two three four (Other index commitment) h = three (sym h.1)
+
+-- the parts of an end of each kind
 kinds : (kind : ℕ) → IsField (read_end_of kind) end_parts (IsOfKind kind)
-kinds zero = record { spelled = λ bytes z small e. absurd cc; again = none }
-  where
-    none : (end : End) (rest : List ℕ) → IsOfKind zero end → read_end_of zero (end_parts end ++ rest) ≡ Ok (end, rest)
-    none (Present salt key) rest h = absurd (omega (arith, h.1))
-    none Empty rest h = absurd (omega (arith, h.1))
-    none (Other index commitment) rest h = absurd (omega (arith, h.1))
-kinds (suc zero) = present_field
+kinds zero = record { spelled = λ bytes z small e. absurd cc; again = λ end rest h. absurd (no_end 0 (λ e. omega (arith, e)) (λ e. omega (arith, e)) (λ e. omega (arith, e)) (λ e. omega (arith, e)) end h) }
+kinds (suc zero) = present_field false
 kinds (suc (suc zero)) = empty_field
 kinds (suc (suc (suc zero))) = other_field
-kinds (suc (suc (suc (suc kind)))) = record { spelled = λ bytes z small e. absurd (refused_read OutOfRange z (sym (unknown bytes) ∙ e)); again = none }
+kinds (suc (suc (suc (suc zero)))) = present_field true
+kinds (suc (suc (suc (suc (suc kind))))) = record { spelled = λ bytes z small e. absurd (refused_read OutOfRange z (sym (unknown bytes) ∙ e)); again = λ end rest h. absurd (no_end (suc (suc (suc (suc (suc kind))))) one two three four end h) }
   where
-    unknown : (bytes : List ℕ) → read_end_of (suc (suc (suc (suc kind)))) bytes ≡ Err OutOfRange
-    unknown bytes = rw (ne_eqb (suc (suc (suc (suc kind)))) 1 (λ e. omega (arith, e)), ne_eqb (suc (suc (suc (suc kind)))) 2 (λ e. omega (arith, e)), ne_eqb (suc (suc (suc (suc kind)))) 3 (λ e. omega (arith, e))) refl
+    one : suc (suc (suc (suc (suc kind)))) ≢ 1
+    one e = omega (arith, e)
 
-    none : (end : End) (rest : List ℕ) → IsOfKind (suc (suc (suc (suc kind)))) end → read_end_of (suc (suc (suc (suc kind)))) (end_parts end ++ rest) ≡ Ok (end, rest)
-    none (Present salt key) rest h = absurd (omega (arith, h.1))
-    none Empty rest h = absurd (omega (arith, h.1))
-    none (Other index commitment) rest h = absurd (omega (arith, h.1))
+    two : suc (suc (suc (suc (suc kind)))) ≢ 2
+    two e = omega (arith, e)
+
+    three : suc (suc (suc (suc (suc kind)))) ≢ 3
+    three e = omega (arith, e)
+
+    four : suc (suc (suc (suc (suc kind)))) ≢ 4
+    four e = omega (arith, e)
+
+    unknown : (bytes : List ℕ) → read_end_of (suc (suc (suc (suc (suc kind))))) bytes ≡ Err OutOfRange
+    unknown bytes = rw (ne_eqb (suc (suc (suc (suc (suc kind))))) 1 one, ne_eqb (suc (suc (suc (suc (suc kind))))) 2 two, ne_eqb (suc (suc (suc (suc (suc kind))))) 3 three, ne_eqb (suc (suc (suc (suc (suc kind))))) 4 four) refl
 
 kind_small : (end : End) → end_kind end < 256
-kind_small (Present salt key) = lit≤ tt
+kind_small (Present salt key) = present_small (has_policy key.policy)
+  where
+    present_small : (has : Bool) → present_kind has < 256
+    present_small false = lit≤ tt
+    present_small true = lit≤ tt
 kind_small Empty = lit≤ tt
 kind_small (Other index commitment) = lit≤ tt
 

@@ -1,5 +1,6 @@
 -- Two byte strings that are accepted state one binding, or there is a collision.
 use Rattle.std.proofs.Common.{◌≡◌, ◌↔◌, ℕ, List, Option, Result, Ok, Err, IfErr, IfOk, IsOkAnd, inl, inr, refl, sym, ap, subst, ◌∙◌}
+use Rattle.encoding.specs.declared.bound_key.BoundKey.{BoundKey}
 use Rattle.rootchain.specs.declared.body.Body.{Body}
 use Rattle.proofs.specs.declared.comparing.SameOr.{SameOr}
 use Rattle.proofs.specs.declared.comparing.SameOr.TheVariants.{NotComparable, Same, TwoValues, Collision}
@@ -25,7 +26,7 @@ not_spelled bytes PathMismatch reads reply = absurd reads
 
 module _ (hash : List ℕ → List ℕ) (accepted : List ℕ → List ℕ → List ℕ → Type 0) (body : Body) (name : List ℕ) where
   -- what is refused is not accepted
-  pub refused_not : (bytes : List ℕ) (refusal : Refusal) → Refuses hash accepted body name bytes refusal → (statement : Option (List ℕ)) → ¬ Accepts hash accepted body name bytes statement
+  pub refused_not : (bytes : List ℕ) (refusal : Refusal) → Refuses hash accepted body name bytes refusal → (statement : Option BoundKey) → ¬ Accepts hash accepted body name bytes statement
   refused_not bytes refusal (inl reads) statement = λ accepts. not_spelled bytes refusal reads accepts.0 accepts.1
   refused_not bytes refusal (inr (reply, spelled, first)) statement = λ accepts. first.fails ((accepts-passed hash accepted body name bytes reply spelled statement accepts).1 refusal)
 
@@ -37,14 +38,14 @@ module _ (hash : List ℕ → List ℕ) (accepted : List ℕ → List ℕ → Li
 
   -- what is answered to the reply that the bytes spell keeps a reply that is accepted
   pub keeps_accepted : (bytes : List ℕ) (reply : Reply) → SpellsReply bytes reply → (result : Result NamedReply Refusal)
-      → ((statement : Option (List ℕ)) → IsOkAnd result (λ kept. stated kept.reply.end ≡ statement) ↔ Accepts hash accepted body name bytes statement)
+      → ((statement : Option BoundKey) → IsOkAnd result (λ kept. stated kept.reply.end ≡ statement) ↔ Accepts hash accepted body name bytes statement)
       → IfOk result (λ kept. kept ≡ named name reply) → IfOk result (λ kept. IsAcceptedReply hash accepted body name bytes kept.reply)
   keeps_accepted bytes reply spelled (Ok kept) exact is =
       let passed = (accepts-passed hash accepted body name bytes reply spelled (stated kept.reply.end) ((exact (stated kept.reply.end)).0 refl)).1 in
       subst (IsAcceptedReply hash accepted body name bytes) (sym (ap (λ (n : NamedReply). n.reply) is)) (spelled, passed OtherRoot, passed-accepted hash accepted body name reply passed)
   keeps_accepted bytes reply spelled (Err refusal) exact is = tt
 
-  pub states_this : (bytes : List ℕ) (reply : Reply) → IsAcceptedReply hash accepted body name bytes reply → (statement : Option (List ℕ)) → Accepts hash accepted body name bytes statement → stated reply.end ≡ statement
+  pub states_this : (bytes : List ℕ) (reply : Reply) → IsAcceptedReply hash accepted body name bytes reply → (statement : Option BoundKey) → Accepts hash accepted body name bytes statement → stated reply.end ≡ statement
   states_this bytes reply is statement accepts = (accepts-passed hash accepted body name bytes reply is.0 statement accepts).0
 
   pub has_this : (bytes index : List ℕ) (reply : Reply) → IsAcceptedReply hash accepted body name bytes reply → HasIndex hash bytes index → hash reply.value ≡ index
@@ -52,7 +53,7 @@ module _ (hash : List ℕ → List ℕ) (accepted : List ℕ → List ℕ → Li
 
   -- the answer on two accepted replies of one index
   pub sound : (first second : List ℕ) (one two : Reply) → IsAcceptedReply hash accepted body name first one → IsAcceptedReply hash accepted body name second two
-      → (answer : SameOr) → Answers hash accepted (named name one) (named name two) answer → (statement other : Option (List ℕ)) (index : List ℕ)
+      → (answer : SameOr) → Answers hash accepted (named name one) (named name two) answer → (statement other : Option BoundKey) (index : List ℕ)
       → Accepts hash accepted body name first statement → Accepts hash accepted body name second other → HasIndex hash first index → HasIndex hash second index
       → IsOneBindingOr hash statement other answer
   sound first second one two is_one is_two NotComparable answers statement other index accepts_first accepts_second first_index second_index = answers (is_one.1 ∙ sym is_two.1, refl)

@@ -2,6 +2,7 @@
 -- provider made both (the soundness of look-ups, CONIKS, section 4).
 use Rattle.std.specs.Prelude.{◌≡◌, ◌≢◌, ℕ, ◌⊎◌, List, length, Option, Some, None, Result, Ok, Err}
 use Rattle.encoding.specs.Limits.{IsName}
+use Rattle.encoding.specs.declared.bound_key.BoundKey.{BoundKey}
 use Rattle.nodehash.specs.Collisions.{IsCollision}
 use Rattle.commit.specs.Commitments.{commitment_bytes}
 use Rattle.rootchain.specs.declared.body.Body.{Body}
@@ -20,7 +21,7 @@ use Rattle.proofs.specs.declared.comparing.SameOr.TheVariants.{NotComparable, Sa
 abbrev pub AreComparable : NamedReply → NamedReply → Type 0
 AreComparable first second = (first.reply.body ≡ second.reply.body) × (first.name ≡ second.name)
 
--- one key, or absence in both
+-- one key with one policy or none, or absence in both
 abbrev pub StateTheSame : NamedReply → NamedReply → Type 0
 StateTheSame first second = stated first.reply.end ≡ stated second.reply.end
 
@@ -91,7 +92,7 @@ module _ (hash : List ℕ → List ℕ) (accepted : List ℕ → List ℕ → Li
       × Answers hash accepted (record { name = name; reply = one }) (record { name = name; reply = two }) answer
 
 -- two statements are one binding, or the answer has two different byte strings with one digest
-abbrev pub IsOneBindingOr : (List ℕ → List ℕ) → Option (List ℕ) → Option (List ℕ) → SameOr → Type 0
+abbrev pub IsOneBindingOr : (List ℕ → List ℕ) → Option BoundKey → Option BoundKey → SameOr → Type 0
 IsOneBindingOr hash statement other NotComparable = ⊥
 IsOneBindingOr hash statement other Same = statement ≡ other
 IsOneBindingOr hash statement other TwoValues = ⊥

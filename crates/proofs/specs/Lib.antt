@@ -12,5 +12,6 @@ pub mod WayTexts
 pub use Rattle.commit.specs.Commitments
 pub use Rattle.encoding.specs.Fields
 pub use Rattle.encoding.specs.Forms
+pub use Rattle.encoding.specs.Policies
 pub use Rattle.prefixtree.specs.Paths
 pub use Rattle.rootchain.specs.Bodies

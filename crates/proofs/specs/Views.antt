@@ -1,5 +1,6 @@
 -- What the types of this crate stand for in contracts.
 use Rattle.std.specs.Prelude.{◌≡◌, List, ℕ, Option, Some, None}
+use Rattle.encoding.specs.declared.bound_key.BoundKey.{BoundKey}
 use Rattle.proofs.specs.declared.end.End.{End as GivenEnd}
 use Rattle.proofs.specs.declared.end.End.TheVariants as given
 use Rattle.proofs.specs.declared.view.EndView.{EndView}
@@ -17,7 +18,7 @@ end_given given.Empty = Empty
 end_given (given.Other index commitment) = Other index commitment
 
 abbrev pub end_seen : EndView → End
-end_seen (seen.Present salt key) = Present salt.now key.now
+end_seen (seen.Present salt key policy) = Present salt.now (record { value = key.now; policy = policy })
 end_seen seen.Empty = Empty
 end_seen (seen.Other index commitment) = Other index.now commitment.now
 
@@ -25,9 +26,9 @@ end_seen (seen.Other index commitment) = Other index.now commitment.now
 abbrev pub reply_seen : Parts → Reply
 reply_seen parts = record { body = parts.body; value = parts.value.now; end = end_seen parts.end; siblings = parts.siblings.now }
 
--- the key of a statement, or none
-abbrev pub key_stated : Statement → Option (List ℕ)
-key_stated (statement.Present key) = Some key.now
+-- the key of a statement, with its policy if it has one; or none
+abbrev pub key_stated : Statement → Option BoundKey
+key_stated (statement.Present key policy) = Some (record { value = key.now; policy = policy })
 key_stated statement.Absent = None
 
 abbrev pub named_reply : {H V : Type 0} → Inside H V → NamedReply

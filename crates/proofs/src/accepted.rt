@@ -7,7 +7,7 @@ ghost use Rattle.proofs.specs.Replies.{reply_bytes, IsReply, SpellsReply};
 ghost use Rattle.proofs.specs.Views.{end_seen, key_stated};
 
 use crate::checking::node_at_end;
-use crate::view::{EndView, key_data};
+use crate::view::{EndView, bound_key};
 use crate::{ReplyView, Statement};
 use commit::commit_text;
 use encoding::{Hash32, Index, Name, Text};
@@ -68,7 +68,7 @@ impl<'a, H: NodeHash, V: VufCheck> Accepted<'a, H, V> {
         Accepted::new(name.copied(), view, index)
     }
 
-    /// The statement of the reply: a key, or absence.
+    /// The statement of the reply: a key, with its policy if it has one, or absence.
     pub fn statement(&self) -> Statement<'a>
         ensures value { key_stated result ≡ stated self.now.reply.end }
         ensures accepted { Accepts H.digest_of V.accepted self.now.reply.body self.now.name (reply_bytes self.now.reply) (stated self.now.reply.end) }
@@ -137,9 +137,10 @@ impl<'a, H: NodeHash, V: VufCheck> Accepted<'a, H, V> {
     pub(crate) fn opened_text(&self) -> Option<Text>
         ensures { result ≡ opened self.now.name self.now.reply.end }
     {
-        let EndView::Present { salt, key } = self.view.end() else {
+        let EndView::Present { salt, key, policy } = self.view.end() else {
             return None;
         };
-        Some(commit_text(&Hash32::new(*salt), &self.name, &key_data(key)))
+        let salt = Hash32::new(*salt);
+        Some(commit_text(&salt, &self.name, &bound_key(key, policy)))
     }
 }

@@ -1,8 +1,8 @@
 use encoding::ProofText;
 use rootchain::{SignedPromise, SignedRoot};
 
-/// A promise, and a reply under the next root. Where the reply does not state the promised key, they show
-/// anyone that the provider broke its promise (CONIKS, section 4).
+/// A promise, and a reply under the next root. Where the reply does not state the promised key with its
+/// policy, they show anyone that the provider broke its promise (CONIKS, section 4).
 #[derive(Debug, Drop)]
 pub struct BrokenPromise {
     pub promise: SignedPromise,

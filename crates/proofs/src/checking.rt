@@ -1,6 +1,7 @@
 //! A reply is checked by one test for each refusal, in their order. The last one climbs from the node at
 //! the reply's end to the root, with one digest for each sibling, and compares.
 ghost use Rattle.std.specs.Prelude.{◌≡◌, ◌≢◌, ◌↔◌, ◌+◌, ◌≤◌, ℕ, List, Option, length, IfErr, IfOk, IsOkAnd, IsTrue};
+ghost use Rattle.encoding.specs.declared.bound_key.BoundKey.{BoundKey};
 ghost use Rattle.prefixtree.specs.declared.path.TheConstants.{MAX_SIBLINGS};
 ghost use Rattle.nodehash.specs.declared.node_text.TheConstants.{INTERIOR_LEN};
 ghost use Rattle.proofs.specs.Accepts.{stated, Accepts};
@@ -10,7 +11,7 @@ ghost use Rattle.proofs.specs.Refusals.{IsFirstToFail, AbsenceIsByAnother, Absen
 ghost use Rattle.proofs.specs.Replies.{IsEnd, SpellsReply};
 ghost use Rattle.proofs.specs.Views.{end_seen};
 
-use crate::view::{EndView, key_data};
+use crate::view::{EndView, bound_key};
 use crate::{Accepted, Refusal, ReplyView};
 use commit::commit;
 use encoding::{Hash32, Index, Name, agree};
@@ -46,8 +47,9 @@ fn end_of_path<H: NodeHash>(hash: &mut H, name: &Name, end: EndView<'_>) -> pref
     ensures counted { H.digests hash.new ≤ H.digests hash.old + 1 }
 {
     match end {
-        EndView::Present { salt, key } => {
-            prefixtree::End::Present(commit(hash, &Hash32::new(*salt), name, &key_data(key)))
+        EndView::Present { salt, key, policy } => {
+            let salt = Hash32::new(*salt);
+            prefixtree::End::Present(commit(hash, &salt, name, &bound_key(key, policy)))
         }
         EndView::Empty => prefixtree::End::Empty,
         EndView::Other { index, commitment } => {
@@ -121,7 +123,7 @@ pub fn check<'a, H: NodeHash, V: VufCheck>(
     name: &Name,
     view: &ReplyView<'a>,
 ) -> Result<Accepted<'a, H, V>, Refusal>
-    ensures exact { (bytes : List ℕ) → SpellsReply bytes view.now → (statement : Option (List ℕ))
+    ensures exact { (bytes : List ℕ) → SpellsReply bytes view.now → (statement : Option BoundKey)
         → IsOkAnd result (λ accepted. stated accepted.reply.end ≡ statement) ↔ Accepts H.digest_of V.accepted body.now name.now bytes statement }
     ensures kept { IfOk result (λ accepted. accepted ≡ record { name = name.now; reply = view.now }) }
     ensures first { IfErr result (IsFirstToFail (Passes H.digest_of V.accepted body.now name.now view.now)) }

@@ -3,6 +3,7 @@
 //! nearest to the root: the texts above it are equal, so the two have one digest. If no texts differ,
 //! the ends open two commitment texts with one digest.
 ghost use Rattle.std.specs.Prelude.{◌≡◌, ◌≢◌, ◌⊎◌, ◌+◌, ◌*◌, ◌≤◌, ℕ, List, Option, length, IsOkAnd, IsSomeAnd, MatchOption};
+ghost use Rattle.encoding.specs.declared.bound_key.BoundKey.{BoundKey};
 ghost use Rattle.nodehash.specs.declared.node_text.TheConstants.{INTERIOR_LEN};
 ghost use Rattle.prefixtree.specs.declared.path.TheConstants.{MAX_SIBLINGS};
 ghost use Rattle.proofs.specs.Accepts.{Accepts, HasIndex};
@@ -180,7 +181,7 @@ pub fn compare_replies<H: NodeHash, V: VufCheck>(
     ensures exact { Compares H.digest_of V.accepted body.now name.now first.now second.now result }
     // Two replies accepted under one body with one index state the same binding, or the answer is two
     // different byte strings with one digest.
-    ensures sound { (statement other : Option (List ℕ)) (index : List ℕ)
+    ensures sound { (statement other : Option BoundKey) (index : List ℕ)
         → Accepts H.digest_of V.accepted body.now name.now first.now statement → Accepts H.digest_of V.accepted body.now name.now second.now other
         → HasIndex H.digest_of first.now index → HasIndex H.digest_of second.now index
         → IsOkAnd result (IsOneBindingOr H.digest_of statement other) }

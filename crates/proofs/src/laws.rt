@@ -1,4 +1,5 @@
 ghost use Rattle.std.specs.Prelude.{◌≡◌, ℕ, List, [], ◌++◌, Option};
+ghost use Rattle.encoding.specs.declared.bound_key.BoundKey.{BoundKey};
 ghost use Rattle.prefixtree.specs.Placement.{Items};
 ghost use Rattle.rootchain.specs.declared.body.Body.{Body};
 ghost use Rattle.proofs.specs.Accepts.{stated, Accepts, NamedReply};
@@ -35,8 +36,8 @@ pub fn honest_replies_are_accepted<H: NodeHash, V: VufCheck>()
 /// A reply that is refused is not accepted, whatever it states; and one that is accepted is not refused.
 pub fn refused_is_not_accepted<H: NodeHash, V: VufCheck>()
     ensures refused { (body : Body) (name bytes : List ℕ) (refusal : Refusal) → Refuses H.digest_of V.accepted body name bytes refusal
-        → (statement : Option (List ℕ)) → ¬ Accepts H.digest_of V.accepted body name bytes statement }
-    ensures accepted { (body : Body) (name bytes : List ℕ) (statement : Option (List ℕ)) → Accepts H.digest_of V.accepted body name bytes statement
+        → (statement : Option BoundKey) → ¬ Accepts H.digest_of V.accepted body name bytes statement }
+    ensures accepted { (body : Body) (name bytes : List ℕ) (statement : Option BoundKey) → Accepts H.digest_of V.accepted body name bytes statement
         → (refusal : Refusal) → ¬ Refuses H.digest_of V.accepted body name bytes refusal }
 {}
 

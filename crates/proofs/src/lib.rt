@@ -8,8 +8,8 @@
 //! ```rust
 //! let view = ReplyView::read(bytes)?;
 //! let accepted = check(&mut hash, &vuf, &body, &name, &view)?;
-//! if let Statement::Present(key) = accepted.statement() {
-//!     // The provider states that the name is bound to this key.
+//! if let Statement::Present(key, policy) = accepted.statement() {
+//!     // The provider states that the name is bound to this key, with this policy or none.
 //! }
 //! ```
 #![tactic(auto)]

@@ -1,19 +1,20 @@
 ghost use Rattle.std.specs.Prelude.{◌≡◌, ◌+◌, ◌*◌, ◌≤◌, ◌++◌, length, vec_len, vec_capacity};
+ghost use Rattle.encoding.specs.Policies.{has_policy};
 ghost use Rattle.rootchain.specs.Bodies.{IsWellFormed};
-ghost use Rattle.proofs.specs.Replies.{front_bytes, reply_end_bytes, reply_bytes, sibling_bytes, AreSiblings, IsEnd, IsReply};
+ghost use Rattle.proofs.specs.Replies.{front_bytes, present_kind, reply_end_bytes, reply_bytes, sibling_bytes, AreSiblings, IsEnd, IsReply};
 ghost use Rattle.proofs.specs.Views.{end_given};
 ghost use Rattle.proofs.specs.declared.making.TheConstants.{END_LEN, FRONT_ROOM};
 ghost use Rattle.prefixtree.specs.declared.path.TheConstants.{MAX_SIBLINGS};
 ghost use Rattle.encoding.specs.declared.fixed_text.TheConstants.{PROOF_TEXT_ROOM};
 
 use crate::End;
-use crate::kind_bytes::{EMPTY, OTHER, PRESENT};
-use encoding::{FixedText, Hash32, ProofText, Small};
+use crate::kind_bytes::{EMPTY, OTHER, PRESENT, PRESENT_WITH_POLICY};
+use encoding::{FixedText, Hash32, Policy, ProofText, Small};
 use prefixtree::Path;
 use rootchain::Body;
 
 /// Encodes a reply: this body, this value of the name, this end and the siblings of the path. It has at
-/// most 10,681 bytes. With a well-formed body, `ReplyView::read` accepts them.
+/// most 10,682 bytes. With a well-formed body, `ReplyView::read` accepts them.
 pub fn make(body: &Body, value: &Small, end: &End<'_>, path: &Path) -> ProofText
     ensures value { result ≡ reply_bytes (record { body = body.now; value = value.now; end = end_given end.now; siblings = path.now.siblings.items }) }
     ensures form { IsWellFormed body.now → IsReply (record { body = body.now; value = value.now; end = end_given end.now; siblings = path.now.siblings.items }) }
@@ -26,7 +27,7 @@ pub fn make(body: &Body, value: &Small, end: &End<'_>, path: &Path) -> ProofText
     text
 }
 
-/// The room of a reply up to its siblings, which has at most 2,489 bytes.
+/// The room of a reply up to its siblings, which has at most 2,490 bytes.
 pub const FRONT_ROOM: usize = 2500;
 
 /// Appends a reply up to its siblings, with the number of these, into room that is there.
@@ -46,8 +47,18 @@ pub fn write_front(output: &mut Vec<u8>, body: &Body, value: &Small, end: &End<'
     prove!(written);
 }
 
-/// The bytes of the longest end: its kind, a salt, and a key of 2,048 bytes behind its length.
-const END_LEN: usize = 2083;
+/// The bytes of the longest end: its kind, a policy, a salt, and a key of 2,048 bytes behind its length.
+const END_LEN: usize = 2084;
+
+/// The kind byte of an opened leaf with this policy, or with none.
+fn present_kind(policy: Option<Policy>) -> u8
+    ensures { result ≡ present_kind (has_policy policy) }
+{
+    match policy {
+        None => PRESENT,
+        Some(_) => PRESENT_WITH_POLICY,
+    }
+}
 
 /// Appends an end.
 fn push_end<const ROOM: usize>(text: &mut FixedText<ROOM>, end: &End<'_>)
@@ -58,7 +69,8 @@ fn push_end<const ROOM: usize>(text: &mut FixedText<ROOM>, end: &End<'_>)
 {
     match end {
         End::Present { salt, key } => {
-            text.push(PRESENT);
+            text.push(present_kind(key.policy));
+            text.push_policy(key.policy);
             text.push_slice(salt.bytes());
             text.push_counted(key.bytes());
         }

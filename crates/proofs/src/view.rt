@@ -6,14 +6,16 @@ ghost use Rattle.encoding.specs.Bytes.{joined};
 ghost use Rattle.encoding.specs.Limits.{IsKeyData};
 ghost use Rattle.encoding.specs.Reading.{Gives};
 ghost use Rattle.proofs.specs.Accepts.{stated};
-ghost use Rattle.proofs.specs.Reading.{read_end, read_reply, read_siblings};
+ghost use Rattle.proofs.specs.Reading.{read_end, read_present, read_reply, read_siblings};
 ghost use Rattle.proofs.specs.Refusals.{ReadsReply};
 ghost use Rattle.proofs.specs.Replies.{IsEnd, IsReply};
 ghost use Rattle.proofs.specs.Views.{end_seen, key_stated, reply_seen};
 
-use crate::kind_bytes::{EMPTY, OTHER, PRESENT};
+use crate::kind_bytes::{EMPTY, OTHER, PRESENT, PRESENT_WITH_POLICY};
 use crate::{Refusal, Statement};
-use encoding::{Cursor, Fault, Form, KeyData, MAX_KEY_DATA_LEN, MAX_SMALL_LEN, MIN_LEN};
+use encoding::{
+    BoundKey, Cursor, Fault, Form, KeyData, MAX_KEY_DATA_LEN, MAX_SMALL_LEN, MIN_LEN, Policy,
+};
 use prefixtree::MAX_SIBLINGS;
 use rootchain::Body;
 use std::marker::Model;
@@ -24,6 +26,7 @@ pub(crate) enum EndView<'a> {
     Present {
         salt: &'a [u8; 32],
         key: &'a [u8],
+        policy: Option<Policy>,
     },
     Empty,
     Other {
@@ -38,21 +41,21 @@ impl<'a> EndView<'a> {
         ensures { key_stated result ≡ stated (end_seen self.entry) }
     {
         match self {
-            EndView::Present { key, .. } => Statement::Present(key),
+            EndView::Present { key, policy, .. } => Statement::Present(key, policy),
             EndView::Empty | EndView::Other { .. } => Statement::Absent,
         }
     }
 }
 
 /// The key of an opened leaf, whose length was checked when it was read.
-pub(crate) fn key_data(bytes: &[u8]) -> KeyData
+pub(crate) fn bound_key(bytes: &[u8], policy: Option<Policy>) -> BoundKey
     requires { IsKeyData bytes.now }
-    ensures { result ≡ bytes.now }
+    ensures { result ≡ record { value = bytes.now; policy = policy } }
 {
-    let Ok(key) = KeyData::new(bytes) else {
+    let Ok(value) = KeyData::new(bytes) else {
         unreachable!()
     };
-    key
+    BoundKey { value, policy }
 }
 
 /// The parts of a reply, which lie in its bytes.
@@ -163,21 +166,30 @@ impl<'a> ReplyView<'a> {
     }
 }
 
+/// The parts of an opened leaf at the front of the bytes.
+fn read_present<'a>(has_policy: bool, cursor: &mut Cursor<'a>) -> Result<EndView<'a>, Fault>
+    ensures { Gives end_seen result cursor.new (read_present has_policy cursor.old) }
+{
+    Ok(EndView::Present {
+        policy: cursor.policy_if(has_policy)?,
+        salt: cursor.array()?,
+        key: cursor.counted(MIN_LEN, MAX_KEY_DATA_LEN)?,
+    })
+}
+
 /// The end at the front of the bytes.
 #[tactic(auto, unfolding(crate::specs::Reading::read_end))]
 fn read_end<'a>(cursor: &mut Cursor<'a>) -> Result<EndView<'a>, Fault>
     ensures { Gives end_seen result cursor.new (read_end cursor.old) }
 {
     match cursor.u8()? {
-        PRESENT => Ok(EndView::Present {
-            salt: cursor.array()?,
-            key: cursor.counted(MIN_LEN, MAX_KEY_DATA_LEN)?,
-        }),
+        PRESENT => read_present(false, cursor),
         EMPTY => Ok(EndView::Empty),
         OTHER => Ok(EndView::Other {
             index: cursor.array()?,
             commitment: cursor.array()?,
         }),
+        PRESENT_WITH_POLICY => read_present(true, cursor),
         _ => Err(Fault::OutOfRange),
     }
 }

@@ -1,7 +1,7 @@
 ghost use Rattle.std.specs.Prelude.{◌≤◌};
 
 use crate::word::{Word, number};
-use encoding::{Hash32, Index, KeyData, Name, Small};
+use encoding::{BoundKey, Hash32, Index, KeyData, Name, Policy, Small};
 use sha2::{Digest, Sha256};
 use std::alloc::Global;
 use std::fmt::Display;
@@ -233,6 +233,28 @@ impl<'a> Case<'a> {
                 some_key()
             }
         }
+    }
+
+    /// The next word, the name of a policy.
+    pub fn policy(&mut self) -> Policy {
+        match Policy::of_word(self.word()) {
+            Some(policy) => policy,
+            None => {
+                self.spoil();
+                Policy::Open
+            }
+        }
+    }
+
+    /// The next word's bytes, as a key; the word behind it is its policy, if it has one.
+    pub fn bound_key(&mut self, has_policy: bool) -> BoundKey {
+        let value = self.key();
+        let policy = if has_policy {
+            Some(self.policy())
+        } else {
+            None
+        };
+        BoundKey { value, policy }
     }
 
     /// The next word's bytes, as a small value.

@@ -34,4 +34,6 @@ pub use any_sign::AnySign;
 pub use case::Case;
 pub use lines::{Subjects, answer_all};
 pub use messages::{read_commands, tells_of_memory};
-pub use saying::{refuse_root, say_ended, say_evidence, say_fault, say_place, say_statement};
+pub use saying::{
+    refuse_root, say_ended, say_evidence, say_fault, say_place, say_policy, say_statement,
+};

@@ -1,6 +1,7 @@
 //! How programs of questions tell evidence, places, refusals, statements and faults.
 
 use crate::Case;
+use encoding::Policy;
 use proofs::Statement;
 use rootchain::{Place, Refusal, RootEvidence, SignedRoot};
 use textio::ProgramFault;
@@ -39,12 +40,20 @@ pub fn refuse_root(case: &mut Case<'_>, why: Refusal) {
     case.refuse(why.number(), why);
 }
 
+/// The name of a policy, if there is one.
+pub fn say_policy(case: &mut Case<'_>, policy: Option<Policy>) {
+    if let Some(policy) = policy {
+        case.say_text(policy.word());
+    }
+}
+
 /// What a reply states of a name.
 pub fn say_statement(case: &mut Case<'_>, statement: Statement<'_>) {
     match statement {
-        Statement::Present(key) => {
+        Statement::Present(key, policy) => {
             case.say("present");
             case.say_bytes(key);
+            say_policy(case, policy);
         }
         Statement::Absent => case.say("absent"),
     }

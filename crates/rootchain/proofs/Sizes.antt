@@ -1,5 +1,5 @@
 -- What the forms spell are bytes, and how many at most.
-use Rattle.std.proofs.Common.{ℕ, ◌+◌, ◌*◌, ◌≤◌, ◌<◌, List, [], ◌∷◌, ◌++◌, length, flat_map, arith, lit≤}
+use Rattle.std.proofs.Common.{ℕ, ◌+◌, ◌*◌, ◌≤◌, ◌<◌, List, [], ◌∷◌, ◌++◌, length, flat_map, Option, Some, None, arith, lit≤}
 use Rattle.std.proofs.lemmas.List.{length-append}
 use Rattle.std.proofs.Math.Nat.{suc-mul, zero-mul}
 use Rattle.std.specs.List.{AllByRecursion}
@@ -8,13 +8,16 @@ use Rattle.encoding.specs.Bytes.{Is32Bytes, IsBytes}
 use Rattle.encoding.specs.Endian.{big_bytes}
 use Rattle.encoding.specs.Forms.{counted_bytes}
 use Rattle.encoding.specs.Limits.{IsWithin}
+use Rattle.encoding.specs.Policies.{policy_bytes, version_of}
+use Rattle.encoding.specs.declared.policy.Policy.{Policy}
+use Rattle.encoding.specs.declared.policy.Policy.TheVariants.{Open, Final}
 use Rattle.encoding.proofs.ByteLists.{IsBytes-append, IsBytes-bytes_high_first, IsBytes-cons, IsBytes-two}
 use Rattle.rootchain.specs.declared.body.Body.{Body}
 use Rattle.rootchain.specs.declared.promise.Promise.{Promise}
 use Rattle.rootchain.specs.declared.signed_promise.SignedPromise.{SignedPromise}
 use Rattle.rootchain.specs.declared.signed_root.SignedRoot.{SignedRoot}
 use Rattle.rootchain.specs.Bodies.{body_bytes, IsBody}
-use Rattle.rootchain.specs.Promises.{promise_bytes, signed_promise_bytes, IsPromise, IsSignedPromise}
+use Rattle.rootchain.specs.Promises.{promise_bytes, promise_kind, signed_promise_bytes, IsPromise, IsSignedPromise}
 use Rattle.rootchain.specs.RootLists.{root_list_bytes, IsRootList}
 use Rattle.rootchain.specs.SignedRoots.{signed_root_bytes, IsSignedRoot}
 
@@ -63,11 +66,20 @@ pub roots_few : (roots : List SignedRoot) → IsRootList roots → AreFew 25858 
 roots_few roots h =
     fewer (2 + length roots * 404) 25858 (both_few 2 (length roots * 404) (number_few 2 (length roots)) (each_few signed_root_bytes IsSignedRoot 404 root_few roots h.1)) (omega (arith, h.0))
 
-promise_few : (promise : Promise) → IsPromise promise → AreFew 2381 (promise_bytes promise)
-promise_few promise h =
-    both_few 2 2379 (pair_few 0x50 1 (lit≤ tt) (lit≤ tt)) (both_few 8 2371 (number_few 8 promise.epoch)
-    (both_few 32 2339 (hash_few promise.body_hash h.1) (both_few 32 2307 (hash_few promise.index h.2)
-    (both_few 257 2050 (counted_few 1 255 promise.name h.3) (counted_few 1 2048 promise.key h.4)))))
+pub policy_few : (policy : Option Policy) → AreFew 1 (policy_bytes policy)
+policy_few None = record { few = lit≤ tt; small = λ k. omega arith }
+policy_few (Some Open) = one_few 1 (lit≤ tt)
+policy_few (Some Final) = one_few 2 (lit≤ tt)
 
-pub signed_promise_few : (signed : SignedPromise) → IsSignedPromise signed → AreFew 2639 (signed_promise_bytes signed)
-signed_promise_few signed h = both_few 2381 258 (promise_few signed.promise h.0) (counted_few 1 256 signed.signature h.1)
+head_few : (policy : Option Policy) → AreFew 2 (promise_kind ∷ version_of policy ∷ [])
+head_few None = pair_few 0x50 1 (lit≤ tt) (lit≤ tt)
+head_few (Some policy) = pair_few 0x50 2 (lit≤ tt) (lit≤ tt)
+
+promise_few : (promise : Promise) → IsPromise promise → AreFew 2382 (promise_bytes promise)
+promise_few promise h =
+    both_few 2 2380 (head_few promise.key.policy) (both_few 8 2372 (number_few 8 promise.epoch)
+    (both_few 32 2340 (hash_few promise.body_hash h.1) (both_few 32 2308 (hash_few promise.index h.2) (both_few 1 2307 (policy_few promise.key.policy)
+    (both_few 257 2050 (counted_few 1 255 promise.name h.3) (counted_few 1 2048 promise.key.value h.4))))))
+
+pub signed_promise_few : (signed : SignedPromise) → IsSignedPromise signed → AreFew 2640 (signed_promise_bytes signed)
+signed_promise_few signed h = both_few 2382 258 (promise_few signed.promise h.0) (counted_few 1 256 signed.signature h.1)

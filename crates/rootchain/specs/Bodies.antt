@@ -11,7 +11,7 @@ abbrev pub body_head : List ℕ
 body_head = 0x52 ∷ 0x01 ∷ []
 
 -- 146 bytes: R, the version, the epoch, the one before, the root, the hash of the body before, the
--- nonce and the public key of the verifiable function
+-- nonce and the public key of the verifiable function (CONIKS, section 3: what a signed tree root signs)
 abbrev pub body_bytes : Body → List ℕ
 body_bytes body = body_head ++ (big_bytes 8 body.epoch ++ (big_bytes 8 body.previous_epoch
     ++ (body.root ++ (body.previous_hash ++ (body.nonce ++ body.vuf_key)))))

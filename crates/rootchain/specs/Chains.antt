@@ -28,11 +28,13 @@ Ascend = AllPairs (λ earlier later. earlier.body.epoch < later.body.epoch)
 unfoldable pub Verifies : (List ℕ → List ℕ → List ℕ → Type 0) → List ℕ → SignedRoot → Type 0
 Verifies verified key root = verified key (body_bytes root.body) root.signature
 
--- the later root names the earlier one as the root before it, by its epoch and the hash of its body
+-- the later root names the earlier one as the root before it, by its epoch and the hash of its body (CONIKS,
+-- section 3: hash of the previous STR, here without its signature)
 unfoldable pub Names : (List ℕ → List ℕ) → SignedRoot → SignedRoot → Type 0
 Names hash earlier later = (later.body.previous_epoch ≡ earlier.body.epoch) × (later.body.previous_hash ≡ hash (body_bytes earlier.body))
 
--- the later root names the earlier one, and has a later epoch
+-- the later root names the earlier one, and has a later epoch (CONIKS, section 3: neighbours in the hash chain of
+-- STRs)
 abbrev pub Links : (List ℕ → List ℕ) → SignedRoot → SignedRoot → Type 0
 Links hash earlier later = Names hash earlier later × (earlier.body.epoch < later.body.epoch)
 
@@ -45,7 +47,8 @@ IsStartRefusal verified key root BadLink = ⊥
 IsStartRefusal verified key root Memory = Verifies verified key root
 
 module _ (hash : List ℕ → List ℕ) (verified : List ℕ → List ℕ → List ℕ → Type 0) where
-  -- there is a root, each verifies under the key, and each two neighbours are linked
+  -- there is a root, each verifies under the key, and each two neighbours are linked (CONIKS, section 3: STR history,
+  -- a hash chain)
   pub record IsChain (chain : KeyedRoots) : Type 0 where
     pub first : 0 < length chain.roots
     pub signed : All (Verifies verified chain.key) chain.roots

@@ -1,4 +1,4 @@
--- What two signed roots show of a provider that told two histories (CONIKS, section 4).
+-- What two signed roots show of a provider that told two histories (CONIKS, section 4, equivocation).
 use Rattle.std.specs.Prelude.{◌≡◌, ◌≢◌, ◌⊎◌, ℕ, ◌<◌, List}
 use Rattle.rootchain.specs.Bodies.{body_bytes}
 use Rattle.rootchain.specs.Chains.{Verifies}
@@ -6,7 +6,7 @@ use Rattle.rootchain.specs.declared.evidence.RootEvidence.{RootEvidence}
 use Rattle.rootchain.specs.declared.evidence.RootEvidence.TheVariants.{Fork, Link, Skip}
 use Rattle.rootchain.specs.declared.signed_root.SignedRoot.{SignedRoot}
 
--- one epoch, and two bodies
+-- one epoch, and two bodies (CONIKS, section 4: equivocation)
 abbrev pub IsFork : SignedRoot → SignedRoot → Type 0
 IsFork one other = (one.body.epoch ≡ other.body.epoch) × (one.body ≢ other.body)
 
@@ -35,7 +35,7 @@ module _ (hash : List ℕ → List ℕ) (verified : List ℕ → List ℕ → Li
   abbrev pub AreEvidence : SignedRoot → SignedRoot → Type 0
   AreEvidence one other = Verifies verified key one × Verifies verified key other × (IsFork one other ⊎ (IsLink hash one other ⊎ IsSkip one other))
 
-  -- such two roots, which stand as the kind says
+  -- such two roots, which stand as the kind says (CONIKS, section 4: evidence of equivocation)
   abbrev pub IsRootEvidence : RootEvidence → Type 0
   IsRootEvidence (Fork one other) = Verifies verified key one × Verifies verified key other × IsFork one other
   IsRootEvidence (Link one other) = Verifies verified key one × Verifies verified key other × IsLink hash one other

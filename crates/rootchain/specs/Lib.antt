@@ -16,4 +16,5 @@ pub mod TakingLists
 pub mod TakingPieces
 pub mod Walks
 pub use Rattle.encoding.specs.Forms
+pub use Rattle.encoding.specs.Policies
 pub use Rattle.encoding.specs.Reading

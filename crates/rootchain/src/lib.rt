@@ -47,7 +47,7 @@ pub use laws::{
 };
 pub use list_refusal::ListRefusal;
 pub use piece_refusal::PieceRefusal;
-pub use promise::{PROMISE_HEAD, PROMISE_LEN_BESIDE, Promise};
+pub use promise::{PROMISE, PROMISE_LEN_BESIDE, Promise};
 pub use root_feed::RootFeed;
 pub use root_list::{MAX_LIST_LEN, MAX_ROOTS, RootList, list_len, write_list};
 pub use root_refusal::Refusal;

@@ -3,6 +3,7 @@ use Rattle.std.proofs.Common.{◌≡◌, ◌∙◌, ◌⊎◌, ℕ, List, [], �
 use Rattle.std.specs.Prelude.{IfSome, ⊤}
 use Rattle.std.specs.List.{AllZip}
 use Rattle.std.proofs.lemmas.List.Elements.{Contains-append_left, Contains-push}
+use Rattle.encoding.specs.declared.bound_key.BoundKey.{BoundKey}
 use Rattle.client.specs.Clients.{Client}
 use Rattle.memory.specs.declared.mark.Mark.{Mark}
 use Rattle.monitor.specs.Monitors.{Monitor}
@@ -152,7 +153,7 @@ module _ (hash : List ℕ → List ℕ) (accepted verified : List ℕ → List �
       seen-on before after goes (inl has) = inl (goes has)
       seen-on before after goes (inr marked) = inr marked
 
-      begins-seen : (promised : List SignedPromise) (given : Option (List ℕ)) (before after : Scene T) → Own before → BeginsWatch hash accepted verified exchanged background.known background.marks background.key promised name given before after → IsSeen after
+      begins-seen : (promised : List SignedPromise) (given : Option BoundKey) (before after : Scene T) → Own before → BeginsWatch hash accepted verified exchanged background.known background.marks background.key promised name given before after → IsSeen after
       begins-seen promised given before after is-own (again, tells, inl (none, (epoch, marked, same))) = inr (marked-so name epoch background.marks marked)
       begins-seen promised given before after is-own (again, tells, inr (first, is, (middle, inl (monitor, joined, (count, steps)), tests))) =
           let now : Scene T = record before { told = told_after before.told again; monitors = before.monitors ++ monitor ∷ [] } in
@@ -164,11 +165,11 @@ module _ (hash : List ℕ → List ℕ) (accepted verified : List ℕ → List �
       begins-seen promised given before after is-own (again, tells, inr (first, is, (middle, inr (why, not, starts, same), tests))) =
           absurd (starts-not hash verified before.client.chain is-own.is is-own.formed background.key first why is-own.keyed (unwatched-there before.client.chain name background.marks first is) starts not)
 
-      watch-seen : (given : Option (List ℕ)) (before after : Scene T) → Own before → DoesLine hash accepted verified exchanged background (Watch name given) before after → IsSeen after
+      watch-seen : (given : Option BoundKey) (before after : Scene T) → Own before → DoesLine hash accepted verified exchanged background (Watch name given) before after → IsSeen after
       watch-seen given before after is-own (noted, begins) = begins-seen _ given before after is-own begins
 
       lines-seen : (lines : List (List ℕ)) (before after : Scene T) (old new : Option (List ℕ)) → Own before → AsksLines hash accepted verified exchanged background lines before old new after
-          → (line : List ℕ) → Contains lines line → (given : Option (List ℕ)) → line_of line ≡ Some (Watch name given) → IsSeen after
+          → (line : List ℕ) → Contains lines line → (given : Option BoundKey) → line_of line ≡ Some (Watch name given) → IsSeen after
       lines-seen [] before after old new is-own asks line has given is = absurd (omega (arith, has.1))
       lines-seen (first ∷ lines) before after old new is-own (middle, now, (done, (said, seen, does), appends, same), rest) line has given is = elim (cons-cases first line lines has) [
         | inl one ↦
@@ -179,7 +180,7 @@ module _ (hash : List ℕ → List ℕ) (accepted verified : List ℕ → List �
       ]
 
   pub asked-seen : (key token : List ℕ) (options : AskOptions) (HasNoState : Type 0) (stream stream' : T) (input : Option (List ℕ)) (status : ℕ) (old new : Option (List ℕ)) (lines : List (List ℕ)) → lines_asked options.words input ≡ Some lines
-      → (run : RunsWhole hash accepted verified exchanged key token options HasNoState stream stream' input status old new) → (name : List ℕ) (given : Option (List ℕ)) → IsAsked (Some lines) name given
+      → (run : RunsWhole hash accepted verified exchanged key token options HasNoState stream stream' input status old new) → (name : List ℕ) (given : Option BoundKey) → IsAsked (Some lines) name given
       → HasMonitor run.last.monitors name ⊎ IsMarked run.background.marks name
   asked-seen key token options HasNoState stream stream' input status old new lines asked run name given (line, has, is) =
       let asks = subst (λ (found : Option (List (List ℕ))). IfSome found (λ ls. AsksLines hash accepted verified exchanged run.background ls run.ready run.now new run.last)) asked run.asks in

@@ -2,6 +2,7 @@
 use Rattle.std.proofs.Common.{◌≡◌, ◌∙◌, ℕ, true, false, Bool, List, [], ◌∷◌, ◌++◌, Contains, Option, Ok, ap, inl, inr, refl, subst, sym}
 use Rattle.std.specs.Prelude.{map}
 use Rattle.std.specs.List.{AllByRecursion, AllZip}
+use Rattle.encoding.specs.declared.bound_key.BoundKey.{BoundKey}
 use Rattle.commands.specs.Operations.{Lookup}
 use Rattle.rootchain.specs.Chains.{IsChain, KeyedRoots}
 use Rattle.rootchain.specs.Places.{IsFirst}
@@ -106,7 +107,7 @@ module _ (hash : List ℕ → List ℕ) (accepted verified : List ℕ → List �
 
 -- ---- scenes
 
-module _ (hash : List ℕ → List ℕ) (accepted verified : List ℕ → List ℕ → List ℕ → Type 0) (Given : List ℕ → Option (List ℕ) → Type 0) (Own : SignedPromise → Type 0) (start : Memory) (marks : List Mark)
+module _ (hash : List ℕ → List ℕ) (accepted verified : List ℕ → List ℕ → List ℕ → Type 0) (Given : List ℕ → Option BoundKey → Type 0) (Own : SignedPromise → Type 0) (start : Memory) (marks : List Mark)
     (text : List ℕ) (stored : List SignedRoot) (known : List Mark) {T : Type 0} (exchanged : T → RequestContent → Frame → T → Type 0) (once : HasNoRepeat (map name_of marks))
     (spelled : (signed : SignedPromise) → Own signed → IsSignedPromise signed) (same-marks : start.marks ≡ marks) (key : List ℕ) where
   abbrev IsOwned : Scene T → Type 0

@@ -13,6 +13,7 @@ use Rattle.textio.specs.declared.program_fault.ProgramFault.TheVariants.{CannotW
 use Rattle.std.specs.Io.KnownBytes.{Appends}
 use Rattle.runs.specs.declared.run_fault.RunFault.{RunFault}
 use Rattle.runs.specs.declared.run_fault.RunFault.TheVariants.{Program}
+use Rattle.encoding.specs.declared.bound_key.BoundKey.{BoundKey}
 use Rattle.wire.specs.Frames.{Frame}
 use Rattle.wire.specs.Requests.{RequestContent}
 use Rattle.play.specs.Reading.{TakesWholeLine}
@@ -185,14 +186,14 @@ module _ (hash : List ℕ → List ℕ) (accepted verified : List ℕ → List �
     heard_reaches held asked frame noted noted' (Err why) before after asker said same hears (reached, some, halted) = (why, reached, inr some, halted.0)
 
     -- a name is watched, or some of its epochs
-    pub watched_reaches : {H V S A : Type 0} (name : List ℕ) (given given' : Option (List ℕ)) (noted : List SignedPromise) (result : Result A AskFault) (before after : Scene T) (asker : Asker H V S) (said : Said) → given ≡ given' → report_of said ≡ after.told
+    pub watched_reaches : {H V S A : Type 0} (name : List ℕ) (given given' : Option BoundKey) (noted : List SignedPromise) (result : Result A AskFault) (before after : Scene T) (asker : Asker H V S) (said : Said) → given ≡ given' → report_of said ≡ after.told
         → OnOk result (BeginsWatch hash accepted verified exchanged background.known background.marks background.key (own_for background.marks name background.earlier noted) name given before after)
         → IfErr result (λ why. HaltsAfter (BeginsSome hash accepted verified exchanged background.known background.marks background.key (own_for background.marks name background.earlier noted) name given before) why asker said)
         → (reached : Scene T) × DoesSome hash accepted verified exchanged background (Watch name given') before reached × (report_of said ≡ reached.told)
     watched_reaches name given given' noted (Ok done) before after asker said is same begins halts =
-        (after, inr (inl (noted, subst (λ (g : Option (List ℕ)). BeginsWatch hash accepted verified exchanged background.known background.marks background.key (own_for background.marks name background.earlier noted) name g before after) is begins)), same)
+        (after, inr (inl (noted, subst (λ (g : Option BoundKey). BeginsWatch hash accepted verified exchanged background.known background.marks background.key (own_for background.marks name background.earlier noted) name g before after) is begins)), same)
     watched_reaches name given given' noted (Err why) before after asker said is same begins (reached, some, halted) =
-        (reached, inr (inr (noted, subst (λ (g : Option (List ℕ)). BeginsSome hash accepted verified exchanged background.known background.marks background.key (own_for background.marks name background.earlier noted) name g before reached) is some)), halted.0)
+        (reached, inr (inr (noted, subst (λ (g : Option BoundKey). BeginsSome hash accepted verified exchanged background.known background.marks background.key (own_for background.marks name background.earlier noted) name g before reached) is some)), halted.0)
 
     -- it is what a line says
     pub line_reaches : (line : List ℕ) (said : ScriptLine) (told : Report) (before : Scene T) → line_of line ≡ Some said

@@ -1,5 +1,6 @@
 -- What each single step keeps, every relation between the scenes of a run keeps.
 use Rattle.std.proofs.Common.{◌≡◌, ◌⊎◌, ℕ, zero, suc, true, false, Bool, List, [], ◌∷◌, ◌++◌, length, Option, Some, None, inl, inr, refl, subst, sym}
+use Rattle.encoding.specs.declared.bound_key.BoundKey.{BoundKey}
 use Rattle.rootchain.specs.declared.signed_promise.SignedPromise.{SignedPromise}
 use Rattle.rootchain.specs.declared.signed_root.SignedRoot.{SignedRoot}
 use Rattle.commands.specs.Operations.{Head}
@@ -25,7 +26,7 @@ use Rattle.asking.specs.Watching.{AllStep, AsksEpoch, GoesOn, GoesSome, SomeStep
 module _ {T : Type 0} (hash : List ℕ → List ℕ) (accepted verified : List ℕ → List ℕ → List ℕ → Type 0) (exchanged : T → RequestContent → Frame → T → Type 0) (marks : List Mark) where
   -- Each single step keeps it, where what is noted of the client's own changes is MayNote, a monitor joins as MayJoin says, and
   -- a frame may stop the taking of roots if MayStop is so.
-  pub record EachKeeps (MayNote : List SignedPromise → Type 0) (MayJoin : List ℕ → List SignedPromise → List ℕ → Option (List ℕ) → Type 0) (MayStop : Type 0) (Keeps : Scene T → Scene T → Type 0) : Type 0 where
+  pub record EachKeeps (MayNote : List SignedPromise → Type 0) (MayJoin : List ℕ → List SignedPromise → List ℕ → Option BoundKey → Type 0) (MayStop : Type 0) (Keeps : Scene T → Scene T → Type 0) : Type 0 where
     pub none : (before : Scene T) → Keeps before before
     pub both : (before middle after : Scene T) → Keeps before middle → Keeps middle after → Keeps before after
     pub sends : (before : Scene T) (stream : T) → Keeps before (record before { stream = stream })
@@ -34,7 +35,7 @@ module _ {T : Type 0} (hash : List ℕ → List ℕ) (accepted verified : List �
     pub stops : (before after : Scene T) → MayStop → StopsList hash verified exchanged before after → Keeps before after
     pub tests : (before : Scene T) (name : List ℕ) (kept : Bool) (after : Scene T) → AsksDue hash accepted exchanged before name kept after → Keeps before after
     pub steps : (before : Scene T) (place : ℕ) (went : Bool) (after : Scene T) → AsksEpoch hash accepted exchanged before place went after → Keeps before after
-    pub joins : (before : Scene T) (key : List ℕ) (promised : List SignedPromise) (name : List ℕ) (given : Option (List ℕ)) (first : SignedRoot) (monitor : Monitor) → MayJoin key promised name given
+    pub joins : (before : Scene T) (key : List ℕ) (promised : List SignedPromise) (name : List ℕ) (given : Option BoundKey) (first : SignedRoot) (monitor : Monitor) → MayJoin key promised name given
         → IsUnwatched before.client.chain name marks (Some first) → IsJoined hash accepted verified marks key promised before.client.chain first name given monitor
         → Keeps before (record before { monitors = before.monitors ++ monitor ∷ [] })
     pub hears : (before after : Scene T) (held : ℕ) (asked : RequestContent) (frame : Frame) (heard told : Report) → HearsFrame hash accepted verified held before.client asked frame heard after.client
@@ -42,7 +43,7 @@ module _ {T : Type 0} (hash : List ℕ → List ℕ) (accepted verified : List �
     pub hands : (before after : Scene T) (held : ℕ) (asked : RequestContent) (frame : Frame) (noted noted' : List SignedPromise) → HearsOne hash accepted verified exchanged held asked frame before after
         → Notes asked before.client.promises after.client.promises noted noted' → MayNote noted' → Keeps before after
 
-  module _ {MayNote : List SignedPromise → Type 0} {MayJoin : List ℕ → List SignedPromise → List ℕ → Option (List ℕ) → Type 0} {MayStop : Type 0} {Keeps : Scene T → Scene T → Type 0} (each : EachKeeps MayNote MayJoin MayStop Keeps) where
+  module _ {MayNote : List SignedPromise → Type 0} {MayJoin : List ℕ → List SignedPromise → List ℕ → Option BoundKey → Type 0} {MayStop : Type 0} {Keeps : Scene T → Scene T → Type 0} (each : EachKeeps MayNote MayJoin MayStop Keeps) where
     same-keeps : (before after : Scene T) → after ≡ before → Keeps before after
     same-keeps before after same = subst (Keeps before) (sym same) (each.none before)
 
@@ -128,7 +129,7 @@ module _ {T : Type 0} (hash : List ℕ → List ℕ) (accepted verified : List �
 
     -- ---- a monitor that joins
 
-    module _ (key : List ℕ) (promised : List SignedPromise) (name : List ℕ) (given : Option (List ℕ)) (may : MayJoin key promised name given) where
+    module _ (key : List ℕ) (promised : List SignedPromise) (name : List ℕ) (given : Option BoundKey) (may : MayJoin key promised name given) where
       pub begins_at-keeps : (first : SignedRoot) (before after : Scene T) → IsUnwatched before.client.chain name marks (Some first) → BeginsAt hash accepted verified exchanged marks key promised name given first before after → Keeps before after
       begins_at-keeps first before after is (inl (monitor, joined, (count, steps))) =
           let added : Scene T = record before { monitors = before.monitors ++ monitor ∷ [] } in
@@ -253,7 +254,7 @@ module _ {T : Type 0} (hash : List ℕ → List ℕ) (accepted verified : List �
 -- ---- before the lines, and a line
 
 module _ {T : Type 0} (hash : List ℕ → List ℕ) (accepted verified : List ℕ → List ℕ → List ℕ → Type 0) (exchanged : T → RequestContent → Frame → T → Type 0) (background : Background)
-    {MayNote : List SignedPromise → Type 0} {MayJoin : List ℕ → List SignedPromise → List ℕ → Option (List ℕ) → Type 0} {MayStop : Type 0} {Keeps : Scene T → Scene T → Type 0}
+    {MayNote : List SignedPromise → Type 0} {MayJoin : List ℕ → List SignedPromise → List ℕ → Option BoundKey → Type 0} {MayStop : Type 0} {Keeps : Scene T → Scene T → Type 0}
     (each : EachKeeps hash accepted verified exchanged background.marks MayNote MayJoin MayStop Keeps) where
   module _ (HasNoState : Type 0) where
     pub prepares-keeps : (before after : Scene T) → Prepares hash accepted verified exchanged background HasNoState before after → Keeps before after
@@ -277,7 +278,7 @@ module _ {T : Type 0} (hash : List ℕ → List ℕ) (accepted verified : List �
   -- ---- and what a line says
 
   pub does_some-keeps : (fault : AskFault) (stop : MayStop) (said : ScriptLine) (noted noted' : List SignedPromise) (before after : Scene T) → MayNote noted'
-      → ((name : List ℕ) (given : Option (List ℕ)) → said ≡ Watch name given → MayJoin background.key (own_for background.marks name background.earlier noted) name given)
+      → ((name : List ℕ) (given : Option BoundKey) → said ≡ Watch name given → MayJoin background.key (own_for background.marks name background.earlier noted) name given)
       → DoesSomeNoting hash accepted verified exchanged background fault said noted noted' before after → Keeps before after
   does_some-keeps fault stop said noted noted' before after may join (inl (same, none)) = subst (Keeps before) (sym same) (each.none before)
   does_some-keeps fault stop Pass noted noted' before after may join (inr (inl (same, none))) = subst (Keeps before) (sym same) (each.none before)

@@ -147,7 +147,7 @@ words_fault HasState result input order command some faults =
 
 pub reads_input : (order : AskOrder) → order.command ≡ None → AsksInput (ask_values order).words
 reads_input order none =
-    subst (λ (command : Option (Bor (List ℕ))). AsksInput (option_map (λ text. text.now) command ∷ option_map (λ text. text.now) order.first ∷ option_map (λ text. text.now) order.second ∷ [])) (sym none) tt
+    subst (λ (command : Option (Bor (List ℕ))). AsksInput (option_map (λ text. text.now) command ∷ option_map (λ text. text.now) order.first ∷ option_map (λ text. text.now) order.second ∷ option_map (λ text. text.now) order.third ∷ [])) (sym none) tt
 
 pub input_fault : (HasState : Type 0) (result : Result (Unit {0}) RunFault) (input : Option (List ℕ)) (order : AskOrder) → order.command ≡ None
     → IfErr result (StopsOr (IsFaultWith ⊥ ⊤ (λ number. IfSome input (λ all. IsFirstUnasked 1 (lines_of all) number))))

@@ -4,6 +4,7 @@ use Rattle.std.proofs.Common.{◌≡◌, ◌∙◌, ◌⊎◌, ◌<◌, ◌≤�
 use Rattle.std.specs.Prelude.{map, slice_get}
 use Rattle.std.specs.List.{AllByRecursion, AllZip}
 use Rattle.std.proofs.lemmas.List.Elements.{All-contains}
+use Rattle.encoding.specs.declared.bound_key.BoundKey.{BoundKey}
 use Rattle.commands.specs.Operations.{Lookup}
 use Rattle.rootchain.specs.Chains.{IsChain, IsHead, KeyedRoots}
 use Rattle.rootchain.specs.Places.{IsFirst, IsNextAfter}
@@ -215,7 +216,7 @@ module _ (hash : List ℕ → List ℕ) (accepted verified : List ℕ → List �
       some-same root one (sym (subst (λ (c : Client). IsFirst c.chain root) is there)) ∙ same
 
   -- so one that joins begins with the first root that is to be watched
-  joined-first : (marks : List Mark) (key : List ℕ) (promised : List SignedPromise) (first : SignedRoot) (name : List ℕ) (given : Option (List ℕ)) (monitor : Monitor) → IsSignedRoot first
+  joined-first : (marks : List Mark) (key : List ℕ) (promised : List SignedPromise) (first : SignedRoot) (name : List ℕ) (given : Option BoundKey) (monitor : Monitor) → IsSignedRoot first
       → IsJoined hash accepted verified marks key promised chain first name given monitor → (monitor.name ≡ name) × ((root : SignedRoot) → IsFirst monitor.client.chain root → root ≡ first)
   joined-first marks key promised first name given monitor formed joined =
       let more = all-more hash accepted verified promised _ monitor joined.hands in
@@ -223,7 +224,7 @@ module _ (hash : List ℕ → List ℕ) (accepted verified : List ℕ → List �
 
 -- ---- scenes
 
-module _ (hash : List ℕ → List ℕ) (accepted verified : List ℕ → List ℕ → List ℕ → Type 0) (Given : List ℕ → Option (List ℕ) → Type 0) (Own : SignedPromise → Type 0) (start : Memory) (marks : List Mark)
+module _ (hash : List ℕ → List ℕ) (accepted verified : List ℕ → List ℕ → List ℕ → Type 0) (Given : List ℕ → Option BoundKey → Type 0) (Own : SignedPromise → Type 0) (start : Memory) (marks : List Mark)
     (text : List ℕ) (stored : List SignedRoot) (known : List Mark) {T : Type 0} (exchanged : T → RequestContent → Frame → T → Type 0) (once : HasNoRepeat (map name_of marks))
     (spans : (mark : Mark) → Contains known mark → mark.since ≤ mark.epoch) where
   abbrev IsOwned : Scene T → Type 0
@@ -307,7 +308,7 @@ module _ (hash : List ℕ → List ℕ) (accepted verified : List ℕ → List �
     behind = well now owns monitor own.own;
   }) owns.watched
 
-  joins-on : (before : Scene T) (key : List ℕ) (promised : List SignedPromise) (name : List ℕ) (given : Option (List ℕ)) (first : SignedRoot) (monitor : Monitor) → IsUnwatched before.client.chain name marks (Some first)
+  joins-on : (before : Scene T) (key : List ℕ) (promised : List SignedPromise) (name : List ℕ) (given : Option BoundKey) (first : SignedRoot) (monitor : Monitor) → IsUnwatched before.client.chain name marks (Some first)
       → IsJoined hash accepted verified marks key promised before.client.chain first name given monitor → (IsOwned before → IsOwned (record before { monitors = before.monitors ++ monitor ∷ [] }))
       → GoesOn before (record before { monitors = before.monitors ++ monitor ∷ [] })
   joins-on before key promised name given first monitor is joined keeps (owns, behind, ordered) =
@@ -321,7 +322,7 @@ module _ (hash : List ℕ → List ℕ) (accepted verified : List ℕ → List �
       )
 
   -- so every relation between scenes keeps it
-  pub each-gone : {MayNote : List SignedPromise → Type 0} {MayJoin : List ℕ → List SignedPromise → List ℕ → Option (List ℕ) → Type 0} {MayStop : Type 0}
+  pub each-gone : {MayNote : List SignedPromise → Type 0} {MayJoin : List ℕ → List SignedPromise → List ℕ → Option BoundKey → Type 0} {MayStop : Type 0}
       → EachKeeps hash accepted verified exchanged marks MayNote MayJoin MayStop (λ before after. IsOwned before → IsOwned after) → EachKeeps hash accepted verified exchanged marks MayNote MayJoin MayStop GoesOn
   each-gone owned = record {
     none = λ before gone. (gone, all-as_before before.monitors);

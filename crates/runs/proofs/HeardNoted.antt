@@ -2,6 +2,7 @@
 use Rattle.std.proofs.Common.{◌≡◌, ◌⊎◌, ◌≤◌, ℕ, List, map, Contains, Option, arith, inl, inr, rules, subst, sym}
 use Rattle.std.specs.Prelude.{⊤}
 use Rattle.std.specs.List.{AllByRecursion}
+use Rattle.encoding.specs.declared.bound_key.BoundKey.{BoundKey}
 use Rattle.rootchain.specs.Promises.{IsSignedPromise, PromiseVerifies}
 use Rattle.rootchain.specs.declared.signed_promise.SignedPromise.{SignedPromise}
 use Rattle.rootchain.specs.declared.signed_root.SignedRoot.{SignedRoot}
@@ -64,7 +65,7 @@ module _ {T : Type 0} (hash : List ℕ → List ℕ) (accepted verified : List �
         chain = is.chain;
         first = λ first at. let early = is.first first at in omega (arith, early, under);
         watched = let early = is.watched in omega (arith, early, under);
-        changes = all-map (λ (change : ℕ × List ℕ). change.0 ≤ both.head.body.epoch) (λ (change : ℕ × List ℕ). change.0 ≤ low) monitor.watch.changes (λ change early. omega (arith, early, under)) is.changes;
+        changes = all-map (λ (change : ℕ × BoundKey). change.0 ≤ both.head.body.epoch) (λ (change : ℕ × BoundKey). change.0 ≤ low) monitor.watch.changes (λ change early. omega (arith, early, under)) is.changes;
       }) below)
 
   module _ (noted noted' : List SignedPromise) (new' : AllByRecursion Own noted') (held : ℕ) (asked : RequestContent) (frame : Frame) (low : ℕ) (high : (signed : SignedPromise) → IsLate held asked frame signed → low ≤ signed.promise.epoch)

@@ -4,6 +4,7 @@ use Rattle.std.specs.Prelude.{AllPairs, nat_lt, if◌then◌else◌}
 use Rattle.std.specs.List.{AllByRecursion}
 use Rattle.std.proofs.lemmas.Bool.{cases_lt}
 use Rattle.std.proofs.lemmas.List.Elements.{All-cons, All-contains, All-from_recursion, All-weaker, Contains-get_or}
+use Rattle.encoding.specs.declared.bound_key.BoundKey.{BoundKey}
 use Rattle.client.proofs.Unlikes.{at-place, is-among}
 use Rattle.rootchain.proofs.Chains.{ascend-linked}
 use Rattle.rootchain.proofs.Places.{ends}
@@ -88,12 +89,12 @@ since-is mark since epoch is above below = elim (earlier-of mark.epoch since) [
 
 -- ---- what an owner expects
 
-module _ (Given : List ℕ → Option (List ℕ) → Type 0) (Own : SignedPromise → Type 0) (start : Memory) (name : List ℕ) (first : SignedRoot) (watch : Watch) (owners : IsOwners Given Own start name first watch) (epoch : ℕ) where
+module _ (Given : List ℕ → Option BoundKey → Type 0) (Own : SignedPromise → Type 0) (start : Memory) (name : List ℕ) (first : SignedRoot) (watch : Watch) (owners : IsOwners Given Own start name first watch) (epoch : ℕ) where
   -- a change that was promised before an epoch: what counts before that is no later
-  counts-changed : (change : ℕ × List ℕ) → Contains watch.changes change → ((other : ℕ × List ℕ) → Contains watch.changes other → other.0 < epoch → other.0 ≤ change.0)
+  counts-changed : (change : ℕ × BoundKey) → Contains watch.changes change → ((other : ℕ × BoundKey) → Contains watch.changes other → other.0 < epoch → other.0 ≤ change.0)
       → (other : SignedPromise) → Counts start other → other.promise.name ≡ name → other.promise.epoch < epoch → other.promise.epoch ≤ change.0
   counts-changed change has greatest other (was, awaited) named low = elim (cases_lt other.promise.epoch first.body.epoch) [
-    | inl early ↦ let later = all-in (λ (c : ℕ × List ℕ). first.body.epoch ≤ c.0) watch.changes change owners.later has in omega (arith, early, later)
+    | inl early ↦ let later = all-in (λ (c : ℕ × BoundKey). first.body.epoch ≤ c.0) watch.changes change owners.later has in omega (arith, early, later)
     | inr late ↦
         let (one, there, at) = owners.covers other (was, awaited) named late in
         omega (arith, at, greatest one there (omega (arith, at, low)))
@@ -105,7 +106,7 @@ module _ (Given : List ℕ → Option (List ℕ) → Type 0) (Own : SignedPromis
     | inl early ↦ early
     | inr late ↦
         let (one, there, at) = owners.covers other (was, awaited) named late in
-        absurd (omega (arith, low, at, All-contains (λ (c : ℕ × List ℕ). epoch ≤ c.0) watch.changes one none there))
+        absurd (omega (arith, low, at, All-contains (λ (c : ℕ × BoundKey). epoch ≤ c.0) watch.changes one none there))
   ]
 
   -- so the watch expects what the owner does, from the first root on
@@ -136,7 +137,7 @@ module _ (Given : List ℕ → Option (List ℕ) → Type 0) (Own : SignedPromis
     ]
   ]
 
-module _ (hash : List ℕ → List ℕ) (accepted verified : List ℕ → List ℕ → List ℕ → Type 0) (Given : List ℕ → Option (List ℕ) → Type 0) (Own : SignedPromise → Type 0) (start : Memory) where
+module _ (hash : List ℕ → List ℕ) (accepted verified : List ℕ → List ℕ → List ℕ → Type 0) (Given : List ℕ → Option BoundKey → Type 0) (Own : SignedPromise → Type 0) (start : Memory) where
   told-same : (text name : List ℕ) (watch : Watch) (one other : SignedRoot) → one.body ≡ other.body → IsToldAt hash accepted text name watch one → IsToldAt hash accepted text name watch other
   told-same text name watch one other same (bytes, reply, step, is, tells, has) =
       let P = λ (body : Body). IsAcceptedReply hash accepted body name bytes reply × StepTells watch body.epoch (stated reply.end) step × HasLines text (step_told name body.epoch step).lines in

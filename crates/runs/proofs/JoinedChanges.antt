@@ -4,6 +4,7 @@ use Rattle.std.specs.List.{AllByRecursion}
 use Rattle.std.specs.List.Sorted.{IsNonDecreasingBy}
 use Rattle.std.proofs.lemmas.Bool.{cases_lt}
 use Rattle.std.proofs.lemmas.List.Elements.{All-cons, All-contains, All-nil, Contains-append_cases, Contains-append_left, Contains-get_or, Contains-push}
+use Rattle.encoding.specs.declared.bound_key.BoundKey.{BoundKey}
 use Rattle.rootchain.specs.Chains.{KeyedRoots}
 use Rattle.rootchain.specs.Promises.{signed_promise_bytes, IsSignedPromise, PromiseVerifies, SpellsPromise}
 use Rattle.rootchain.specs.declared.signed_promise.SignedPromise.{SignedPromise}
@@ -66,7 +67,7 @@ pub record HasMore (before after : Monitor) : Type 0 where
   pub name : after.name ≡ before.name
   pub start : after.watch.start ≡ before.watch.start
   pub watched : after.watched ≡ before.watched
-  pub changes : (more : List (ℕ × List ℕ)) × (after.watch.changes ≡ before.watch.changes ++ more)
+  pub changes : (more : List (ℕ × BoundKey)) × (after.watch.changes ≡ before.watch.changes ++ more)
 
 none-more : (monitor : Monitor) → HasMore monitor monitor
 none-more monitor = record { chain = refl; name = refl; start = refl; watched = refl; changes = ([], sym (append-nil monitor.watch.changes)) }
@@ -79,17 +80,17 @@ both-more before middle after one other = record {
   watched = other.watched ∙ one.watched;
   changes = (
     one.changes.0 ++ other.changes.0,
-    other.changes.1 ∙ ap (λ (cs : List (ℕ × List ℕ)). cs ++ other.changes.0) one.changes.1 ∙ append_assoc before.watch.changes one.changes.0 other.changes.0,
+    other.changes.1 ∙ ap (λ (cs : List (ℕ × BoundKey)). cs ++ other.changes.0) one.changes.1 ∙ append_assoc before.watch.changes one.changes.0 other.changes.0,
   );
 }
 
 -- all changes are of earlier epochs, or one is not
-all-or-any : (changes : List (ℕ × List ℕ)) (epoch : ℕ) → All (λ change. change.0 < epoch) changes ⊎ ((change : ℕ × List ℕ) × Contains changes change × (epoch ≤ change.0))
-all-or-any [] epoch = inl (All-nil (λ (change : ℕ × List ℕ). change.0 < epoch))
+all-or-any : (changes : List (ℕ × BoundKey)) (epoch : ℕ) → All (λ change. change.0 < epoch) changes ⊎ ((change : ℕ × BoundKey) × Contains changes change × (epoch ≤ change.0))
+all-or-any [] epoch = inl (All-nil (λ (change : ℕ × BoundKey). change.0 < epoch))
 all-or-any (change ∷ changes) epoch = elim (cases_lt change.0 epoch) [
   | inr high ↦ inr (change, (0, omega arith, refl), high)
   | inl low ↦ elim (all-or-any changes epoch) [
-    | inl all ↦ inl (All-cons (λ (c : ℕ × List ℕ). c.0 < epoch) change changes low all)
+    | inl all ↦ inl (All-cons (λ (c : ℕ × BoundKey). c.0 < epoch) change changes low all)
     | inr (other, has, high) ↦ inr (other, (suc has.0, omega (arith, has.1), has.2), high)
   ]
 ]
@@ -147,7 +148,7 @@ module _ (hash : List ℕ → List ℕ) (accepted verified : List ℕ → List �
   -- what a monitor makes of a promise under its key over a root of its chain, where it watched no epoch above it and expects
   -- no later change: a change of its epoch is expected then
   module _ (key : List ℕ) (signed : SignedPromise) (promise : List ℕ) (spelled : SpellsPromise promise signed) (verifies : PromiseVerifies verified key signed) (before : Monitor) (same-name : before.name ≡ signed.promise.name)
-      (keyed : before.client.chain.key ≡ key) (unwatched : before.watched ≤ signed.promise.epoch) (up-to : AllByRecursion (λ (change : ℕ × List ℕ). change.0 ≤ signed.promise.epoch) before.watch.changes) (rooted : HasRootOf hash before.client.chain signed.promise) where
+      (keyed : before.client.chain.key ≡ key) (unwatched : before.watched ≤ signed.promise.epoch) (up-to : AllByRecursion (λ (change : ℕ × BoundKey). change.0 ≤ signed.promise.epoch) before.watch.changes) (rooted : HasRootOf hash before.client.chain signed.promise) where
     given-as : (given : SignedPromise) → SpellsPromise promise given → signed ≡ given
     given-as given spells = one-promise promise signed given spelled spells
 
@@ -156,7 +157,7 @@ module _ (hash : List ℕ → List ℕ) (accepted verified : List ℕ → List �
     may-or-has not = elim (all-or-any before.watch.changes signed.promise.epoch) [
       | inl all ↦ absurd (not (record { named = sym same-name; keyed = refl; later = all; unwatched = unwatched }))
       | inr (change, has, high) ↦
-          let low = all-has (λ (c : ℕ × List ℕ). c.0 ≤ signed.promise.epoch) before.watch.changes change up-to has in
+          let low = all-has (λ (c : ℕ × BoundKey). c.0 ≤ signed.promise.epoch) before.watch.changes change up-to has in
           (change, has, omega (arith, high, low))
     ]
 
@@ -184,14 +185,14 @@ module _ (hash : List ℕ → List ℕ) (accepted verified : List ℕ → List �
   module _ (Was : SignedPromise → Type 0) (key name : List ℕ) where
     change-stays : (before after : Monitor) (epoch : ℕ) → HasMore before after → HasChange before.watch.changes epoch → HasChange after.watch.changes epoch
     change-stays before after epoch more (change, has, at) =
-        (change, subst (λ (cs : List (ℕ × List ℕ)). Contains cs change) (sym more.changes.1) (Contains-append_left before.watch.changes more.changes.0 change has), at)
+        (change, subst (λ (cs : List (ℕ × BoundKey)). Contains cs change) (sym more.changes.1) (Contains-append_left before.watch.changes more.changes.0 change has), at)
 
     abbrev IsSigned : SignedPromise → Type 0
     IsSigned = IsSignedOf verified Was key
 
     -- no change is later than this
-    abbrev UpTo : ℕ → List (ℕ × List ℕ) → Type 0
-    UpTo epoch = AllByRecursion (λ (change : ℕ × List ℕ). change.0 ≤ epoch)
+    abbrev UpTo : ℕ → List (ℕ × BoundKey) → Type 0
+    UpTo epoch = AllByRecursion (λ (change : ℕ × BoundKey). change.0 ≤ epoch)
 
     -- a monitor that has watched nothing, and expects no change that is later than any of these promises
     pub record IsNew (promises : List SignedPromise) (monitor : Monitor) : Type 0 where
@@ -215,7 +216,7 @@ module _ (hash : List ℕ → List ℕ) (accepted verified : List ℕ → List �
             named = new.named;
             keyed = new.keyed;
             none = new.none;
-            low = λ other has. all-push (λ (change : ℕ × List ℕ). change.0 ≤ other.promise.epoch) before.watch.changes (given.promise.epoch, given.promise.key) (low-behind other has)
+            low = λ other has. all-push (λ (change : ℕ × BoundKey). change.0 ≤ other.promise.epoch) before.watch.changes (given.promise.epoch, given.promise.key) (low-behind other has)
                 (subst (λ (s : SignedPromise). s.promise.epoch ≤ other.promise.epoch) one (first-least signed promises up other has));
           })
       new-handed None after (inr (other, same)) = subst (IsNew promises) (sym same) (record { named = new.named; keyed = new.keyed; none = new.none; low = low-behind })
@@ -249,4 +250,4 @@ module _ (hash : List ℕ → List ℕ) (accepted verified : List ℕ → List �
         let (middle, first, second) = all-parted earlier noted before after hands in
         change-stays middle after other.promise.epoch (all-more noted middle after second)
         (each-handed earlier before middle first all up
-        (record { named = named; keyed = keyed; none = none; low = λ one there. subst (AllByRecursion (λ (change : ℕ × List ℕ). change.0 ≤ one.promise.epoch)) (sym empty) tt }) other has same rooted)
+        (record { named = named; keyed = keyed; none = none; low = λ one there. subst (AllByRecursion (λ (change : ℕ × BoundKey). change.0 ≤ one.promise.epoch)) (sym empty) tt }) other has same rooted)

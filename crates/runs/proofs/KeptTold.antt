@@ -2,6 +2,7 @@
 use Rattle.std.proofs.Common.{◌≡◌, ◌∙◌, ◌⊎◌, ℕ, ◌<◌, ◌≤◌, List, [], ◌++◌, Contains, Option, ap, append-nil, append_assoc, arith, inl, inr, refl, subst, sym}
 use Rattle.std.specs.List.{AllByRecursion}
 use Rattle.std.proofs.lemmas.List.Elements.{All-contains, All-from_recursion, Contains-append_cases}
+use Rattle.encoding.specs.declared.bound_key.BoundKey.{BoundKey}
 use Rattle.rootchain.specs.declared.signed_promise.SignedPromise.{SignedPromise}
 use Rattle.rootchain.specs.declared.signed_root.SignedRoot.{SignedRoot}
 use Rattle.memory.specs.Memories.{Memory}
@@ -17,7 +18,7 @@ none-new : (mark : Mark) (bound epoch : ℕ) → (mark.epoch ≤ mark.since) ⊎
 none-new mark bound epoch (inl none) new above below = omega (arith, none, above, below)
 none-new mark bound epoch (inr low) new above below = omega (arith, low, new, below)
 
-module _ (hash : List ℕ → List ℕ) (accepted : List ℕ → List ℕ → List ℕ → Type 0) (Given : List ℕ → Option (List ℕ) → Type 0) (Own Asked : SignedPromise → Type 0) (Drops : List ℕ → Type 0) where
+module _ (hash : List ℕ → List ℕ) (accepted : List ℕ → List ℕ → List ℕ → Type 0) (Given : List ℕ → Option BoundKey → Type 0) (Own Asked : SignedPromise → Type 0) (Drops : List ℕ → Type 0) where
   abbrev Keeps : Found → List ℕ → Found → Type 0
   Keeps = KeepsTold hash accepted Given Own Asked Drops
 
@@ -130,7 +131,7 @@ module _ (hash : List ℕ → List ℕ) (accepted : List ℕ → List ℕ → Li
     }
 
 -- what keeps the alarms of all names keeps all told whatever name is settled
-pub settling-kept : (hash : List ℕ → List ℕ) (accepted : List ℕ → List ℕ → List ℕ → Type 0) (Given : List ℕ → Option (List ℕ) → Type 0) (Own Asked : SignedPromise → Type 0) (Drops Drops' : List ℕ → Type 0) (start : Found) (text : List ℕ) (stored : Found)
+pub settling-kept : (hash : List ℕ → List ℕ) (accepted : List ℕ → List ℕ → List ℕ → Type 0) (Given : List ℕ → Option BoundKey → Type 0) (Own Asked : SignedPromise → Type 0) (Drops Drops' : List ℕ → Type 0) (start : Found) (text : List ℕ) (stored : Found)
     → ((name : List ℕ) → Drops name → Drops' name) → KeepsTold hash accepted Given Own Asked Drops start text stored → KeepsTold hash accepted Given Own Asked Drops' start text stored
 settling-kept hash accepted Given Own Asked Drops Drops' start text stored more keeps = record {
   grows = keeps.grows;

@@ -98,7 +98,7 @@ pub no_subject : (order : AskOrder) (about : Subject) → order.command ≡ None
 no_subject order about none is = some-not about (subject_in (ask_values order).words) (nothing order none) is
   where
     nothing : (order : AskOrder) → order.command ≡ None → subject_in (ask_values order).words ≡ None
-    nothing order none = subst (λ (command : Option (Bor (List ℕ))). subject_in (option_map (λ text. text.now) command ∷ option_map (λ text. text.now) order.first ∷ option_map (λ text. text.now) order.second ∷ []) ≡ None) (sym none) refl
+    nothing order none = subst (λ (command : Option (Bor (List ℕ))). subject_in (option_map (λ text. text.now) command ∷ option_map (λ text. text.now) order.first ∷ option_map (λ text. text.now) order.second ∷ option_map (λ text. text.now) order.third ∷ []) ≡ None) (sym none) refl
 
 -- the limit of an order stays its limit
 pub same_limit : (options : AskOptions) (before after : Limit) → IsSameLimit before after → IsLimitOf options before → IsLimitOf options after
@@ -361,8 +361,8 @@ words_subject order some = by order.command refl
   where
     by : (command : Option (Bor (List ℕ))) → order.command ≡ command → subject_in (ask_values order).words ≡ subject_of (line_of (words_line (ask_values order).words))
     by None none = absurd (some none)
-    by (Some word) is = subst (λ (c : Option (Bor (List ℕ))). subject_in (option_map (λ text. text.now) c ∷ option_map (λ text. text.now) order.first ∷ option_map (λ text. text.now) order.second ∷ [])
-        ≡ subject_of (line_of (words_line (option_map (λ text. text.now) c ∷ option_map (λ text. text.now) order.first ∷ option_map (λ text. text.now) order.second ∷ [])))) (sym is) refl
+    by (Some word) is = subst (λ (c : Option (Bor (List ℕ))). subject_in (option_map (λ text. text.now) c ∷ option_map (λ text. text.now) order.first ∷ option_map (λ text. text.now) order.second ∷ option_map (λ text. text.now) order.third ∷ [])
+        ≡ subject_of (line_of (words_line (option_map (λ text. text.now) c ∷ option_map (λ text. text.now) order.first ∷ option_map (λ text. text.now) order.second ∷ option_map (λ text. text.now) order.third ∷ [])))) (sym is) refl
 
 pub memory_only : {A : Type 0} (result : Result A ProgramFault) → result ≡ Err OutOfMemory → IfErr result (λ fault. fault ≡ OutOfMemory)
 memory_only {A} result is = subst (λ (r : Result A ProgramFault). IfErr r (λ fault. fault ≡ OutOfMemory)) (sym is) refl

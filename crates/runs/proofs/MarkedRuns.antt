@@ -3,6 +3,7 @@ use Rattle.std.proofs.Common.{◌≡◌, ◌∙◌, ◌⊎◌, ℕ, List, [], �
 use Rattle.std.specs.Prelude.{IfOk, IfSome, OnErr, OnOk}
 use Rattle.std.specs.List.{AllByRecursion}
 use Rattle.std.proofs.lemmas.Bool.{cases_lt}
+use Rattle.encoding.specs.declared.bound_key.BoundKey.{BoundKey}
 use Rattle.rootchain.specs.declared.signed_promise.SignedPromise.{SignedPromise}
 use Rattle.rootchain.specs.declared.signed_root.SignedRoot.{SignedRoot}
 use Rattle.memory.specs.Memories.{Memory}
@@ -158,7 +159,7 @@ module _ {T : Type 0} (hash : List ℕ → List ℕ) (accepted verified : List �
 
 -- ---- over runs
 
-module _ (hash : List ℕ → List ℕ) (accepted : List ℕ → List ℕ → List ℕ → Type 0) {X : Type 0} (Given : X → List ℕ → Option (List ℕ) → Type 0) (Own : X → Memory → SignedPromise → Type 0) (Asked : X → SignedPromise → Type 0) (Drops : X → List ℕ → Type 0) where
+module _ (hash : List ℕ → List ℕ) (accepted : List ℕ → List ℕ → List ℕ → Type 0) {X : Type 0} (Given : X → List ℕ → Option BoundKey → Type 0) (Own : X → Memory → SignedPromise → Type 0) (Asked : X → SignedPromise → Type 0) (Drops : X → List ℕ → Type 0) where
   -- from the first root of a monitor on, each was told, or is still to be watched
   pub watched-over-runs : (first : Stored) (later earlier : List (StateRun X)) (run : StateRun X) (monitors : List Monitor) → AllRun hash accepted Given Own Asked Drops first (later ++ run ∷ earlier) → StoresMarks (stored_after run.left) monitors
       → (known : Memory) → Spells (left_by first (later ++ run ∷ earlier)).text (Ok known) → (monitor : Monitor) → Contains monitors monitor → (root : SignedRoot) → Contains (left_by first (later ++ run ∷ earlier)).roots root → IsFrom monitor root

@@ -4,7 +4,7 @@ use Rattle.std.proofs.Common.{◌≡◌, ◌∙◌, ◌⊎◌, ◌-◌, ◌<◌,
 use Rattle.std.proofs.lemmas.List.{get_or_push, length_push}
 use Rattle.std.proofs.lemmas.Option.{get_or_from_slice_get}
 use Rattle.std.specs.Prelude.{slice_get, ⊤}
-use Rattle.commands.specs.Operations.{Lookup}
+use Rattle.commands.specs.Operations.{asked_key, AskedKey, Lookup}
 use Rattle.commands.specs.declared.edit.Verb.{Verb}
 use Rattle.rootchain.specs.Promises.{SpellsPromise}
 use Rattle.rootchain.specs.declared.signed_promise.SignedPromise.{SignedPromise}
@@ -45,7 +45,7 @@ last-is xs x last at =
 -- that is said
 abbrev pub NotesOwn : (List ℕ → List ℕ → List ℕ → Type 0) → List ℕ → (SignedPromise → Type 0) → ScriptLine → List SignedPromise → List SignedPromise → Type 0
 NotesOwn verified key Is said noted noted' = (noted' ≡ noted)
-    ⊎ ((signed : SignedPromise) × IsSignedBy verified key signed × Is signed × ((verb : Verb) × (said ≡ Ask (Put verb signed.promise.name signed.promise.key))) × (noted' ≡ noted ++ signed ∷ []))
+    ⊎ ((signed : SignedPromise) × IsSignedBy verified key signed × Is signed × ((verb : Verb) × (said ≡ Ask (Put verb signed.promise.name (asked_key signed.promise.key)))) × (noted' ≡ noted ++ signed ∷ []))
 
 -- the promise is over a root that is not below the head when it was asked for, nor below the epoch of which the frame speaks
 abbrev pub IsLate : ℕ → RequestContent → Frame → SignedPromise → Type 0
@@ -53,21 +53,21 @@ IsLate held asked frame signed = (held ≤ signed.promise.epoch) × ((epoch : �
 
 module _ (hash : List ℕ → List ℕ) (accepted verified : List ℕ → List ℕ → List ℕ → Type 0) where
   -- a change of a name to a key is asked for
-  module _ (held : ℕ) (before after : Client) (told : Report) (verb : Verb) (name key : List ℕ) where
+  module _ (held : ℕ) (before after : Client) (told : Report) (verb : Verb) (name : List ℕ) (key : AskedKey) where
     -- the client has the promises that it had, or one more, which is signed for this, over a root of its chain, and is late
     abbrev HasPromised : Frame → Type 0
     HasPromised frame = (after.promises ≡ before.promises)
-        ⊎ ((signed : SignedPromise) × IsSignedBy verified before.chain.key signed × (signed.promise.name ≡ name) × (signed.promise.key ≡ key) × SpellsPromise frame.body signed
+        ⊎ ((signed : SignedPromise) × IsSignedBy verified before.chain.key signed × (signed.promise.name ≡ name) × (asked_key signed.promise.key ≡ key) × SpellsPromise frame.body signed
         × (IsLate held (Put verb name key) frame signed × HasRootOf hash before.chain signed.promise) × (after.promises ≡ before.promises ++ signed ∷ []))
 
     stays : (frame : Frame) → after ≡ before → HasPromised frame
     stays frame same = inl (ap (λ (c : Client). c.promises) same)
 
-    keeps-promised : (frame : Frame) (given : SignedPromise) → SpellsPromise frame.body given → (given.promise.name ≡ name) × (given.promise.key ≡ key) → IsLate held (Put verb name key) frame given → (answer : Result (Unit {0}) Refusal)
+    keeps-promised : (frame : Frame) (given : SignedPromise) → SpellsPromise frame.body given → (given.promise.name ≡ name) × (asked_key given.promise.key ≡ key) → IsLate held (Put verb name key) frame given → (answer : Result (Unit {0}) Refusal)
         → KeepsPromise hash verified before frame.body answer after → HasPromised frame
     keeps-promised frame given spelled (named, keyed) late (Ok done) (signed, ((spells, verifies), rooted), same) =
         let one : signed ≡ given = one-promise frame.body signed given spells spelled in
-        inr (signed, (spells.1, verifies), ap (λ (s : SignedPromise). s.promise.name) one ∙ named, ap (λ (s : SignedPromise). s.promise.key) one ∙ keyed, spells, (subst (IsLate held (Put verb name key) frame) (sym one) late, rooted), ap (λ (c : Client). c.promises) same)
+        inr (signed, (spells.1, verifies), ap (λ (s : SignedPromise). s.promise.name) one ∙ named, ap (λ (s : SignedPromise). asked_key s.promise.key) one ∙ keyed, spells, (subst (IsLate held (Put verb name key) frame) (sym one) late, rooted), ap (λ (c : Client). c.promises) same)
     keeps-promised frame given spelled answers late (Err why) keeps = stays frame (keeps_same hash verified before after frame.body why keeps)
 
     -- a frame that is a promise speaks of no later epoch
@@ -110,11 +110,11 @@ module _ (hash : List ℕ → List ℕ) (accepted verified : List ℕ → List �
     | inl same ↦ absurd (omega (arith, ap (λ (ps : List SignedPromise). length ps) same, more))
     | inr (signed, own, named, keyed, spelled, (late, rooted), grown) ↦
         let one : signed ≡ last = last-is before.promises signed last (subst (λ (ps : List SignedPromise). slice_get ps (length ps - 1) ≡ Some last) grown at) in
-        inr (signed, own, late, (verb, ap₂ (λ (n k : List ℕ). Ask (Put verb n k)) (sym named) (sym keyed)), is ∙ ap (λ (s : SignedPromise). noted ++ s ∷ []) (sym one))
+        inr (signed, own, late, (verb, ap₂ (λ (n : List ℕ) (k : AskedKey). Ask (Put verb n k)) (sym named) (sym keyed)), is ∙ ap (λ (s : SignedPromise). noted ++ s ∷ []) (sym one))
   ]
 
   -- a promise that the client has now as its last is spelled by the frame
-  pub last-spelled : (held : ℕ) (verb : Verb) (name key : List ℕ) (frame : Frame) (told : Report) (before after : Client) (last : SignedPromise) → HearsFrame hash accepted verified held before (Put verb name key) frame told after
+  pub last-spelled : (held : ℕ) (verb : Verb) (name : List ℕ) (key : AskedKey) (frame : Frame) (told : Report) (before after : Client) (last : SignedPromise) → HearsFrame hash accepted verified held before (Put verb name key) frame told after
       → length before.promises < length after.promises → slice_get after.promises (length after.promises - 1) ≡ Some last → SpellsPromise frame.body last
   last-spelled held verb name key frame told before after last hears more at = elim (frame-promised held before after told verb name key frame hears) [
     | inl same ↦ absurd (omega (arith, ap (λ (ps : List SignedPromise). length ps) same, more))
@@ -123,7 +123,7 @@ module _ (hash : List ℕ → List ℕ) (accepted verified : List ℕ → List �
   ]
 
   -- and is over a root of the chain, and late
-  pub last-rooted : (held : ℕ) (verb : Verb) (name key : List ℕ) (frame : Frame) (told : Report) (before after : Client) (last : SignedPromise) → HearsFrame hash accepted verified held before (Put verb name key) frame told after
+  pub last-rooted : (held : ℕ) (verb : Verb) (name : List ℕ) (key : AskedKey) (frame : Frame) (told : Report) (before after : Client) (last : SignedPromise) → HearsFrame hash accepted verified held before (Put verb name key) frame told after
       → length before.promises < length after.promises → slice_get after.promises (length after.promises - 1) ≡ Some last → IsLate held (Put verb name key) frame last × HasRootOf hash before.chain last.promise
   last-rooted held verb name key frame told before after last hears more at = elim (frame-promised held before after told verb name key frame hears) [
     | inl same ↦ absurd (omega (arith, ap (λ (ps : List SignedPromise). length ps) same, more))

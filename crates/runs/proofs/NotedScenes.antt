@@ -2,6 +2,8 @@
 use Rattle.std.proofs.Common.{◌≡◌, ◌∙◌, ◌⊎◌, ◌-◌, ◌<◌, ◌≤◌, ℕ, true, false, List, [], ◌∷◌, ◌++◌, length, Contains, Option, Some, arith, ap, inl, inr, subst, sym}
 use Rattle.std.specs.Prelude.{slice_get}
 use Rattle.std.proofs.lemmas.List.Elements.{Contains-push}
+use Rattle.encoding.specs.declared.bound_key.BoundKey.{BoundKey}
+use Rattle.commands.specs.Operations.{AskedKey}
 use Rattle.commands.specs.declared.edit.Verb.{Verb}
 use Rattle.play.proofs.Lists.{all-in}
 use Rattle.std.specs.List.{AllByRecursion, AllZip}
@@ -49,7 +51,7 @@ module _ (hash : List ℕ → List ℕ) (accepted verified : List ℕ → List �
     pub chain : IsChain hash verified monitor.client.chain
     pub first : (first : SignedRoot) → IsFirst monitor.client.chain first → first.body.epoch ≤ held
     pub watched : monitor.watched ≤ held
-    pub changes : AllByRecursion (λ (change : ℕ × List ℕ). change.0 ≤ held) monitor.watch.changes
+    pub changes : AllByRecursion (λ (change : ℕ × BoundKey). change.0 ≤ held) monitor.watch.changes
 
   -- it takes a list
   below-taken : (list : List ℕ) (before after : Monitor) → MonitorUpdates hash verified list before after → IsBelow before → IsBelow after
@@ -59,7 +61,7 @@ module _ (hash : List ℕ → List ℕ) (accepted verified : List ℕ → List �
         chain = subst (IsChain hash verified) (sym at) (takes-chain hash verified roots before.client.chain taken below.chain takes);
         first = λ first is. below.first first (taken-first hash verified before.client.chain taken roots first below.chain takes (subst (λ (c : KeyedRoots). IsFirst c first) at is));
         watched = subst (λ (m : Monitor). m.watched ≤ held) (sym same) below.watched;
-        changes = subst (λ (m : Monitor). AllByRecursion (λ (change : ℕ × List ℕ). change.0 ≤ held) m.watch.changes) (sym same) below.changes;
+        changes = subst (λ (m : Monitor). AllByRecursion (λ (change : ℕ × BoundKey). change.0 ≤ held) m.watch.changes) (sym same) below.changes;
       }
 
   all-below : (list : List ℕ) (before after : List Monitor) → AllZip (MonitorUpdates hash verified list) before after → AllByRecursion IsBelow before → AllByRecursion IsBelow after
@@ -105,7 +107,7 @@ module _ (hash : List ℕ → List ℕ) (accepted verified : List ℕ → List �
         let watched = below.watched in (
           λ first at. let high = below.first first (subst (λ (c : KeyedRoots). IsFirst c first) more.chain at) in omega (arith, high, late),
           λ named. expects-handed hash accepted verified key signed promise spelled verifies before (sym more.name ∙ sym named) current.keyed (omega (arith, watched, late))
-              (all-map (λ (change : ℕ × List ℕ). change.0 ≤ held) (λ (change : ℕ × List ℕ). change.0 ≤ signed.promise.epoch) before.watch.changes (λ change high. omega (arith, high, late)) below.changes)
+              (all-map (λ (change : ℕ × BoundKey). change.0 ≤ held) (λ (change : ℕ × BoundKey). change.0 ≤ signed.promise.epoch) before.watch.changes (λ change high. omega (arith, high, late)) below.changes)
               (current-rooted key chain before both.first signed.promise current both.at-first (omega (arith, low, late)) rooted) why after hands,
         )
 
@@ -119,7 +121,7 @@ module _ (hash : List ℕ → List ℕ) (accepted verified : List ℕ → List �
 
 -- ---- it counts
 
-module _ (hash : List ℕ → List ℕ) (accepted verified : List ℕ → List ℕ → List ℕ → Type 0) (Given : List ℕ → Option (List ℕ) → Type 0) (Own : SignedPromise → Type 0) (start : Memory) (marks : List Mark) (noted : List SignedPromise) (signed : SignedPromise) where
+module _ (hash : List ℕ → List ℕ) (accepted verified : List ℕ → List ℕ → List ℕ → Type 0) (Given : List ℕ → Option BoundKey → Type 0) (Own : SignedPromise → Type 0) (start : Memory) (marks : List Mark) (noted : List SignedPromise) (signed : SignedPromise) where
   abbrev Before : Memory
   Before = noting start noted
 
@@ -192,7 +194,7 @@ module _ (hash : List ℕ → List ℕ) (accepted verified : List ℕ → List �
 
 -- ---- a scene in which it comes
 
-module _ {T : Type 0} (hash : List ℕ → List ℕ) (accepted verified : List ℕ → List ℕ → List ℕ → Type 0) (exchanged : T → RequestContent → Frame → T → Type 0) (Given : List ℕ → Option (List ℕ) → Type 0) (Own : SignedPromise → Type 0) (start : Memory) (marks : List Mark)
+module _ {T : Type 0} (hash : List ℕ → List ℕ) (accepted verified : List ℕ → List ℕ → List ℕ → Type 0) (exchanged : T → RequestContent → Frame → T → Type 0) (Given : List ℕ → Option BoundKey → Type 0) (Own : SignedPromise → Type 0) (start : Memory) (marks : List Mark)
     (text : List ℕ) (stored : List SignedRoot) (known : List Mark) (key : List ℕ) (signs : (signed : SignedPromise) → Own signed → PromiseVerifies verified key signed) where
   -- no monitor and no mark is above an epoch
   module _ (low : ℕ) (marked : (mark : Mark) → Contains known mark → (mark.epoch ≤ mark.since) ⊎ (mark.epoch ≤ low)) where
@@ -202,7 +204,7 @@ module _ {T : Type 0} (hash : List ℕ → List ℕ) (accepted verified : List �
       | inr high ↦ inr (omega (arith, high, late))
     ]
 
-    hands-one : (verb : Verb) (name given promise : List ℕ) (chain : KeyedRoots) (kept kept' : List SignedPromise) (before : List Monitor) (told : Report) (after : List Monitor) (last : SignedPromise) → length kept < length kept' → slice_get kept' (length kept' - 1) ≡ Some last
+    hands-one : (verb : Verb) (name : List ℕ) (given : AskedKey) (promise : List ℕ) (chain : KeyedRoots) (kept kept' : List SignedPromise) (before : List Monitor) (told : Report) (after : List Monitor) (last : SignedPromise) → length kept < length kept' → slice_get kept' (length kept' - 1) ≡ Some last
         → Hands hash accepted verified (Put verb name given) promise kept kept' before told after → SpellsPromise promise last → PromiseVerifies verified key last → HasRootOf hash chain last.promise → low ≤ last.promise.epoch
         → AllByRecursion (IsBelow hash accepted verified low) before → AllByRecursion (IsCurrent key chain) before
         → AllByRecursion (λ (monitor : Monitor). ((first : SignedRoot) → IsFirst monitor.client.chain first → first.body.epoch ≤ last.promise.epoch) × (last.promise.name ≡ monitor.name → HasChange monitor.watch.changes last.promise.epoch)) after
@@ -242,7 +244,7 @@ module _ {T : Type 0} (hash : List ℕ → List ℕ) (accepted verified : List �
           | inl none ↦ omega (arith, none)
           | inr (root, (there, at)) ↦ let low = body-low root (all-has (HasBody before.client.chain) monitor.client.chain.roots root own.own there) in omega (arith, at, low)
         ];
-        changes = all-map (Low before.client.chain) (λ (change : ℕ × List ℕ). change.0 ≤ head.body.epoch) monitor.watch.changes
+        changes = all-map (Low before.client.chain) (λ (change : ℕ × BoundKey). change.0 ≤ head.body.epoch) monitor.watch.changes
             (λ change (root, there, made). let low = head-high hash verified before.client.chain root head owns.chain there is in omega (arith, made, low)) now.low;
       })
     where

@@ -2,6 +2,7 @@
 use Rattle.std.proofs.Common.{◌≡◌, ◌∙◌, ◌⊎◌, ℕ, ◌<◌, ◌||◌, Bool, true, false, List, [], ◌∷◌, ◌++◌, map, Contains, Option, ap, arith, inl, inr, refl, subst, sym}
 use Rattle.std.proofs.lemmas.Bool.{cases_lt}
 use Rattle.std.proofs.lemmas.List.Elements.{Contains-append_cases, Contains-append_left, Contains-append_right}
+use Rattle.encoding.specs.declared.bound_key.BoundKey.{BoundKey}
 use Rattle.rootchain.specs.declared.signed_promise.SignedPromise.{SignedPromise}
 use Rattle.rootchain.specs.declared.signed_root.SignedRoot.{SignedRoot}
 use Rattle.memory.specs.Memories.{Memory}
@@ -114,9 +115,9 @@ taken-own (one ∷ items) before after (middle, sound, takes, more) signed was =
 
 -- ---- what is expected
 
-module _ (Given : List ℕ → Option (List ℕ) → Type 0) (Own One Other : SignedPromise → Type 0) (name : List ℕ) where
+module _ (Given : List ℕ → Option BoundKey → Type 0) (Own One Other : SignedPromise → Type 0) (name : List ℕ) where
   -- it is so too where no other promise from before the epoch counts
-  pub expects-counted : (epoch : ℕ) (key : Option (List ℕ)) → ((signed : SignedPromise) → Other signed → signed.promise.name ≡ name → signed.promise.epoch < epoch → One signed)
+  pub expects-counted : (epoch : ℕ) (key : Option BoundKey) → ((signed : SignedPromise) → Other signed → signed.promise.name ≡ name → signed.promise.epoch < epoch → One signed)
       → ExpectsAt Given Own One name epoch key → ExpectsAt Given Own Other name epoch key
   expects-counted epoch key fewer (inl (signed, own, named, low, keyed, last)) = inl (signed, own, named, low, keyed, λ other counts same early. last other (fewer other counts same early) same early)
   expects-counted epoch key fewer (inr (given, none)) = inr (

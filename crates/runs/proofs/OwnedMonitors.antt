@@ -6,6 +6,7 @@ use Rattle.std.specs.List.{AllByRecursion}
 use Rattle.std.specs.List.Sorted.{IsNonDecreasingBy}
 use Rattle.std.proofs.lemmas.Bool.{cases_lt}
 use Rattle.std.proofs.lemmas.List.Elements.{All-contains, Contains-append_left}
+use Rattle.encoding.specs.declared.bound_key.BoundKey.{BoundKey}
 use Rattle.encoding.proofs.Fields.{one_spelling}
 use Rattle.rootchain.specs.Bodies.{body_bytes}
 use Rattle.rootchain.specs.Chains.{IsChain, KeyedRoots}
@@ -148,10 +149,10 @@ module _ (hash : List ℕ → List ℕ) (verified : List ℕ → List ℕ → Li
 -- ---- a monitor
 
 -- more changes are expected
-change-more : (changes more : List (ℕ × List ℕ)) (epoch : ℕ) → HasChange changes epoch → HasChange (changes ++ more) epoch
+change-more : (changes more : List (ℕ × BoundKey)) (epoch : ℕ) → HasChange changes epoch → HasChange (changes ++ more) epoch
 change-more changes more epoch (change, has, at) = (change, Contains-append_left changes more change has, at)
 
-module _ (hash : List ℕ → List ℕ) (accepted verified : List ℕ → List ℕ → List ℕ → Type 0) (Given : List ℕ → Option (List ℕ) → Type 0) (Own : SignedPromise → Type 0) (start : Memory) where
+module _ (hash : List ℕ → List ℕ) (accepted verified : List ℕ → List ℕ → List ℕ → Type 0) (Given : List ℕ → Option BoundKey → Type 0) (Own : SignedPromise → Type 0) (start : Memory) where
   abbrev pub Owned : List ℕ → KeyedRoots → List Mark → Monitor → Type 0
   Owned = IsOwn hash accepted verified Given Own start
 
@@ -196,7 +197,7 @@ module _ (hash : List ℕ → List ℕ) (accepted verified : List ℕ → List �
     own-changed same-marks signed bytes before after owns spelled named expects is =
         let (given, (gives, may), same) = expects in
         let one : signed ≡ given = one-promise bytes signed given spelled gives.0.0 in
-        let change : ℕ × List ℕ = (given.promise.epoch, given.promise.key) in
+        let change : ℕ × BoundKey = (given.promise.epoch, given.promise.key) in
         let late : (first : SignedRoot) → IsFirst before.client.chain first → first.body.epoch ≤ given.promise.epoch = λ first at. rooted-later before.client.chain given.promise first is.told.chain at gives.1 in
         let owned : (first : SignedRoot) → IsFirst before.client.chain first → IsOwnChange Given Own start before.name change = λ first at. (
           given,
@@ -208,7 +209,7 @@ module _ (hash : List ℕ → List ℕ) (accepted verified : List ℕ → List �
         let changed : (first : SignedRoot) → IsFirst before.client.chain first → IsOwners Given Own start before.name first (with_change before given).watch = λ first at. record {
           begins = (is.expects first at).begins;
           changes = all-push (IsOwnChange Given Own start before.name) before.watch.changes change (is.expects first at).changes (owned first at);
-          later = all-push (λ (c : ℕ × List ℕ). first.body.epoch ≤ c.0) before.watch.changes change (is.expects first at).later (late first at);
+          later = all-push (λ (c : ℕ × BoundKey). first.body.epoch ≤ c.0) before.watch.changes change (is.expects first at).later (late first at);
           covers = λ was own alike after-first. change-more before.watch.changes (change ∷ []) was.promise.epoch ((is.expects first at).covers was own alike after-first);
         } in
         own-same text before after (ap (λ (m : Monitor). m.client.chain) same) (ap (λ (m : Monitor). m.name) same)
@@ -272,11 +273,11 @@ module _ (hash : List ℕ → List ℕ) (accepted verified : List ℕ → List �
 -- ---- no change above all roots
 
 -- the change is of the epoch of a root of the chain
-abbrev pub Low : KeyedRoots → ℕ × List ℕ → Type 0
+abbrev pub Low : KeyedRoots → ℕ × BoundKey → Type 0
 Low chain change = (root : SignedRoot) × Contains chain.roots root × (change.0 ≡ root.body.epoch)
 
 module _ (hash : List ℕ → List ℕ) (accepted verified : List ℕ → List ℕ → List ℕ → Type 0) (chain : KeyedRoots) where
-  low-rooted : (own : KeyedRoots) (promise : Promise) (key : List ℕ) → AllByRecursion (HasBody chain) own.roots → HasRootOf hash own promise → Low chain (promise.epoch, key)
+  low-rooted : (own : KeyedRoots) (promise : Promise) (key : BoundKey) → AllByRecursion (HasBody chain) own.roots → HasRootOf hash own promise → Low chain (promise.epoch, key)
   unfolding HasRootOf
   low-rooted own promise key bodies (root, (has, at), hashed) =
       let (copy, there, same) = all-has (HasBody chain) own.roots root bodies has in
@@ -299,7 +300,7 @@ module _ (hash : List ℕ → List ℕ) (accepted verified : List ℕ → List �
 
 -- ---- a monitor that joins
 
-module _ (hash : List ℕ → List ℕ) (accepted verified : List ℕ → List ℕ → List ℕ → Type 0) (Given : List ℕ → Option (List ℕ) → Type 0) (Own : SignedPromise → Type 0) (start : Memory) where
+module _ (hash : List ℕ → List ℕ) (accepted verified : List ℕ → List ℕ → List ℕ → Type 0) (Given : List ℕ → Option BoundKey → Type 0) (Own : SignedPromise → Type 0) (start : Memory) where
   -- The promises that a monitor of a name is given: those that are remembered as the owner's own, by their epochs, among them
   -- all that count for the name, and others behind them.
   pub record AreGiven (key name : List ℕ) (promised : List SignedPromise) : Type 0 where
@@ -340,7 +341,7 @@ module _ (hash : List ℕ → List ℕ) (accepted verified : List ℕ → List �
   from-some : (epoch : ℕ) (last : SignedPromise) → IsFrom epoch (Some last) → epoch ≤ last.promise.epoch
   from-some epoch last (signed, same, low) = subst (λ (s : SignedPromise). epoch ≤ s.promise.epoch) (sym (some-same last signed same)) low
 
-  expects-first : (name : List ℕ) (epoch : ℕ) (last : Option SignedPromise) (given : Option (List ℕ)) → IsOwnLast name epoch last → Given name given
+  expects-first : (name : List ℕ) (epoch : ℕ) (last : Option SignedPromise) (given : Option BoundKey) → IsOwnLast name epoch last → Given name given
       → ((other : SignedPromise) → Counts start other → other.promise.name ≡ name → other.promise.epoch < epoch → IsFrom other.promise.epoch last)
       → ExpectsAt Given (IsOwnAhead Own start) (Counts start) name epoch (first_expected last given)
   expects-first name epoch None given is gives from = inr (
@@ -359,11 +360,11 @@ module _ (hash : List ℕ → List ℕ) (accepted verified : List ℕ → List �
   no-own : (signed : SignedPromise) → WasOwn bare signed → ⊥
   no-own signed (promised, has, this, own) = omega (arith, has.1)
 
-  module _ (text : List ℕ) (chain : KeyedRoots) (marks : List Mark) (key : List ℕ) (promised : List SignedPromise) (first : SignedRoot) (name : List ℕ) (given : Option (List ℕ)) (monitor : Monitor)
+  module _ (text : List ℕ) (chain : KeyedRoots) (marks : List Mark) (key : List ℕ) (promised : List SignedPromise) (first : SignedRoot) (name : List ℕ) (given : Option BoundKey) (monitor : Monitor)
       (chain-is : IsChain hash verified chain) (formed : AllByRecursion IsSignedRoot chain.roots) (once : HasNoRepeat (map name_of marks)) (gives : Given name given) (spelled : (signed : SignedPromise) → Own signed → IsSignedPromise signed)
       (are : AreGiven key name promised) (same-marks : start.marks ≡ marks) (rooted : (signed : SignedPromise) → WasOwn start signed → HasRootOf hash chain signed.promise) (unwatched : IsUnwatched chain name marks (Some first))
       (joined : IsJoined hash accepted verified marks key promised chain first name given monitor) where
-    abbrev begin : Option (List ℕ)
+    abbrev begin : Option BoundKey
     begin = first_expected joined.last given
 
     abbrev new : Monitor

@@ -3,6 +3,7 @@ use Rattle.std.proofs.Common.{◌≡◌, ◌∙◌, ◌-◌, ◌<◌, ℕ, true,
 use Rattle.std.specs.Prelude.{map, slice_get, ⊤}
 use Rattle.std.specs.List.{AllByRecursion, AllZip}
 use Rattle.std.proofs.lemmas.List.Elements.{Contains-push}
+use Rattle.encoding.specs.declared.bound_key.BoundKey.{BoundKey}
 use Rattle.commands.specs.Operations.{Lookup}
 use Rattle.rootchain.specs.Chains.{IsChain, KeyedRoots}
 use Rattle.rootchain.specs.Promises.{IsSignedPromise, SpellsPromise}
@@ -45,7 +46,7 @@ rooted-grown : (hash : List ℕ → List ℕ) (before after : KeyedRoots) (promi
 unfolding HasRootOf
 rooted-grown hash before after promise grows (root, (has, at), hashed) = (root, (grows.stays root has, at), hashed)
 
-module _ (hash : List ℕ → List ℕ) (accepted verified : List ℕ → List ℕ → List ℕ → Type 0) (Given : List ℕ → Option (List ℕ) → Type 0) (Own : SignedPromise → Type 0) (start : Memory) (marks : List Mark) where
+module _ (hash : List ℕ → List ℕ) (accepted verified : List ℕ → List ℕ → List ℕ → Type 0) (Given : List ℕ → Option BoundKey → Type 0) (Own : SignedPromise → Type 0) (start : Memory) (marks : List Mark) where
   abbrev Owner : List ℕ → KeyedRoots → Monitor → Type 0
   Owner text chain monitor = Owned hash accepted verified Given Own start text chain marks monitor
 

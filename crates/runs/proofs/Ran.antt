@@ -169,7 +169,7 @@ whole hash accepted verified exchanged key token options HasNoState (Ok done) ba
 pub asks_input : {E : Type 0} (Asked : List (List ℕ) → Type 0) (result : Result (Unit {0}) E) (input : Option (List ℕ)) (order : AskOrder) → order.command ≡ None
     → OnOk result (IfSome input (λ all. Asked (lines_of all))) → OnOk result (IfSome (lines_asked (ask_values order).words input) Asked)
 asks_input Asked (Err why) input order none asks = tt
-asks_input Asked (Ok done) input order none asks = subst (λ (command : Option (Bor (List ℕ))). IfSome (lines_asked (option_map (λ text. text.now) command ∷ option_map (λ text. text.now) order.first ∷ option_map (λ text. text.now) order.second ∷ []) input) Asked) (sym none) (by input asks)
+asks_input Asked (Ok done) input order none asks = subst (λ (command : Option (Bor (List ℕ))). IfSome (lines_asked (option_map (λ text. text.now) command ∷ option_map (λ text. text.now) order.first ∷ option_map (λ text. text.now) order.second ∷ option_map (λ text. text.now) order.third ∷ []) input) Asked) (sym none) (by input asks)
   where
     by : (input : Option (List ℕ)) → IfSome input (λ all. Asked (lines_of all)) → IfSome (option_map lines_of input) Asked
     by None asks = tt
@@ -179,8 +179,8 @@ pub asks_words : {E : Type 0} (Asked : List (List ℕ) → Type 0) (result : Res
     → OnOk result (Asked (words_line (ask_values order).words ∷ [])) → OnOk result (IfSome (lines_asked (ask_values order).words input) Asked)
 asks_words Asked (Err why) input order word some asks = tt
 asks_words Asked (Ok done) input order word some asks =
-    subst (λ (command : Option (Bor (List ℕ))). Asked (words_line (option_map (λ text. text.now) command ∷ option_map (λ text. text.now) order.first ∷ option_map (λ text. text.now) order.second ∷ []) ∷ [])
-    → IfSome (lines_asked (option_map (λ text. text.now) command ∷ option_map (λ text. text.now) order.first ∷ option_map (λ text. text.now) order.second ∷ []) input) Asked) (sym some) (λ it. it) asks
+    subst (λ (command : Option (Bor (List ℕ))). Asked (words_line (option_map (λ text. text.now) command ∷ option_map (λ text. text.now) order.first ∷ option_map (λ text. text.now) order.second ∷ option_map (λ text. text.now) order.third ∷ []) ∷ [])
+    → IfSome (lines_asked (option_map (λ text. text.now) command ∷ option_map (λ text. text.now) order.first ∷ option_map (λ text. text.now) order.second ∷ option_map (λ text. text.now) order.third ∷ []) input) Asked) (sym some) (λ it. it) asks
 
 pub none_before : {A B : Type 0} (f : A → B) (x : Option A) → option_map f x ≡ None → x ≡ None
 none_before f None is = refl
@@ -189,12 +189,12 @@ none_before f (Some a) is = absurd cc
 -- what is asked, where the order has words and where it has none
 pub words_asked : (input : Option (List ℕ)) (order : AskOrder) (word : Bor (List ℕ)) → order.command ≡ Some word → lines_asked (ask_values order).words input ≡ Some (words_line (ask_values order).words ∷ [])
 words_asked input order word some =
-    subst (λ (command : Option (Bor (List ℕ))). lines_asked (option_map (λ text. text.now) command ∷ option_map (λ text. text.now) order.first ∷ option_map (λ text. text.now) order.second ∷ []) input
-    ≡ Some (words_line (option_map (λ text. text.now) command ∷ option_map (λ text. text.now) order.first ∷ option_map (λ text. text.now) order.second ∷ []) ∷ [])) (sym some) refl
+    subst (λ (command : Option (Bor (List ℕ))). lines_asked (option_map (λ text. text.now) command ∷ option_map (λ text. text.now) order.first ∷ option_map (λ text. text.now) order.second ∷ option_map (λ text. text.now) order.third ∷ []) input
+    ≡ Some (words_line (option_map (λ text. text.now) command ∷ option_map (λ text. text.now) order.first ∷ option_map (λ text. text.now) order.second ∷ option_map (λ text. text.now) order.third ∷ []) ∷ [])) (sym some) refl
 
 pub input_asked : (input : Option (List ℕ)) (order : AskOrder) → order.command ≡ None → lines_asked (ask_values order).words input ≡ option_map lines_of input
 input_asked input order none =
-    subst (λ (command : Option (Bor (List ℕ))). lines_asked (option_map (λ text. text.now) command ∷ option_map (λ text. text.now) order.first ∷ option_map (λ text. text.now) order.second ∷ []) input ≡ option_map lines_of input) (sym none) refl
+    subst (λ (command : Option (Bor (List ℕ))). lines_asked (option_map (λ text. text.now) command ∷ option_map (λ text. text.now) order.first ∷ option_map (λ text. text.now) order.second ∷ option_map (λ text. text.now) order.third ∷ []) input ≡ option_map lines_of input) (sym none) refl
 
 pub words_among : (lines : Option (List (List ℕ))) (line line' : List ℕ) → lines ≡ Some (line ∷ []) → line' ≡ line → AsksAmong lines line'
 words_among lines line line' is same = subst (λ (l : List ℕ). AsksAmong lines l) (sym same) (subst (λ (ls : Option (List (List ℕ))). AsksAmong ls line) (sym is) (λ said seen. (line, (0, omega arith, refl), seen)))

@@ -1,6 +1,7 @@
 -- No step lowers the status that was told.
 use Rattle.std.proofs.Common.{◌≡◌, ◌≢◌, ◌≤◌, Bool, ℕ, List, Option, Result, Ok, Err, arith, refl, rules, subst, sym}
 use Rattle.std.specs.Prelude.{IfErr, IfOk, OnOk, ⊤}
+use Rattle.encoding.specs.declared.bound_key.BoundKey.{BoundKey}
 use Rattle.rootchain.specs.declared.signed_promise.SignedPromise.{SignedPromise}
 use Rattle.memory.specs.Memories.{Memory}
 use Rattle.wire.specs.Frames.{Frame}
@@ -107,7 +108,7 @@ module _ (hash : List ℕ → List ℕ) (accepted verified : List ℕ → List �
   looked_rises background held frame before said (reached, looks, same) =
       subst (λ (r : Report). before.told.status ≤ r.status) (sym same) (looks_some-keeps hash accepted verified exchanged background (each-rises background.marks) held frame before reached looks)
 
-  pub watch_rises : {H V S A : Type 0} (known : Memory) (marks : List Mark) (key : List ℕ) (promised : List SignedPromise) (name : List ℕ) (given : Option (List ℕ)) (result : Result A AskFault) (before after : Scene T) (asker : Asker H V S) (said : Said)
+  pub watch_rises : {H V S A : Type 0} (known : Memory) (marks : List Mark) (key : List ℕ) (promised : List SignedPromise) (name : List ℕ) (given : Option BoundKey) (result : Result A AskFault) (before after : Scene T) (asker : Asker H V S) (said : Said)
       → report_of said ≡ after.told → OnOk result (BeginsWatch hash accepted verified exchanged known marks key promised name given before after)
       → IfErr result (λ fault. HaltsAfter (BeginsSome hash accepted verified exchanged known marks key promised name given before) fault asker said) → Rises before after
   watch_rises known marks key promised name given (Ok done) before after asker said same begins halts = begins_watch-keeps hash accepted verified exchanged marks (each-rises marks) key promised name given tt known before after begins

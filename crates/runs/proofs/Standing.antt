@@ -1,6 +1,7 @@
 -- Where the asker stands behind a question, if memory did not run out.
 use Rattle.std.proofs.Common.{◌≡◌, ◌≢◌, ◌⊎◌, Bool, true, false, ℕ, List, Option, Result, Ok, Err, inl, inr, refl, rules, subst}
 use Rattle.std.specs.Prelude.{IfErr, IfOk, OnOk}
+use Rattle.encoding.specs.declared.bound_key.BoundKey.{BoundKey}
 use Rattle.rootchain.specs.declared.signed_promise.SignedPromise.{SignedPromise}
 use Rattle.wire.specs.Frames.{Frame}
 use Rattle.wire.specs.Requests.{RequestContent}
@@ -98,14 +99,14 @@ module _ (hash : List ℕ → List ℕ) (accepted verified : List ℕ → List �
   heard_stands held asked frame noted noted' (Err fault.OutOfMemory) before asker said stream hears err halts enough = absurd (enough refl)
 
   -- a name is watched, or some of its epochs
-  pub watched_stands : {H V S A : Type 0} (name : List ℕ) (given given' : Option (List ℕ)) (noted noted' : List SignedPromise) (result : Result A AskFault) (before : Scene T) (asker : Asker H V S) (said : Said) (stream : T) → given ≡ given' → noted' ≡ noted
+  pub watched_stands : {H V S A : Type 0} (name : List ℕ) (given given' : Option BoundKey) (noted noted' : List SignedPromise) (result : Result A AskFault) (before : Scene T) (asker : Asker H V S) (said : Said) (stream : T) → given ≡ given' → noted' ≡ noted
       → OnOk result (BeginsWatch hash accepted verified exchanged background.known background.marks background.key (own_for background.marks name background.earlier noted) name given before (scene asker said stream))
       → IfErr result (λ why. why ≢ fault.Stopped)
       → IfErr result (λ why. HaltsAfter (BeginsSome hash accepted verified exchanged background.known background.marks background.key (own_for background.marks name background.earlier noted) name given before) why asker said)
       → result ≢ Err fault.OutOfMemory → StandsIn (DoesSomeNoting hash accepted verified exchanged background fault.NoReply (Watch name given') noted noted' before) asker said
   watched_stands name given given' noted noted' (Ok done) before asker said stream is same begins err halts enough = (
     scene asker said stream,
-    inr (inl (subst (λ (g : Option (List ℕ)). BeginsWatch hash accepted verified exchanged background.known background.marks background.key (own_for background.marks name background.earlier noted) name g before (scene asker said stream)) is begins, same)),
+    inr (inl (subst (λ (g : Option BoundKey). BeginsWatch hash accepted verified exchanged background.known background.marks background.key (own_for background.marks name background.earlier noted) name g before (scene asker said stream)) is begins, same)),
     refl,
     refl,
     refl,
@@ -113,7 +114,7 @@ module _ (hash : List ℕ → List ℕ) (accepted verified : List ℕ → List �
   watched_stands name given given' noted noted' (Err fault.NoReply) before asker said stream is same begins err (reached, some, halted) enough =
       let here = halted.1 refl in (
         reached,
-        inr (inr (subst (λ (g : Option (List ℕ)). BeginsSome hash accepted verified exchanged background.known background.marks background.key (own_for background.marks name background.earlier noted) name g before reached) is some, same)),
+        inr (inr (subst (λ (g : Option BoundKey). BeginsSome hash accepted verified exchanged background.known background.marks background.key (own_for background.marks name background.earlier noted) name g before reached) is some, same)),
         halted.0,
         here.0,
         here.1,

@@ -3,6 +3,7 @@
 use Rattle.std.proofs.Common.{◌≡◌, ◌≢◌, ◌∙◌, ℕ, ◌<◌, ◌≤◌, List, [], ◌∷◌, ◌++◌, Any, Contains, Option, Ok, ap, append_assoc, append-nil, arith, inl, inr, refl, subst, sym}
 use Rattle.std.specs.List.{AllByRecursion}
 use Rattle.std.proofs.lemmas.List.Elements.{Contains-append_left}
+use Rattle.encoding.specs.declared.bound_key.BoundKey.{BoundKey}
 use Rattle.rootchain.specs.declared.signed_promise.SignedPromise.{SignedPromise}
 use Rattle.rootchain.specs.declared.signed_root.SignedRoot.{SignedRoot}
 use Rattle.memory.specs.Memories.{Memory}
@@ -24,7 +25,7 @@ pub one-spelled : (text : List ℕ) (one other : Memory) → Spells text (Ok one
 one-spelled text one other p q = let same = one_memory text (Ok one) (Ok other) p q in cc
 
 module _ (hash : List ℕ → List ℕ) (accepted : List ℕ → List ℕ → List ℕ → Type 0) where
-  module _ (Given : List ℕ → Option (List ℕ) → Type 0) (Own Asked : SignedPromise → Type 0) (Drops : List ℕ → Type 0) (start : Found) (old : List ℕ) where
+  module _ (Given : List ℕ → Option BoundKey → Type 0) (Own Asked : SignedPromise → Type 0) (Drops : List ℕ → Type 0) (start : Found) (old : List ℕ) where
     -- the first of the acts keep all told too
     first-kept : (later acts : List Act) → acts ≢ [] → AllKeepTold hash accepted Given Own Asked Drops start old (later ++ acts) → AllKeepTold hash accepted Given Own Asked Drops start old acts
     first-kept [] acts some all = all
@@ -50,7 +51,7 @@ module _ (hash : List ℕ → List ℕ) (accepted : List ℕ → List ℕ → Li
     kept-after (Writes anew out ∷ acts) all = all.1
 
   -- it is so too where some of the roots that were added are not there
-  module _ (Given : List ℕ → Option (List ℕ) → Type 0) (Own Asked : SignedPromise → Type 0) (Drops : List ℕ → Type 0) (start : Found) (text : List ℕ) where
+  module _ (Given : List ℕ → Option BoundKey → Type 0) (Own Asked : SignedPromise → Type 0) (Drops : List ℕ → Type 0) (start : Found) (text : List ℕ) where
     fewer-kept : (after roots : List SignedRoot) (known : Memory) → AreAdded start.roots roots after → KeepsTold hash accepted Given Own Asked Drops start text (record { roots = after; known = known })
         → KeepsTold hash accepted Given Own Asked Drops start text (record { roots = roots; known = known })
     fewer-kept after roots known (more, rest, grown, parts) kept = record {
@@ -63,7 +64,7 @@ module _ (hash : List ℕ → List ℕ) (accepted : List ℕ → List ℕ → Li
       evidence = kept.evidence;
     }
 
-  module _ {X : Type 0} (Given : X → List ℕ → Option (List ℕ) → Type 0) (Own : X → Memory → SignedPromise → Type 0) (Asked : X → SignedPromise → Type 0) (Drops : X → List ℕ → Type 0) where
+  module _ {X : Type 0} (Given : X → List ℕ → Option BoundKey → Type 0) (Own : X → Memory → SignedPromise → Type 0) (Asked : X → SignedPromise → Type 0) (Drops : X → List ℕ → Type 0) where
     -- what a run found, and what the next one does
     kept-by : (run : StateRun X) (stored : Stored) → FirstLoads run.acts stored → (start : Found) × AllKeepTold hash accepted (Given run.asked) (Own run.asked start.known) (Asked run.asked) (Drops run.asked) start run.old run.acts → AreFirst run.acts run.left
         → AreAdded stored.roots run.roots (stored_after run.left).roots

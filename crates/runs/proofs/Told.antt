@@ -3,6 +3,7 @@ use Rattle.std.proofs.Common.{◌≡◌, ◌∙◌, ℕ, ◌+◌, ◌<◌, ◌�
 use Rattle.std.proofs.lemmas.Bool.{cases_lt}
 use Rattle.std.proofs.lemmas.List.{get_or_append_left, get_or-append_right, get_or_default}
 use Rattle.std.proofs.lemmas.List.Elements.{Contains-append_cases}
+use Rattle.encoding.specs.declared.bound_key.BoundKey.{BoundKey}
 use Rattle.rootchain.specs.Chains.{Ascend, IsChain, KeyedRoots}
 use Rattle.rootchain.specs.declared.signed_promise.SignedPromise.{SignedPromise}
 use Rattle.rootchain.specs.declared.signed_root.SignedRoot.{SignedRoot}
@@ -45,7 +46,7 @@ behind-later front back one other up has also =
 
 -- ---- what a step tells of another watch that expects the same
 
-tells-same : (one other : Watch) (epoch : ℕ) (statement : Option (List ℕ)) (step : Step) → expected other epoch ≡ expected one epoch → StepTells one epoch statement step → StepTells other epoch statement step
+tells-same : (one other : Watch) (epoch : ℕ) (statement : Option BoundKey) (step : Step) → expected other epoch ≡ expected one epoch → StepTells one epoch statement step → StepTells other epoch statement step
 tells-same one other epoch statement Kept same tells = tells ∙ sym same
 tells-same one other epoch statement (Alarm at found) same (differs, is, states) = (λ e. differs (e ∙ same), is, states)
 
@@ -60,7 +61,7 @@ told-at_more hash accepted text more name watch root (bytes, reply, step, is, te
 
 -- ---- what an owner expects
 
-module _ (Given : List ℕ → Option (List ℕ) → Type 0) (Own : SignedPromise → Type 0) (Counts : SignedPromise → Type 0) where
+module _ (Given : List ℕ → Option BoundKey → Type 0) (Own : SignedPromise → Type 0) (Counts : SignedPromise → Type 0) where
   -- more is told
   pub epoch-more : (hash : List ℕ → List ℕ) (accepted : List ℕ → List ℕ → List ℕ → Type 0) (text more name : List ℕ) (root : SignedRoot) → TellsEpoch Given Own Counts hash accepted text name root → TellsEpoch Given Own Counts hash accepted (text ++ more) name root
   epoch-more hash accepted text more name root (key, expects, told) = (key, expects, told-at_more hash accepted text more name (always key) root told)
@@ -77,7 +78,7 @@ module _ (hash : List ℕ → List ℕ) (accepted verified : List ℕ → List �
   }
 
   -- a monitor that begins has watched nothing
-  pub told-new : (text : List ℕ) (client : Client) (name : List ℕ) (start : Option (List ℕ)) → IsChain hash verified client.chain → Told text (new_monitor client name start)
+  pub told-new : (text : List ℕ) (client : Client) (name : List ℕ) (start : Option BoundKey) → IsChain hash verified client.chain → Told text (new_monitor client name start)
   told-new text client name start chain = record {
     chain = chain;
     is = begun-watching client name start;
@@ -148,7 +149,7 @@ module _ (hash : List ℕ → List ℕ) (accepted verified : List ℕ → List �
 
   -- ---- a change
 
-  pub told-changed : (text : List ℕ) (before : Monitor) (key bytes : List ℕ) (after : Monitor) → Expects hash verified before key bytes {A = Unit {0}} (Ok tt) after → Told text before → Told text after
+  pub told-changed : (text : List ℕ) (before : Monitor) (key : BoundKey) (bytes : List ℕ) (after : Monitor) → Expects hash verified before key bytes {A = Unit {0}} (Ok tt) after → Told text before → Told text after
   told-changed text before key bytes after (signed, (given, may), same) told =
       let epoch = signed.promise.epoch in
       let above = expects-above before.watch epoch signed.promise.key in

@@ -2,6 +2,7 @@
 use Rattle.std.proofs.Common.{◌≡◌, ◌≢◌, ℕ, zero, suc, true, false, Bool, List, [], ◌∷◌, ◌++◌, Option, Some, None, Ok, Err, inl, inr, refl, subst, sym, append_assoc, slice_set}
 use Rattle.std.specs.Prelude.{⊤}
 use Rattle.std.specs.List.{AllByRecursion, AllZip}
+use Rattle.encoding.specs.declared.bound_key.BoundKey.{BoundKey}
 use Rattle.rootchain.specs.Chains.{IsChain}
 use Rattle.rootchain.specs.Promises.{signed_promise_bytes}
 use Rattle.rootchain.specs.declared.signed_promise.SignedPromise.{SignedPromise}
@@ -67,7 +68,7 @@ module _ (hash : List ℕ → List ℕ) (accepted verified : List ℕ → List �
   stays-step before reply (RootDiffers evidence) after enough steps = absurd steps
   stays-step before reply NoPromise after enough steps = absurd steps
 
-  pub stays-change : (before : Monitor) (key bytes : List ℕ) (why : MonitorRefusal) (after : Monitor) → Expects hash verified before key bytes {A = Unit {0}} (Err why) after → after ≡ before
+  pub stays-change : (before : Monitor) (key : BoundKey) (bytes : List ℕ) (why : MonitorRefusal) (after : Monitor) → Expects hash verified before key bytes {A = Unit {0}} (Err why) after → after ≡ before
   stays-change before key bytes refusal.OtherPromise after (reads, same) = same
   stays-change before key bytes (refusal.Client Memory) after (some, same) = same
   stays-change before key bytes (refusal.Client (Root why)) after (reads, same) = same
@@ -116,7 +117,7 @@ module _ (hash : List ℕ → List ℕ) (accepted verified : List ℕ → List �
     started-chain key first own (start, (root, (spells, signed), is), (count, retraces)) =
         retraced-chain count first.body.epoch start own retraces (subst (λ (c : Client). IsChain hash verified c.chain) (sym is) (one-chain hash verified key root signed))
 
-    pub told-joined : (text : List ℕ) (marks : List Mark) (key : List ℕ) (promised : List SignedPromise) (first : SignedRoot) (name : List ℕ) (given : Option (List ℕ)) (monitor : Monitor)
+    pub told-joined : (text : List ℕ) (marks : List Mark) (key : List ℕ) (promised : List SignedPromise) (first : SignedRoot) (name : List ℕ) (given : Option BoundKey) (monitor : Monitor)
         → IsJoined hash accepted verified marks key promised chain first name given monitor → Told text monitor
     told-joined text marks key promised first name given monitor joined =
         told-all_handed text promised _ monitor joined.hands (told-new hash accepted verified text joined.own name _ (started-chain key first joined.own joined.starts))

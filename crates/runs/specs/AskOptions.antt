@@ -17,7 +17,7 @@ ask_values order = record {
   token = option_map (λ text. text.now) order.token;
   state = option_map (λ text. text.now) order.state;
   address = order.address.now;
-  words = option_map (λ text. text.now) order.command ∷ option_map (λ text. text.now) order.first ∷ option_map (λ text. text.now) order.second ∷ [];
+  words = option_map (λ text. text.now) order.command ∷ option_map (λ text. text.now) order.first ∷ option_map (λ text. text.now) order.second ∷ option_map (λ text. text.now) order.third ∷ [];
   after = order.after;
 }
 

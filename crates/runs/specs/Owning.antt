@@ -1,6 +1,7 @@
 -- Where the monitors and the marks of a run stand to the client's chain, and to what was told.
 use Rattle.std.specs.Prelude.{◌≡◌, ◌⊎◌, ℕ, ◌<◌, ◌≤◌, List, ◌++◌, Contains, Option}
 use Rattle.std.specs.List.{AllByRecursion}
+use Rattle.encoding.specs.declared.bound_key.BoundKey.{BoundKey}
 use Rattle.rootchain.specs.declared.signed_promise.SignedPromise.{SignedPromise}
 use Rattle.rootchain.specs.declared.signed_root.SignedRoot.{SignedRoot}
 use Rattle.rootchain.specs.Chains.{IsChain, IsHead, KeyedRoots}
@@ -29,12 +30,12 @@ HasJoined chain monitors mark = (monitor : Monitor) × Contains monitors monitor
     × ((first : SignedRoot) → IsFirst monitor.client.chain first → IsLeastAbove chain mark.epoch first)
 
 -- a change of this epoch is expected
-abbrev pub HasChange : List (ℕ × List ℕ) → ℕ → Type 0
-HasChange changes epoch = (change : ℕ × List ℕ) × Contains changes change × (change.0 ≡ epoch)
+abbrev pub HasChange : List (ℕ × BoundKey) → ℕ → Type 0
+HasChange changes epoch = (change : ℕ × BoundKey) × Contains changes change × (change.0 ≡ epoch)
 
-module _ (Given : List ℕ → Option (List ℕ) → Type 0) (Own : SignedPromise → Type 0) (start : Memory) where
+module _ (Given : List ℕ → Option BoundKey → Type 0) (Own : SignedPromise → Type 0) (start : Memory) where
   -- the change is one of the owner's own, with the epoch and the key of its promise
-  abbrev pub IsOwnChange : List ℕ → ℕ × List ℕ → Type 0
+  abbrev pub IsOwnChange : List ℕ → ℕ × BoundKey → Type 0
   IsOwnChange name change = (signed : SignedPromise) × IsOwnAhead Own start signed × (signed.promise.name ≡ name) × (signed.promise.epoch ≡ change.0) × (signed.promise.key ≡ change.1)
 
   -- The watch of a monitor whose chain begins with this root: it expects there what the owner does, and later changes of the
@@ -42,10 +43,10 @@ module _ (Given : List ℕ → Option (List ℕ) → Type 0) (Own : SignedPromis
   pub record IsOwners (name : List ℕ) (first : SignedRoot) (watch : Watch) : Type 0 where
     pub begins : ExpectsAt Given (IsOwnAhead Own start) (Counts start) name first.body.epoch watch.start
     pub changes : AllByRecursion (IsOwnChange name) watch.changes
-    pub later : AllByRecursion (λ (change : ℕ × List ℕ). first.body.epoch ≤ change.0) watch.changes
+    pub later : AllByRecursion (λ (change : ℕ × BoundKey). first.body.epoch ≤ change.0) watch.changes
     pub covers : (signed : SignedPromise) → Counts start signed → signed.promise.name ≡ name → first.body.epoch ≤ signed.promise.epoch → HasChange watch.changes signed.promise.epoch
 
-module _ (hash : List ℕ → List ℕ) (accepted verified : List ℕ → List ℕ → List ℕ → Type 0) (Given : List ℕ → Option (List ℕ) → Type 0) (Own : SignedPromise → Type 0) (start : Memory) where
+module _ (hash : List ℕ → List ℕ) (accepted verified : List ℕ → List ℕ → List ℕ → Type 0) (Given : List ℕ → Option BoundKey → Type 0) (Own : SignedPromise → Type 0) (start : Memory) where
   -- A monitor that all was told of, with the roots of the client's chain, which it has from behind the mark of an earlier
   -- run on, if there is one. It expects what the owner does.
   pub record IsOwn (text : List ℕ) (chain : KeyedRoots) (marks : List Mark) (monitor : Monitor) : Type 0 where

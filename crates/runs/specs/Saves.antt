@@ -2,6 +2,8 @@
 use Rattle.std.specs.Prelude.{◌≡◌, ◌⊎◌, ℕ, ◌<◌, ◌≤◌, true, List, [], ◌∷◌, ◌++◌, Any, Contains, Option, None, Some, Ok, ⊤, filter, map, nat_lt}
 use Rattle.std.specs.List.{AllByRecursion}
 use Rattle.std.specs.List.Sorted.{IsNonDecreasingBy}
+use Rattle.encoding.specs.declared.bound_key.BoundKey.{BoundKey}
+use Rattle.commands.specs.Operations.{asked_key}
 use Rattle.commands.specs.declared.edit.Verb.{Verb}
 use Rattle.rootchain.specs.Chains.{IsHead, KeyedRoots}
 use Rattle.rootchain.specs.Promises.{IsSignedPromise, PromiseVerifies}
@@ -65,12 +67,12 @@ IsSaid None said = ⊤
 IsSaid (Some lines) said = (line : List ℕ) × Contains lines line × (line_of line ≡ Some said)
 
 -- one of these lines asks for the name to be watched, with this key or none
-abbrev pub IsAsked : Option (List (List ℕ)) → List ℕ → Option (List ℕ) → Type 0
+abbrev pub IsAsked : Option (List (List ℕ)) → List ℕ → Option BoundKey → Type 0
 IsAsked lines name given = IsSaid lines (Watch name given)
 
 -- one of these lines asks for the change that is promised
 abbrev pub IsAskedChange : Option (List (List ℕ)) → SignedPromise → Type 0
-IsAskedChange lines signed = (verb : Verb) × IsSaid lines (Ask (Put verb signed.promise.name signed.promise.key))
+IsAskedChange lines signed = (verb : Verb) × IsSaid lines (Ask (Put verb signed.promise.name (asked_key signed.promise.key)))
 
 -- the name is the one whose alarms are settled, if those of one are
 abbrev pub IsDropped : Option (List ℕ) → List ℕ → Type 0
@@ -143,7 +145,7 @@ abbrev pub WasStored : Found → List ℕ → SignedRoot → Type 0
 WasStored before name root = Contains before.roots root
     × ((mark : Mark) × Contains before.known.marks mark × (mark.name ≡ name) × (mark.since < root.body.epoch) × (root.body.epoch ≤ mark.epoch))
 
-module _ (hash : List ℕ → List ℕ) (accepted : List ℕ → List ℕ → List ℕ → Type 0) (Given : List ℕ → Option (List ℕ) → Type 0) (Own Asked : SignedPromise → Type 0) (Drops : List ℕ → Type 0) where
+module _ (hash : List ℕ → List ℕ) (accepted : List ℕ → List ℕ → List ℕ → Type 0) (Given : List ℕ → Option BoundKey → Type 0) (Own Asked : SignedPromise → Type 0) (Drops : List ℕ → Type 0) where
   -- What is found where something else was before a run, and this text was written in it: roots are only added, and no mark
   -- that was there is lost, or goes back over a root (one between two roots may go to the lower of them); of each root above the
   -- begin of a mark, up to the mark, it was told, or the root's epoch had been watched before. What counts there are the promises

@@ -12,7 +12,7 @@ use Rattle.asking.specs.declared.said.TheConstants.{CAUGHT}
 -- the words are `settle` and a name in hexadecimal digits, and there is a state
 abbrev pub IsSettling : AskOptions → List ℕ → Type 0
 IsSettling options name = (¬ (options.state ≡ None)) × (digits : List ℕ)
-    × (options.words ≡ Some (codes "settle") ∷ Some digits ∷ None ∷ []) × (decode_of digits ≡ Ok name) × IsName name
+    × (options.words ≡ Some (codes "settle") ∷ Some digits ∷ None ∷ None ∷ []) × (decode_of digits ≡ Ok name) × IsName name
 
 -- the line that says that so many alarms of the name were dropped
 abbrev pub settled_line : List ℕ → ℕ → List ℕ

@@ -2,6 +2,7 @@
 use Rattle.std.specs.Prelude.{◌≡◌, ◌⊎◌, ℕ, ◌+◌, ◌<◌, ◌≤◌, List, [], ◌∷◌, ◌++◌, false, true, drop, Contains, length, Option, Some, None, Ok, ⊤}
 use Rattle.std.specs.List.{AllByRecursion}
 use Rattle.std.specs.List.Sorted.{IsNonDecreasingBy}
+use Rattle.encoding.specs.declared.bound_key.BoundKey.{BoundKey}
 use Rattle.rootchain.specs.declared.signed_promise.SignedPromise.{SignedPromise}
 use Rattle.rootchain.specs.declared.signed_root.SignedRoot.{SignedRoot}
 use Rattle.rootchain.specs.Chains.{IsHead, KeyedRoots}
@@ -128,7 +129,7 @@ HasNoChanges (Some state) = state.changes ≡ 0
 pub record IsCurrent (key : List ℕ) (chain : KeyedRoots) (monitor : Monitor) : Type 0 where
   pub keyed : monitor.client.chain.key ≡ key
   pub covers : (first : SignedRoot) → IsFirst monitor.client.chain first → (root : SignedRoot) → Contains chain.roots root → first.body.epoch ≤ root.body.epoch → HasBody monitor.client.chain root
-  pub low : AllByRecursion (λ (change : ℕ × List ℕ). (root : SignedRoot) × Contains chain.roots root × (change.0 ≡ root.body.epoch)) monitor.watch.changes
+  pub low : AllByRecursion (λ (change : ℕ × BoundKey). (root : SignedRoot) × Contains chain.roots root × (change.0 ≡ root.body.epoch)) monitor.watch.changes
 
 -- the state looked at all changes, and each monitor is so
 abbrev pub IsInStep : {H V S : Type 0} → Option State → Asker H V S → Type 0

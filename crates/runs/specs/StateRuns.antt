@@ -1,5 +1,6 @@
 -- Runs over the files of one state, one after another, the latest first.
 use Rattle.std.specs.Prelude.{◌≡◌, ◌≢◌, ◌⊎◌, ℕ, List, [], ◌∷◌, ◌++◌, Any, Option, Some, Ok, ⊤}
+use Rattle.encoding.specs.declared.bound_key.BoundKey.{BoundKey}
 use Rattle.rootchain.specs.declared.signed_promise.SignedPromise.{SignedPromise}
 use Rattle.rootchain.specs.declared.signed_root.SignedRoot.{SignedRoot}
 use Rattle.memory.specs.Memories.{Memory}
@@ -44,7 +45,7 @@ WasWritten old (Writes anew out ∷ acts) text = out ≡ Some (old ++ text)
 
 -- what the owner gave is known by what was asked, and which promises are for the owner's own changes by this and by the
 -- memory that was loaded
-module _ (hash : List ℕ → List ℕ) (accepted : List ℕ → List ℕ → List ℕ → Type 0) {X : Type 0} (Given : X → List ℕ → Option (List ℕ) → Type 0) (Own : X → Memory → SignedPromise → Type 0) where
+module _ (hash : List ℕ → List ℕ) (accepted : List ℕ → List ℕ → List ℕ → Type 0) {X : Type 0} (Given : X → List ℕ → Option BoundKey → Type 0) (Own : X → Memory → SignedPromise → Type 0) where
   -- it is told of the root for the name in what one of the runs wrote before it did the last that is left, where promises
   -- count that were remembered before the run or are in what is left; or it was watched before all of them
   abbrev pub WasTold : Stored → List (StateRun X) → List ℕ → SignedRoot → Type 0

@@ -1,5 +1,6 @@
 -- What was told of the epochs that monitors watched.
 use Rattle.std.specs.Prelude.{◌≡◌, ◌⊎◌, ℕ, ◌<◌, ◌≤◌, List, [], ◌++◌, Contains, Option, Some}
+use Rattle.encoding.specs.declared.bound_key.BoundKey.{BoundKey}
 use Rattle.rootchain.specs.declared.signed_promise.SignedPromise.{SignedPromise}
 use Rattle.rootchain.specs.declared.signed_root.SignedRoot.{SignedRoot}
 use Rattle.proofs.specs.Accepts.{stated}
@@ -37,15 +38,15 @@ abbrev pub HasBody : KeyedRoots → SignedRoot → Type 0
 HasBody chain root = (own : SignedRoot) × Contains chain.roots own × (own.body ≡ root.body)
 
 -- the watch that expects this key, or none, in every epoch
-abbrev pub always : Option (List ℕ) → Watch
+abbrev pub always : Option BoundKey → Watch
 always key = record { start = key; changes = [] }
 
 -- What an owner expects of a name, by given keys, and by promises for changes of the owner's own, of which some are known to
 -- count.
-module _ (Given : List ℕ → Option (List ℕ) → Type 0) (Own : SignedPromise → Type 0) (Counts : SignedPromise → Type 0) where
+module _ (Given : List ℕ → Option BoundKey → Type 0) (Own : SignedPromise → Type 0) (Counts : SignedPromise → Type 0) where
   -- in an epoch: the key of a promise from before it for a change of the owner's own, and none from before it that counts is
   -- later; or what was given, and none that counts is from before it
-  abbrev pub ExpectsAt : List ℕ → ℕ → Option (List ℕ) → Type 0
+  abbrev pub ExpectsAt : List ℕ → ℕ → Option BoundKey → Type 0
   ExpectsAt name epoch key =
       ((signed : SignedPromise) × Own signed × (signed.promise.name ≡ name) × (signed.promise.epoch < epoch) × (key ≡ Some signed.promise.key)
       × ((other : SignedPromise) → Counts other → other.promise.name ≡ name → other.promise.epoch < epoch → other.promise.epoch ≤ signed.promise.epoch))
@@ -53,4 +54,4 @@ module _ (Given : List ℕ → Option (List ℕ) → Type 0) (Own : SignedPromis
 
   -- it is told of the root for the name, against what its owner expects there
   abbrev pub TellsEpoch : (List ℕ → List ℕ) → (List ℕ → List ℕ → List ℕ → Type 0) → List ℕ → List ℕ → SignedRoot → Type 0
-  TellsEpoch hash accepted text name root = (key : Option (List ℕ)) × ExpectsAt name root.body.epoch key × IsToldAt hash accepted text name (always key) root
+  TellsEpoch hash accepted text name root = (key : Option BoundKey) × ExpectsAt name root.body.epoch key × IsToldAt hash accepted text name (always key) root

@@ -1,5 +1,6 @@
 ghost use Rattle.std.specs.Prelude.{◌≡◌, ◌≢◌, ◌⊎◌, ◌++◌, ◌∷◌, ◌<◌, ◌≤◌, ℕ, [], Contains, List, None, Ok, Option, Some};
 ghost use Rattle.std.specs.List.{AllByRecursion};
+ghost use Rattle.encoding.specs.declared.bound_key.BoundKey.{BoundKey};
 ghost use Rattle.client.specs.declared.client_refusal.Refusal.{Refusal};
 ghost use Rattle.client.specs.declared.client_refusal.Refusal.TheVariants.{RootDiffers};
 ghost use Rattle.client.specs.declared.due.Due.TheVariants.{Broken};
@@ -97,5 +98,5 @@ pub fn stored_marks_are_told<H: NodeHash, V: VufCheck, S: Verifier>()
 pub fn asked_names_are_watched<T: Read + Write, H: NodeHash, V: VufCheck, S: Verifier>()
     ensures { (key token : List ℕ) (options : AskOptions) (stream left : T) (input : Option (List ℕ)) (status : ℕ) (old new : Option (List ℕ)) (lines : List (List ℕ)) → lines_asked options.words input ≡ Some lines
         → (run : RunsWhole H.digest_of V.accepted S.verified (ExchangesFrames T.contents T.remaining) key token options (options.state ≡ None) stream left input status old new)
-        → (name : List ℕ) (given : Option (List ℕ)) → IsAsked (Some lines) name given → HasMonitor run.last.monitors name ⊎ IsMarked run.background.marks name }
+        → (name : List ℕ) (given : Option BoundKey) → IsAsked (Some lines) name given → HasMonitor run.last.monitors name ⊎ IsMarked run.background.marks name }
 {}

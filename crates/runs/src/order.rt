@@ -16,6 +16,7 @@ pub struct AskOrder<'a> {
     /// The words behind it.
     pub first: Option<&'a str>,
     pub second: Option<&'a str>,
+    pub third: Option<&'a str>,
     /// The epoch that the last one has to be above: of the name that the words watch, or of the head that they ask for.
     pub after: Option<u64>,
 }

@@ -98,6 +98,7 @@ pub(crate) fn line_of_words(alloc: Global, order: AskOrder<'_>) -> Result<Vec<u8
     push_word(&mut line, order.command)?;
     push_word(&mut line, order.first)?;
     push_word(&mut line, order.second)?;
+    push_word(&mut line, order.third)?;
     Ok(line)
 }
 

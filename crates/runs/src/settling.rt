@@ -35,7 +35,12 @@ pub(crate) fn name_to_settle(
 ) -> Result<Option<Name>, AllocError>
     ensures { IfOk result (λ found. MatchOption found ((name : List ℕ) → ¬ IsSettling (ask_values order.now) name) (IsSettling (ask_values order.now))) }
 {
-    let (Some(command), Some(digits), None) = (order.command, order.first, order.second) else {
+    let (Some(command), Some(digits), None, None) = (
+        order.command,
+        order.first,
+        order.second,
+        order.third,
+    ) else {
         return Ok(None);
     };
     if command != "settle" || order.state.is_none() {

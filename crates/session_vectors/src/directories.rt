@@ -130,6 +130,8 @@ where
     match verb {
         b"register" => register(case, directory),
         b"change" => change(case, directory),
+        b"register2" => register_with_policy(case, directory),
+        b"change2" => change_with_policy(case, directory),
         b"promise" => {
             let promised = directory.promise(case.bytes());
             tell_promise(case, promised);
@@ -144,16 +146,18 @@ where
     }
 }
 
-/// `replay register SALT NAME KEY`, `replay change` the same, `replay turn EPOCH`, or
-/// `replay rotate EPOCH NONCE`
+/// `replay register SALT NAME KEY`, `replay change` the same, `replay register2 SALT NAME KEY POLICY`, `replay
+/// change2` the same, `replay turn EPOCH`, or `replay rotate EPOCH NONCE`
 fn replay<H, V>(case: &mut Case<'_>, directory: &mut Made<H, V>)
 where
     H: NodeHash + Drop,
     V: Vuf + Drop,
 {
     match case.word() {
-        b"register" => replay_put(case, directory, Verb::Register),
-        b"change" => replay_put(case, directory, Verb::Change),
+        b"register" => replay_put(case, directory, Verb::Register, false),
+        b"change" => replay_put(case, directory, Verb::Change, false),
+        b"register2" => replay_put(case, directory, Verb::Register, true),
+        b"change2" => replay_put(case, directory, Verb::Change, true),
         b"turn" => {
             let epoch = case.number();
             replay_turn(case, directory, epoch, None);
@@ -181,7 +185,7 @@ where
     tell_replayed(case, replayed);
 }
 
-fn replay_put<H, V>(case: &mut Case<'_>, directory: &mut Made<H, V>, verb: Verb)
+fn replay_put<H, V>(case: &mut Case<'_>, directory: &mut Made<H, V>, verb: Verb, has_policy: bool)
 where
     H: NodeHash + Drop,
     V: Vuf + Drop,
@@ -190,7 +194,7 @@ where
         verb,
         salt: case.hash(),
         name: case.name(),
-        key: case.key(),
+        key: case.bound_key(has_policy),
     });
     tell_replayed(case, replayed);
 }
@@ -271,6 +275,34 @@ where
     let key = case.bytes();
     if !case.is_spoiled() {
         tell_promise(case, directory.change(&mut NoKeeper, name, key));
+    }
+}
+
+/// `register2 NAME KEY POLICY`, POLICY a byte in decimal
+fn register_with_policy<H, V>(case: &mut Case<'_>, directory: &mut Made<H, V>)
+where
+    H: NodeHash + Drop,
+    V: Vuf + Drop,
+{
+    let name = case.bytes();
+    let key = case.bytes();
+    let policy = case.number_to(255) as u8;
+    if !case.is_spoiled() {
+        tell_promise(case, directory.register2(&mut NoKeeper, name, key, policy));
+    }
+}
+
+/// `change2 NAME KEY POLICY`, the same
+fn change_with_policy<H, V>(case: &mut Case<'_>, directory: &mut Made<H, V>)
+where
+    H: NodeHash + Drop,
+    V: Vuf + Drop,
+{
+    let name = case.bytes();
+    let key = case.bytes();
+    let policy = case.number_to(255) as u8;
+    if !case.is_spoiled() {
+        tell_promise(case, directory.change2(&mut NoKeeper, name, key, policy));
     }
 }
 

@@ -10,7 +10,7 @@
 //! | Subject | Calls | Verbs |
 //! |---|---|---|
 //! | `directory` | `Directory::new`, `head` | `new`, `head` |
-//! | | `register`, `change`, `promise`, `close` | the same words |
+//! | | `register`, `change`, `register2`, `change2`, `promise`, `close` | the same words |
 //! | | `rotate`, which calls `turn` and `Tree::renew_with_all` | `rotate` |
 //! | | `lookup`, `lookup_into`, which calls `write_front` | `lookup` |
 //! | | `history`; `run`; `replay` | `history`; `run`; `replay` |
@@ -27,9 +27,9 @@
 //! | | `key`, `chain` | `key`, `head` |
 //! | | `reconcile` | `reconcile`, `reconcile-self`; `put-aside` makes the client the other one |
 //! | | `start`, `update`, `keep_promise` under a verifier that accepts all | `any` |
-//! | `monitor` | `Monitor::new`, `update`, `update_from` | `new`, `update`, `from` |
+//! | `monitor` | `Monitor::new`, `new2`, `update`, `update_from` | `new`, `new2`, `update`, `from` |
 //! | | `next_epoch`, `step` | `next`, `step` |
-//! | | `expect_change` with `read_promise` and `keep_read` of a client | `expect` |
+//! | | `expect_change`, `expect_change2` with `read_promise` and `keep_read` of a client | `expect`, `expect2` |
 //! | | `expected`, `name`, `client` | `expected`, `name`, `client` |
 //! | | `update`, `expect_change` under a verifier that accepts all | `any` |
 //! | `auditor` | `Auditor::new`, `observe`, `compare`, `chain` | `new`, `observe`, `compare`, `chain` |

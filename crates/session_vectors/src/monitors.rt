@@ -9,7 +9,7 @@ use client::Client;
 use encoding::{Hash32, KeyData};
 use monitor::{Monitor, Refusal, Step};
 use nodehash::{NodeHash, Sha256Hash};
-use questions::{AnySign, Case, say_statement};
+use questions::{AnySign, Case, say_policy, say_statement};
 use sigiface::{KeyedSign, Verifier};
 use vrfiface::{KeyedVuf, VufCheck};
 
@@ -24,6 +24,7 @@ pub(crate) fn answer(
 ) {
     match case.word() {
         b"new" => new(case, &mut clients.client, kept),
+        b"new2" => new_with_policy(case, &mut clients.client, kept),
         b"any" => any(case, &mut keyed()),
         b"reconcile" => {
             let client = kept.as_ref().map(|monitor| monitor.client());
@@ -62,6 +63,7 @@ where
             tell_done(case, updated);
         }
         b"expect" => expect(case, &mut by.hash, &by.verifier, monitor),
+        b"expect2" => expect_with_policy(case, by, monitor),
         b"step" => step(case, by, monitor),
         b"next" => say_option(case, monitor.next_epoch()),
         b"expected" => expected(case, monitor),
@@ -105,6 +107,29 @@ where
     case.say("ok");
 }
 
+/// `new2 NAME KEY POLICY`
+fn new_with_policy<H, V>(
+    case: &mut Case<'_>,
+    client: &mut Option<Client<H, V, KeyedSign>>,
+    kept: &mut Option<Kept<H, V>>,
+)
+where
+    H: NodeHash + Drop,
+    V: VufCheck + Drop,
+{
+    let name = case.name();
+    let key = case.key();
+    let policy = case.policy();
+    if case.is_spoiled() {
+        return;
+    }
+    let Some(client) = client.take() else {
+        return case.spoil();
+    };
+    *kept = Some(Monitor::new2(case.alloc(), client, name, key, policy));
+    case.say("ok");
+}
+
 /// `any NAME ROOT LIST KEY PROMISE`: a monitor of its own, under a verifier that accepts each signature,
 /// starts at the root, takes the list and expects the change.
 fn any<H, V>(case: &mut Case<'_>, by: &mut Functions<H, V>)
@@ -145,7 +170,27 @@ where
     if case.is_spoiled() {
         return;
     }
-    match monitor.expect_change(hash, verifier, &key, promise) {
+    tell_expected(case, monitor.expect_change(hash, verifier, &key, promise));
+}
+
+/// `expect2 KEY POLICY PROMISE`
+fn expect_with_policy<H, V>(case: &mut Case<'_>, by: &mut Functions<H, V>, monitor: &mut Kept<H, V>)
+where
+    H: NodeHash + Drop,
+    V: VufCheck + Drop,
+{
+    let key = case.key();
+    let policy = case.policy();
+    let promise = case.bytes();
+    if case.is_spoiled() {
+        return;
+    }
+    let expected = monitor.expect_change2(&mut by.hash, &by.verifier, &key, policy, promise);
+    tell_expected(case, expected);
+}
+
+fn tell_expected(case: &mut Case<'_>, expected: Result<(), Refusal>) {
+    match expected {
         Ok(()) => case.say("ok"),
         Err(why) => refuse(case, why),
     }
@@ -179,7 +224,10 @@ where
     V: VufCheck + Drop,
 {
     match monitor.expected(case.number()) {
-        Some(key) => case.say_bytes(key.bytes()),
+        Some(key) => {
+            case.say_bytes(key.bytes());
+            say_policy(case, key.policy);
+        }
         None => case.say("none"),
     }
 }

@@ -3,7 +3,8 @@
 use Rattle.std.specs.Prelude.{◌≡◌, ℕ, List, [], ◌∷◌, ◌++◌}
 use Rattle.nodehash.specs.Sha256.{sha256}
 
--- the signature of a message under a key: SHA-256 of the letter S, the key and the message
+-- the signature of a message under a key: SHA-256 of the letter S, the key and the message (CONIKS, section 3:
+-- digital signature, for which this stands in)
 abbrev pub keyed_signature : List ℕ → List ℕ → List ℕ
 keyed_signature key message = sha256 (0x53 ∷ [] ++ key ++ message)
 

@@ -49,7 +49,7 @@ fn main(rt: HostRuntime) -> Result<()> {
     for (which, reply) in [("first", &shown.first), ("second", &shown.second)] {
         let view = ReplyView::read(reply.bytes())?;
         let accepted = check(&mut hash, &PlainVuf, body, &name, &view)?;
-        if let Statement::Present(key) = accepted.statement() {
+        if let Statement::Present(key, _) = accepted.statement() {
             println!(rt; "{which} reply states {}", key.escape_ascii())?;
         }
     }

@@ -1,6 +1,6 @@
 use anyhow::Result;
 use commit::commit;
-use encoding::{Hash32, KeyData, Name, ProofText};
+use encoding::{BoundKey, Hash32, KeyData, Name, ProofText};
 use nodehash::SumHash;
 use prefixtree::Tree;
 use proofs::{End, make};
@@ -17,9 +17,17 @@ pub(crate) struct Shown {
     pub(crate) second: ProofText,
 }
 
+/// A key without a policy.
+fn key_of(bytes: &[u8]) -> Result<BoundKey> {
+    Ok(BoundKey {
+        value: KeyData::new(bytes)?,
+        policy: None,
+    })
+}
+
 /// Binds the key "ab" to the name, signs the root of the tree, and replies with "ab" and with "ba".
 pub(crate) fn show_two_keys(alloc: Global, signer: &KeyedSign, name: &Name) -> Result<Shown> {
-    let (ab, ba) = (KeyData::new(b"ab")?, KeyData::new(b"ba")?);
+    let (ab, ba) = (key_of(b"ab")?, key_of(b"ba")?);
     let (mut hash, zeros) = (SumHash::new(), Hash32::default());
 
     let value = PlainVuf.value(name);
@@ -38,7 +46,7 @@ pub(crate) fn show_two_keys(alloc: Global, signer: &KeyedSign, name: &Name) -> R
     let signature = signer.sign(body.write().bytes());
 
     let path = tree.path(&index);
-    let with_key = |key: &KeyData| make(&body, &value, &End::Present { salt: zeros, key }, &path);
+    let with_key = |key: &BoundKey| make(&body, &value, &End::Present { salt: zeros, key }, &path);
     Ok(Shown {
         first: with_key(&ab),
         second: with_key(&ba),

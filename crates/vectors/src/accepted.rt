@@ -1,6 +1,7 @@
 //! Of `proofs`: what accepted replies tell, and whether two state the same.
 
 use crate::replies::{keyed, say_compared};
+use encoding::BoundKey;
 use nodehash::{NodeHash, Sha256Hash};
 use proofs::{Accepted, ReplyView, accept, same_or_collision};
 use questions::{Case, say_statement};
@@ -69,9 +70,19 @@ fn same_as<H: NodeHash, V: VufCheck>(
 
 /// `binds KEY REPLY`
 pub(crate) fn binds(case: &mut Case<'_>) {
-    let key = case.key();
+    let key = case.bound_key(false);
+    tell_binds(case, &key);
+}
+
+/// `binds2 KEY POLICY REPLY`: whether it states this key with this policy
+pub(crate) fn binds_with_policy(case: &mut Case<'_>) {
+    let key = case.bound_key(true);
+    tell_binds(case, &key);
+}
+
+fn tell_binds(case: &mut Case<'_>, key: &BoundKey) {
     match ReplyView::read(case.bytes()) {
-        Ok(view) => case.say_truth(view.statement().binds(&key)),
+        Ok(view) => case.say_truth(view.statement().binds(key)),
         Err(refusal) => case.refuse(refusal.number(), refusal),
     }
 }

@@ -71,10 +71,19 @@ fn say_query(case: &mut Case<'_>, query: &Query<'_>) {
 }
 
 fn say_put(case: &mut Case<'_>, put: &Put<'_>) {
-    case.say(match put.verb {
-        Verb::Register => "register",
-        Verb::Change => "change",
-    });
+    match put.policy {
+        None => case.say(match put.verb {
+            Verb::Register => "register",
+            Verb::Change => "change",
+        }),
+        Some(policy) => {
+            case.say(match put.verb {
+                Verb::Register => "register2",
+                Verb::Change => "change2",
+            });
+            case.say_shown(policy);
+        }
+    }
     case.say_bytes(put.name);
     case.say_bytes(put.key);
 }

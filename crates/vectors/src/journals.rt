@@ -11,8 +11,10 @@ const ROOM: usize = 5000;
 pub(crate) fn answer(case: &mut Case<'_>) {
     match case.word() {
         b"start" => start(case),
-        b"register" => bound(case, Verb::Register),
-        b"change" => bound(case, Verb::Change),
+        b"register" => bound(case, Verb::Register, false),
+        b"change" => bound(case, Verb::Change, false),
+        b"register2" => bound(case, Verb::Register, true),
+        b"change2" => bound(case, Verb::Change, true),
         b"turn" => turned(case),
         b"rotate" => rotated(case),
         b"records" => count(case),
@@ -32,14 +34,14 @@ fn start(case: &mut Case<'_>) {
     keep_twice(case, room, &what);
 }
 
-/// `register ROOM SALT NAME KEY`, and `change` the same
-fn bound(case: &mut Case<'_>, verb: Verb) {
+/// `register ROOM SALT NAME KEY`, and `change` the same; `register2` and `change2` with a policy behind the key
+fn bound(case: &mut Case<'_>, verb: Verb, has_policy: bool) {
     let room = case.number_to(ROOM);
     let what = Record::Bound {
         verb,
         salt: case.hash(),
         name: case.name(),
-        key: case.key(),
+        key: case.bound_key(has_policy),
     };
     keep_twice(case, room, &what);
 }

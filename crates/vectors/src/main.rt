@@ -15,7 +15,7 @@
 //! | `nodes` | `NodeHash::digest`, `count`, `digest_all` | `sha256`, `sum`; `all`, `all-sum` |
 //! | | `keyed_digest`, `sha256_four` | `keyed`, `four` |
 //! | | `empty_text`, `leaf_text`, `interior_text` | `empty`, `leaf`, `interior` |
-//! | | `commit`, `commit_text` | `commit` |
+//! | | `commit`, `commit_text` | `commit`, `commit2` |
 //! | `stand-ins` | `Vuf::public`, `value`, by `small_keyed_digest`; `VufCheck::accepts` | `value`, `accepts`, `plain-value`, `plain-accepts` |
 //! | | `index_of` | `index` |
 //! | | `Signer::public`, `sign`; `Verifier::verify` | `sign`, `verify` |
@@ -35,13 +35,13 @@
 //! | | `end_text`, `joined_text`, `climb`, `leads`, `Path::leads` | `end-text`, `joined`, `climb`, `leads` |
 //! | `replies` | `ReplyView::read`, `statement`, `siblings` | `read` |
 //! | | `accept`, which calls `check` | `accept`, `accept-sum` |
-//! | | `Accepted` and its `again`; `Statement::binds` | `accepted`; `binds` |
+//! | | `Accepted` and its `again`; `Statement::binds` | `accepted`; `binds`, `binds2` |
 //! | | `compare_replies`, `same_or_collision` | `compare`, `compare-sum`, `same`, `same-any` |
 //! | | `make` | `make` |
 //! | `frames` | `Request::read`, `fits`, `write` | `request` |
 //! | | `Response::read`, `Answer::write` | `response`, `answer` |
 //! | | `Feed::new`, `feed`; `ready` and `next`, which call `front_of`, `is_frame_size` | `new`; `feed` |
-//! | `journal` | `Journal::new`; `keep`, which calls `write_record` | `start`, `register`, `change`, `turn`, `rotate` |
+//! | `journal` | `Journal::new`; `keep`, which calls `write_record` | `start`, `register`, `register2`, `change`, `change2`, `turn`, `rotate` |
 //! | | `records` | `records` |
 //! | `text` | `hex_digits`, `hex32`, `option_hex32`, `hex32_or_zeros` | `digits`, `hex32`, `option-hex`, `hex32-or-zeros` |
 //! | | `ProgramFault::status`, `tell` | `fault` |

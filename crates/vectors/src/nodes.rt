@@ -10,7 +10,8 @@ pub(crate) fn answer(case: &mut Case<'_>) {
         b"empty" => empty(case),
         b"leaf" => leaf(case),
         b"interior" => interior(case),
-        b"commit" => committed(case),
+        b"commit" => committed(case, false),
+        b"commit2" => committed(case, true),
         verb => digests::answer(case, verb),
     }
 }
@@ -39,11 +40,11 @@ fn interior(case: &mut Case<'_>) {
     case.say_bytes(interior_text(&zero, &one).bytes());
 }
 
-/// `commit SALT NAME KEY`: the text, and its digests by SHA-256 and by sums.
-fn committed(case: &mut Case<'_>) {
+/// `commit SALT NAME KEY`, `commit2 SALT NAME KEY POLICY`: the text, and its digests by SHA-256 and by sums.
+fn committed(case: &mut Case<'_>, has_policy: bool) {
     let salt = case.hash();
     let name = case.name();
-    let key = case.key();
+    let key = case.bound_key(has_policy);
     case.say_bytes(commit_text(&salt, &name, &key).bytes());
     case.say_bytes(commit(&mut Sha256Hash::new(), &salt, &name, &key).bytes());
     case.say_bytes(commit(&mut SumHash::new(), &salt, &name, &key).bytes());

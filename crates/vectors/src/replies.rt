@@ -1,7 +1,7 @@
 //! Of `proofs`: replies that are read, checked and compared. What an accepted reply tells stands in
 //! `accepted`, and replies are made in `made_replies`.
 
-use crate::accepted::{accepted, binds, same};
+use crate::accepted::{accepted, binds, binds_with_policy, same};
 use crate::any_vuf::AnyVuf;
 use crate::made_replies::make_reply;
 use encoding::Hash32;
@@ -22,6 +22,7 @@ pub(crate) fn answer(case: &mut Case<'_>) {
         b"same" => same(case, &mut Sha256Hash::new(), &keyed()),
         b"same-any" => same(case, &mut SumHash::new(), &AnyVuf),
         b"binds" => binds(case),
+        b"binds2" => binds_with_policy(case),
         b"make" => make_reply(case),
         _ => case.spoil(),
     }

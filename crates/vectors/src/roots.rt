@@ -5,7 +5,7 @@ use crate::evidence::holds;
 use crate::fronts::front;
 use crate::root_lists::{list, written_list};
 use encoding::Hash32;
-use questions::Case;
+use questions::{Case, say_policy};
 use rootchain::{Body, Promise, Refusal, SignedPromise, SignedRoot};
 use sigiface::KeyedSign;
 
@@ -71,6 +71,7 @@ pub(crate) fn say_promise(case: &mut Case<'_>, promise: &Promise) {
     case.say_bytes(promise.index.bytes());
     case.say_bytes(promise.name.bytes());
     case.say_bytes(promise.key.bytes());
+    say_policy(case, promise.key.policy);
 }
 
 /// `promise BYTES`: its fields, and its bytes written again.

@@ -4,7 +4,8 @@
 use Rattle.std.specs.Prelude.{◌≡◌, ℕ, List, [], ◌∷◌, ◌++◌, replicate}
 use Rattle.nodehash.specs.Sha256.{sha256}
 
--- the value of a name under a key: SHA-256 of the letter V, the key and the name
+-- the value of a name under a key: SHA-256 of the letter V, the key and the name (CONIKS, section 3: verifiable
+-- unpredictable function, for which this stands in)
 abbrev pub keyed_value : List ℕ → List ℕ → List ℕ
 keyed_value key name = sha256 (0x56 ∷ [] ++ key ++ name)
 

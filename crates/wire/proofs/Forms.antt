@@ -1,6 +1,6 @@
 -- What holds of all forms, by one induction: a body is read exactly where one is spelled, it consists of
 -- bytes, and what fits into a frame is allowed.
-use Rattle.std.proofs.Common.{ℕ, ◌≤◌, List, [], length, refl, arith, lit≤}
+use Rattle.std.proofs.Common.{ℕ, ◌≤◌, None, List, [], length, refl, arith, lit≤}
 use Rattle.std.proofs.lemmas.List.{length-append}
 use Rattle.encoding.specs.Bytes.{IsBytes}
 use Rattle.encoding.specs.Endian.{big_bytes}
@@ -41,7 +41,7 @@ any (Number count) = 0
 any (Bytes count) = []
 any Text = []
 any (Both first second) = (any first, any second)
-any Promise = record { promise = record { epoch = 0; body_hash = []; index = []; name = []; key = [] }; signature = [] }
+any Promise = record { promise = record { epoch = 0; body_hash = []; index = []; name = []; key = record { value = []; policy = None } }; signature = [] }
 any Reply = record { body = some_body; value = []; end = Empty; siblings = [] }
 any Roots = []
 any Root = record { body = some_body; signature = [] }

@@ -21,8 +21,8 @@ within most fits h = record { few = omega (arith, fits, h.few); small = h.small 
 
 -- the body of a response is not too long for a frame
 fits : (kind : ResponseKind) (content : Content (response_row kind).form) → Allowed (response_row kind).form content → AreFew 65535 (spelling (response_row kind).form content)
-fits PromiseKind content h = within 2639 (lit≤ tt) (signed_promise_few content h)
-fits ProofKind content h = within 10681 (lit≤ tt) (reply_few content h)
+fits PromiseKind content h = within 2640 (lit≤ tt) (signed_promise_few content h)
+fits ProofKind content h = within 10682 (lit≤ tt) (reply_few content h)
 fits RootsKind content h = within 25858 (lit≤ tt) (roots_few content h)
 fits RootKind content h = within 404 (lit≤ tt) (root_few content h)
 fits RefusedKind content h = within 1 (lit≤ tt) (one_few content h)

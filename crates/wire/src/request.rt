@@ -2,17 +2,19 @@
 //! them from the front, and keeps names and keys where they lie; a body that is too short for them, or
 //! goes on behind them, is refused. `write` appends the same parts in the same order, in one frame.
 ghost use Rattle.std.specs.Prelude.{◌≡◌, ◌↔◌, ◌+◌, ◌<◌, ◌≤◌, ◌++◌, length, OnOk, OnErr, IsOk, IsTrue, vec_len, vec_capacity};
+ghost use Rattle.encoding.specs.Reading.{read_as, Gives};
 ghost use Rattle.commands.specs.Operations.{question};
 ghost use Rattle.wire.specs.Frames.{frame_bytes, frame_size, IsFrame};
 ghost use Rattle.wire.specs.Requests as asks;
 ghost use Rattle.wire.specs.Requests.{read_request, request_frame, request_seen, GivesRequest, IsAsked, ReadsRequest};
+ghost use Rattle.wire.specs.Tables.{reader, Both, Text};
 ghost use Rattle.wire.specs.declared.frame.TheConstants.{MAX_FRAME_LEN};
 
 use crate::ReadRefusal;
 use crate::frame::MAX_FRAME_LEN;
 use crate::writing::{append_frame, length_bytes};
 use commands::{Put, Query, Verb};
-use encoding::{Cursor, FixedText, Hash32};
+use encoding::{Cursor, Fault, FixedText, Hash32};
 use std::alloc::AllocError;
 
 /// The most bytes that stand behind a length in two bytes.
@@ -34,6 +36,10 @@ const HEAD: u8 = 6;
 const CLOSE: u8 = 7;
 
 const ROTATE: u8 = 8;
+
+const REGISTER_WITH_POLICY: u8 = 10;
+
+const CHANGE_WITH_POLICY: u8 = 11;
 
 /// What a session asks of a directory: a command, where a new page has the operator's token beside it.
 #[derive(Debug, Drop)]
@@ -80,7 +86,11 @@ impl<'a> Request<'a> {
             Request::Query(Query::Lookup { name, .. }) => name.len() < MAX_FRAME_LEN - 10,
             Request::Query(Query::History { .. } | Query::Head) => true,
             Request::Put(put) => {
-                put.name.len().saturating_add(put.key.len()) < MAX_FRAME_LEN - 4
+                let len = put.name.len().saturating_add(put.key.len());
+                match put.policy {
+                    None => len < MAX_FRAME_LEN - 4,
+                    Some(_) => len < MAX_FRAME_LEN - 5,
+                }
             }
             // Always so: a token and a nonce have 32 bytes, which their `bytes` ensures.
             Request::Turn {
@@ -107,19 +117,45 @@ impl<'a> Request<'a> {
     {
         match self {
             Request::Query(query) => write_query(query, output),
-            Request::Put(put) => append_frame(
-                output,
-                put_kind(put.verb),
-                &length_bytes(put.name),
-                put.name,
-                &length_bytes(put.key),
-                put.key,
-            ),
+            Request::Put(put) => write_put(put, output),
             Request::Turn {
                 token,
                 epoch,
                 nonce,
             } => write_turn(token, *epoch, nonce, output),
+        }
+    }
+}
+
+/// Appends the frame of a key that is put to a name.
+fn write_put(put: &Put<'_>, output: &mut Vec<u8>) -> Result<(), AllocError>
+    requires { frame_size (request_frame (asks.Put put.now.verb put.now.name.now (put.now.key.now, put.now.policy))) ≤ MAX_FRAME_LEN }
+    ensures ok { OnOk result (output.new.items ≡ output.old.items ++ frame_bytes (request_frame (asks.Put put.now.verb put.now.name.now (put.now.key.now, put.now.policy)))) }
+    ensures err { OnErr result (output.new.items ≡ output.old.items) }
+    ensures room { vec_len output.old + 4 + frame_size (request_frame (asks.Put put.now.verb put.now.name.now (put.now.key.now, put.now.policy))) ≤ vec_capacity output.old → IsOk result }
+    ensures form { IsAsked (asks.Put put.now.verb put.now.name.now (put.now.key.now, put.now.policy)) × IsFrame (request_frame (asks.Put put.now.verb put.now.name.now (put.now.key.now, put.now.policy))) }
+{
+    match put.policy {
+        None => append_frame(
+            output,
+            put_kind(put.verb),
+            &length_bytes(put.name),
+            put.name,
+            &length_bytes(put.key),
+            put.key,
+        ),
+        Some(policy) => {
+            let mut front = FixedText::<3>::new();
+            front.push(policy);
+            front.push_slice(&length_bytes(put.name));
+            append_frame(
+                output,
+                policy_kind(put.verb),
+                front.bytes(),
+                put.name,
+                &length_bytes(put.key),
+                put.key,
+            )
         }
     }
 }
@@ -189,22 +225,24 @@ fn put_kind(verb: Verb) -> u8
     }
 }
 
+/// The kind byte of a key with a policy that is put to a name.
+fn policy_kind(verb: Verb) -> u8
+    ensures { result ≡ asks.policy_kind verb }
+{
+    match verb {
+        Verb::Register => REGISTER_WITH_POLICY,
+        Verb::Change => CHANGE_WITH_POLICY,
+    }
+}
+
 /// The parts of a request of this kind, from the front of a body.
 #[tactic(auto, unfolding(crate::specs::Requests::read_request))]
 fn read_parts<'a>(kind: u8, cursor: &mut Cursor<'a>) -> Result<Request<'a>, ReadRefusal>
     ensures { GivesRequest result cursor.new (read_request kind cursor.old) }
 {
     Ok(match kind {
-        REGISTER => Request::Put(Put {
-            verb: Verb::Register,
-            name: cursor.counted(0, MAX_COUNTED_LEN)?,
-            key: cursor.counted(0, MAX_COUNTED_LEN)?,
-        }),
-        CHANGE => Request::Put(Put {
-            verb: Verb::Change,
-            name: cursor.counted(0, MAX_COUNTED_LEN)?,
-            key: cursor.counted(0, MAX_COUNTED_LEN)?,
-        }),
+        REGISTER => Request::Put(read_put(Verb::Register, None, cursor)?),
+        CHANGE => Request::Put(read_put(Verb::Change, None, cursor)?),
         PROMISE => Request::Query(Query::Promise {
             name: cursor.counted(0, MAX_COUNTED_LEN)?,
         }),
@@ -228,6 +266,20 @@ fn read_parts<'a>(kind: u8, cursor: &mut Cursor<'a>) -> Result<Request<'a>, Read
             epoch: cursor.u64()?,
             nonce: Some(cursor.hash32()?),
         },
+        REGISTER_WITH_POLICY => Request::Put(read_put(Verb::Register, Some(cursor.u8()?), cursor)?),
+        CHANGE_WITH_POLICY => Request::Put(read_put(Verb::Change, Some(cursor.u8()?), cursor)?),
         _ => return Err(ReadRefusal::BadKind),
+    })
+}
+
+/// A name and the key that is put to it, from the front of what is left of a body.
+fn read_put<'a>(verb: Verb, policy: Option<u8>, cursor: &mut Cursor<'a>) -> Result<Put<'a>, Fault>
+    ensures { Gives (λ put. asks.Put put.verb put.name.now (put.key.now, put.policy)) result cursor.new (read_as (λ held. asks.Put verb held.0 (held.1, policy)) (reader (Both Text Text)) cursor.old) }
+{
+    Ok(Put {
+        verb,
+        policy,
+        name: cursor.counted(0, MAX_COUNTED_LEN)?,
+        key: cursor.counted(0, MAX_COUNTED_LEN)?,
     })
 }

@@ -30,11 +30,10 @@ pub(super) struct Argument {
     pub(super) kind: Kind,
 }
 
-/// A subcommand, what help says of it, and what stands below its arguments.
+/// A subcommand, and what help says of it.
 pub(super) struct Subcommand {
     pub(super) name: &'static str,
     pub(super) about: &'static str,
-    pub(super) after_help: &'static str,
     pub(super) arguments: &'static [Argument],
 }
 
@@ -73,11 +72,12 @@ A script has one directory, a client that checks look-ups, an auditor, and monit
 memory, with keys that are always the same. Each line is a command, and prints what comes of it:
 
     register NAME KEY, change NAME KEY, promise NAME, lookup NAME EPOCH, history FROM COUNT, head,
-    close EPOCH, rotate EPOCH NONCE, watch NAME KEY, bytes SESSION HEX, end SESSION
+    register2 NAME KEY POLICY, change2 NAME KEY POLICY, close EPOCH, rotate EPOCH NONCE, watch NAME KEY,
+    watch2 NAME KEY POLICY, bytes SESSION HEX, end SESSION
 
 NAME, KEY and HEX are hexadecimal digits, or `-` for no bytes; the key of `watch` is the one that is
-expected, or `-` for none. NONCE is 64 digits. A look-up at epoch 0 asks for the latest one. A line that
-is empty or begins with `#` prints nothing. The first line that is no command ends the run:
+expected, or `-` for none. NONCE is 64 digits, POLICY `open` or `final`. A look-up at epoch 0 asks for the latest
+one. A line that is empty or begins with `#` prints nothing. The first line that is no command ends the run:
 `line N: not a command`.
 
 In this script alice (616c696365) registers the key 6b31, and her monitor finds it in epoch 2:
@@ -121,10 +121,12 @@ Asks the directory that listens on ADDR what the words ask, or without words eac
 checks each reply as a client, and prints the line that `play` prints:
 
     register NAME KEY, change NAME KEY, promise NAME, lookup NAME EPOCH, history FROM COUNT, head,
-    close EPOCH, rotate EPOCH NONCE, watch NAME KEY
+    register2 NAME KEY POLICY, change2 NAME KEY POLICY, close EPOCH, rotate EPOCH NONCE, watch NAME KEY,
+    watch2 NAME KEY POLICY
 
-NAME and KEY are hexadecimal digits, here and in what is printed: alice is 616c696365. With --text, NAME of the
-words is text, and KEY still digits. Lines of standard input have no text: --text without words is refused.
+NAME and KEY are hexadecimal digits, here and in what is printed: alice is 616c696365. POLICY is `open` or
+`final`. With --text, NAME of the words is text, and KEY still digits. Lines of standard input have no text:
+--text without words is refused.
 
 --provider is all that a user needs: a file with the line `provider` and 64 hexadecimal digits, and no secret
 key. `close` and `rotate` are the operator's, who gives --keys, a file with `provider` and `token`, or --token.
@@ -134,8 +136,9 @@ which `audit` reads too, and FILE.kept what is remembered beside it; without the
 directory's latest root. Evidence and alarms of earlier runs are told again; the words `settle NAME` drop the
 alarms of a name from FILE.kept, and ask ADDR nothing.
 
-With --after EPOCH the words `watch NAME KEY` and `head` end with the line `stale E` and status 3 if E, the last
-epoch that was watched of the name, or the head's, is not above EPOCH. Before any was watched, E is 0.
+With --after EPOCH the words `watch NAME KEY`, `watch2 NAME KEY POLICY` and `head` end with the line `stale E` and
+status 3 if E, the last epoch that was watched of the name, or the head's, is not above EPOCH. Before any was
+watched, E is 0.
 
 Status 3: the provider was caught, by evidence or a promise that was not kept, a name is not as expected, or an
 epoch is stale.
@@ -143,6 +146,20 @@ Status 1: nothing can be said today, since something was refused, no reply came,
 takes.
 
 Example: directoryd ask --provider provider.txt --state roots.txt --text 127.0.0.1:7000 lookup alice 0";
+
+/// What stands below the options of a subcommand. The rows do not have it: the checker takes no table of so many bytes.
+pub(super) fn help_below(name: &str) -> &'static str {
+    match name {
+        "root" => ROOT_HELP,
+        "prove" => PROVE_HELP,
+        "audit" => AUDIT_HELP,
+        "judge" => JUDGE_HELP,
+        "play" => PLAY_HELP,
+        "serve" => SERVE_HELP,
+        "listen" => LISTEN_HELP,
+        _ => ASK_HELP,
+    }
+}
 
 /// The most connections that `--sessions` allows at once: what `listen` can hold.
 const MOST_SESSIONS: u64 = MAX_SESSIONS as u64;
@@ -222,13 +239,11 @@ pub(super) static SUBCOMMANDS: [Subcommand; 8] = [
     Subcommand {
         name: "root",
         about: "Prints the root of the items on standard input",
-        after_help: ROOT_HELP,
         arguments: &[HASH, NONCE],
     },
     Subcommand {
         name: "prove",
         about: "Prints the path of an index among the items on standard input",
-        after_help: PROVE_HELP,
         arguments: &[
             Argument {
                 name: "index",
@@ -243,13 +258,11 @@ pub(super) static SUBCOMMANDS: [Subcommand; 8] = [
     Subcommand {
         name: "audit",
         about: "Audits the signed roots on standard input",
-        after_help: AUDIT_HELP,
         arguments: &[KEY],
     },
     Subcommand {
         name: "judge",
         about: "Says whether a file is evidence against a provider",
-        after_help: JUDGE_HELP,
         arguments: &[
             KEY,
             Argument {
@@ -263,13 +276,11 @@ pub(super) static SUBCOMMANDS: [Subcommand; 8] = [
     Subcommand {
         name: "play",
         about: "Plays the script on standard input",
-        after_help: PLAY_HELP,
         arguments: &[],
     },
     Subcommand {
         name: "serve",
         about: "Answers one session on standard input and output",
-        after_help: SERVE_HELP,
         arguments: &[
             SIGN_KEY, VUF_KEY, SALT_KEY, TOKEN, KEYS, EPOCH, NONCE, JOURNAL,
         ],
@@ -277,7 +288,6 @@ pub(super) static SUBCOMMANDS: [Subcommand; 8] = [
     Subcommand {
         name: "listen",
         about: "Answers connections, many at once",
-        after_help: LISTEN_HELP,
         arguments: &[
             SIGN_KEY,
             VUF_KEY,
@@ -322,7 +332,6 @@ pub(super) static SUBCOMMANDS: [Subcommand; 8] = [
     Subcommand {
         name: "ask",
         about: "Asks a directory that listens, and checks its replies",
-        after_help: ASK_HELP,
         arguments: &[
             Argument {
                 name: "provider",
@@ -352,7 +361,7 @@ pub(super) static SUBCOMMANDS: [Subcommand; 8] = [
             Argument {
                 name: "after",
                 value: "EPOCH",
-                help: "Tell with status 3 if no later epoch is known, of the name of `watch` or of `head`",
+                help: "Tell with status 3 if no later epoch is known, of the name of `watch` or `watch2`, or of `head`",
                 kind: Kind::Optional(0, u64::MAX),
             },
             Argument {
@@ -377,6 +386,12 @@ pub(super) static SUBCOMMANDS: [Subcommand; 8] = [
                 name: "second",
                 value: "WORD",
                 help: "Its second word",
+                kind: Kind::Word,
+            },
+            Argument {
+                name: "third",
+                value: "WORD",
+                help: "Its third word",
                 kind: Kind::Word,
             },
         ],

@@ -1,18 +1,19 @@
 //! Registrations, changes, closings and rotations. Each is tested, then takes all its memory, then its record
 //! is kept, and only then is the change made, which needs no memory and cannot fail. So a refused call leaves
 //! the directory as it was.
-ghost use Rattle.std.specs.Prelude.{◌≡◌, ℕ, ◌+◌, ◌<◌, ◌≤◌, ◌++◌, ◌∷◌, [], false, List, None, IfOk, IfSome, IsSome, MatchResult, Ok, Some, is_some, unwrap_or};
+ghost use Rattle.std.specs.Prelude.{◌≡◌, ℕ, ◌+◌, ◌<◌, ◌≤◌, ◌++◌, ◌∷◌, [], false, Bool, List, None, IfOk, IfSome, IsSome, MatchResult, Ok, Some, is_some, unwrap_or};
 ghost use Rattle.encoding.specs.Bytes.{Is32Bytes};
 ghost use Rattle.encoding.specs.Limits.{IsKeyData, IsName};
 ghost use Rattle.commands.specs.Operations as asks;
-ghost use Rattle.commands.specs.Operations.{Edit, Put};
+ghost use Rattle.commands.specs.Operations.{bound_key, Edit, Put};
 ghost use Rattle.commands.specs.declared.edit.Verb.TheVariants.{Change, Register};
 ghost use Rattle.nodehash.specs.Digests.{one_more};
 ghost use Rattle.prefixtree.specs.Changes.{made_count};
 ghost use Rattle.prefixtree.specs.Node.{node_count};
 ghost use Rattle.prefixtree.specs.Placement.{put_all, IsPlacement};
 ghost use Rattle.book.specs.declared.record.Record.TheVariants as kept_as;
-ghost use Rattle.book.specs.Steps.{next_page, with_page, with_pending, Last, Promised};
+ghost use Rattle.book.specs.declared.directory_refusal.Refusal.{Refusal as RefusalOf};
+ghost use Rattle.book.specs.Steps.{bad_key, bad_policy, first, next_page, with_page, with_pending, Last, Promised};
 ghost use Rattle.encoding.specs.Maps.{at, overwritten};
 ghost use Rattle.book.specs.Replays.{put_refusal, with_bound};
 ghost use Rattle.book.specs.Shows.{index_of as index_by, placement};
@@ -32,7 +33,7 @@ use crate::signing::{hash_of, next_salt, signed_promise, signed_root};
 use crate::waiting::{let_change_wait, let_wait};
 use book::{Keeper, Record, Refusal};
 use commands::Verb;
-use encoding::{Hash32, Index, KeyData, Name};
+use encoding::{BoundKey, Hash32, Index, KeyData, Name, Policy};
 use nodehash::NodeHash;
 use prefixtree::{Item, Tree};
 use rand_core::Rng;
@@ -55,15 +56,94 @@ impl<H: NodeHash, V: Vuf, S: Signer, R: Rng> Directory<H, V, S, R> {
         key: &[u8],
     ) -> Result<SignedPromise, Refusal>
         ensures turn { Turn (provider H.digest_of V.value_of S.signature_of self.old) K.kept K.failed (book R.stream self.old) keeper.old
-            (Edit (Put Register name.now key.now)) (promised result) (book R.stream self.new) keeper.new }
+            (Edit (Put Register name.now (key.now, None))) (promised result) (book R.stream self.new) keeper.new }
+        ensures keys { HasKeysOf self.old self.new }
+        ensures work { self.new.digests ≤ self.old.digests + 2 }
+    {
+        self.register_with(keeper, name, key, None)
+    }
+
+    /// Promises as `register` does, with the policy of this byte.
+    ///
+    /// # Errors
+    ///
+    /// `BadName`, `BadKey`, `BadPolicy`, `NameTaken`, `PendingExists`, `IndexTaken`, `Memory`,
+    /// `KeepFailed`: the first that applies.
+    pub fn register2<K: Keeper>(
+        &mut self,
+        keeper: &mut K,
+        name: &[u8],
+        key: &[u8],
+        policy: u8,
+    ) -> Result<SignedPromise, Refusal>
+        ensures turn { Turn (provider H.digest_of V.value_of S.signature_of self.old) K.kept K.failed (book R.stream self.old) keeper.old
+            (Edit (Put Register name.now (key.now, Some policy))) (promised result) (book R.stream self.new) keeper.new }
+        ensures keys { HasKeysOf self.old self.new }
+        ensures work { self.new.digests ≤ self.old.digests + 2 }
+    {
+        self.register_with(keeper, name, key, Some(policy))
+    }
+
+    /// Promises to bind another key to a name, from the next epoch on.
+    ///
+    /// # Errors
+    ///
+    /// `BadName`, `BadKey`, `NoSuchName`, `FinalBinding`, `PendingExists`, `Memory`, `KeepFailed`: the
+    /// first that applies.
+    pub fn change<K: Keeper>(
+        &mut self,
+        keeper: &mut K,
+        name: &[u8],
+        key: &[u8],
+    ) -> Result<SignedPromise, Refusal>
+        ensures turn { Turn (provider H.digest_of V.value_of S.signature_of self.old) K.kept K.failed (book R.stream self.old) keeper.old
+            (Edit (Put Change name.now (key.now, None))) (promised result) (book R.stream self.new) keeper.new }
+        ensures keys { HasKeysOf self.old self.new }
+        ensures work { self.new.digests ≤ self.old.digests + 1 }
+    {
+        self.change_with(keeper, name, key, None)
+    }
+
+    /// Promises as `change` does, with the policy of this byte.
+    ///
+    /// # Errors
+    ///
+    /// `BadName`, `BadKey`, `BadPolicy`, `NoSuchName`, `FinalBinding`, `PendingExists`, `Memory`,
+    /// `KeepFailed`: the first that applies.
+    pub fn change2<K: Keeper>(
+        &mut self,
+        keeper: &mut K,
+        name: &[u8],
+        key: &[u8],
+        policy: u8,
+    ) -> Result<SignedPromise, Refusal>
+        ensures turn { Turn (provider H.digest_of V.value_of S.signature_of self.old) K.kept K.failed (book R.stream self.old) keeper.old
+            (Edit (Put Change name.now (key.now, Some policy))) (promised result) (book R.stream self.new) keeper.new }
+        ensures keys { HasKeysOf self.old self.new }
+        ensures work { self.new.digests ≤ self.old.digests + 1 }
+    {
+        self.change_with(keeper, name, key, Some(policy))
+    }
+
+    /// Registers as `register2` does, or, without a byte, as `register`.
+    pub fn register_with<K: Keeper>(
+        &mut self,
+        keeper: &mut K,
+        name: &[u8],
+        key: &[u8],
+        policy: Option<u8>,
+    ) -> Result<SignedPromise, Refusal>
+        ensures turn { Turn (provider H.digest_of V.value_of S.signature_of self.old) K.kept K.failed (book R.stream self.old) keeper.old
+            (Edit (Put Register name.now (key.now, policy))) (promised result) (book R.stream self.new) keeper.new }
         ensures keys { HasKeysOf self.old self.new }
         ensures work { self.new.digests ≤ self.old.digests + 2 }
     {
         let Ok(name) = Name::new(name) else {
             return Err(Refusal::BadName);
         };
-        let Ok(key) = KeyData::new(key) else {
-            return Err(Refusal::BadKey);
+        let key = match allowed_key(key, policy) {
+            Ok(key) => key,
+            Err(why) => return Err(why),
         };
         let address = match self.free_address(&name) {
             Ok(address) => address,
@@ -78,28 +158,25 @@ impl<H: NodeHash, V: Vuf, S: Signer, R: Rng> Directory<H, V, S, R> {
         self.accept(keeper, &what, &address, name, key)
     }
 
-    /// Promises to bind another key to a name, from the next epoch on.
-    ///
-    /// # Errors
-    ///
-    /// `BadName`, `BadKey`, `NoSuchName`, `PendingExists`, `Memory`, `KeepFailed`: the first that
-    /// applies.
-    pub fn change<K: Keeper>(
+    /// Changes a key as `change2` does, or, without a byte, as `change`.
+    pub fn change_with<K: Keeper>(
         &mut self,
         keeper: &mut K,
         name: &[u8],
         key: &[u8],
+        policy: Option<u8>,
     ) -> Result<SignedPromise, Refusal>
         ensures turn { Turn (provider H.digest_of V.value_of S.signature_of self.old) K.kept K.failed (book R.stream self.old) keeper.old
-            (Edit (Put Change name.now key.now)) (promised result) (book R.stream self.new) keeper.new }
+            (Edit (Put Change name.now (key.now, policy))) (promised result) (book R.stream self.new) keeper.new }
         ensures keys { HasKeysOf self.old self.new }
         ensures work { self.new.digests ≤ self.old.digests + 1 }
     {
         let Ok(name) = Name::new(name) else {
             return Err(Refusal::BadName);
         };
-        let Ok(key) = KeyData::new(key) else {
-            return Err(Refusal::BadKey);
+        let key = match allowed_key(key, policy) {
+            Ok(key) => key,
+            Err(why) => return Err(why),
         };
         let what = Record::Bound {
             verb: Verb::Change,
@@ -314,7 +391,7 @@ impl<H: NodeHash, V: Vuf, S: Signer, R: Rng> Directory<H, V, S, R> {
         what: &Record,
         address: &Address,
         name: &Name,
-        key: &KeyData,
+        key: &BoundKey,
         salt: Hash32,
     ) -> Result<(), Refusal>
         requires waits { at self.old.pending name.now ≡ None }
@@ -354,9 +431,9 @@ impl<H: NodeHash, V: Vuf, S: Signer, R: Rng> Directory<H, V, S, R> {
         what: &Record,
         address: &Address,
         name: Name,
-        key: KeyData,
+        key: BoundKey,
     ) -> Result<SignedPromise, Refusal>
-        requires limits { IsName name × IsKeyData key }
+        requires limits { IsName name × IsKeyData key.value }
         requires waits { at self.old.pending name ≡ None }
         requires addressed { address.now ≡ address_of (provider H.digest_of V.value_of S.signature_of self.old) name }
         requires free { let by = index_by (provider H.digest_of V.value_of S.signature_of self.old) in
@@ -385,7 +462,7 @@ impl<H: NodeHash, V: Vuf, S: Signer, R: Rng> Directory<H, V, S, R> {
         keeper: &mut K,
         what: &Record,
         name: &Name,
-        key: &KeyData,
+        key: &BoundKey,
         salt: Hash32,
     ) -> Result<Index, Refusal>
         ensures made { let by = index_by (provider H.digest_of V.value_of S.signature_of self.old) in MatchResult result
@@ -426,9 +503,9 @@ impl<H: NodeHash, V: Vuf, S: Signer, R: Rng> Directory<H, V, S, R> {
         keeper: &mut K,
         what: &Record,
         name: Name,
-        key: KeyData,
+        key: BoundKey,
     ) -> Result<SignedPromise, Refusal>
-        requires limits { IsName name × IsKeyData key }
+        requires limits { IsName name × IsKeyData key.value }
         ensures made { let by = index_by (provider H.digest_of V.value_of S.signature_of self.old) in MatchResult result
             (λ promise. (put_refusal by (book R.stream self.old) Change name ≡ None)
             × K.kept keeper.old what.now keeper.new
@@ -448,7 +525,7 @@ impl<H: NodeHash, V: Vuf, S: Signer, R: Rng> Directory<H, V, S, R> {
     }
 
     /// The promise to bind the key, which waits under the salt, to the name. The next salt is drawn.
-    fn accepted(&mut self, index: Index, name: Name, key: KeyData) -> SignedPromise
+    fn accepted(&mut self, index: Index, name: Name, key: BoundKey) -> SignedPromise
         requires { index ≡ index_by (provider H.digest_of V.value_of S.signature_of self.old) name }
         ensures made { (before : DirectoryState R) → HasKeysOf before self.old
             → book R.stream self.old ≡ with_bound (book R.stream before) name (record { key = key; salt = before.salt })
@@ -462,7 +539,7 @@ impl<H: NodeHash, V: Vuf, S: Signer, R: Rng> Directory<H, V, S, R> {
     }
 
     /// The promise, over the last root, to bind the key to the name.
-    pub(super) fn promised(&self, index: Index, name: Name, key: KeyData) -> SignedPromise
+    pub(super) fn promised(&self, index: Index, name: Name, key: BoundKey) -> SignedPromise
         requires { index ≡ index_by (provider H.digest_of V.value_of S.signature_of self.now) name }
         ensures { (salt : List ℕ) → Shows (provider H.digest_of V.value_of S.signature_of self.now) (book R.stream self.now) (Promised name (record { key = key; salt = salt })) (promised (Ok result)) }
     {
@@ -474,6 +551,30 @@ impl<H: NodeHash, V: Vuf, S: Signer, R: Rng> Directory<H, V, S, R> {
             key,
         };
         signed_promise(&self.signer, promise)
+    }
+}
+
+/// The key with the policy of this byte, if there is one, where both are allowed.
+fn allowed_key(value: &[u8], policy: Option<u8>) -> Result<BoundKey, Refusal>
+    ensures { MatchResult result
+        (λ key. IsKeyData key.value × (key ≡ bound_key (value.now, policy)) × ((late : List (Bool × RefusalOf)) → first (bad_key value.now ∷ bad_policy policy ∷ late) ≡ first late))
+        (λ why. (late : List (Bool × RefusalOf)) → first (bad_key value.now ∷ bad_policy policy ∷ late) ≡ Some why) }
+{
+    let Ok(value) = KeyData::new(value) else {
+        return Err(Refusal::BadKey);
+    };
+    match policy {
+        None => Ok(BoundKey {
+            value,
+            policy: None,
+        }),
+        Some(byte) => match Policy::new(byte) {
+            Ok(policy) => Ok(BoundKey {
+                value,
+                policy: Some(policy),
+            }),
+            Err(_) => Err(Refusal::BadPolicy),
+        },
     }
 }
 

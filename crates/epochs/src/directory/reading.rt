@@ -23,7 +23,7 @@ use crate::address::Address;
 use crate::history::Version;
 use crate::names::Names;
 use book::Refusal;
-use encoding::{Hash32, Index, KeyData, Name, ProofText};
+use encoding::{BoundKey, Hash32, Index, Name, ProofText};
 use nodehash::NodeHash;
 use prefixtree::End as PathEnd;
 use proofs::{End, make, write_front};
@@ -148,7 +148,7 @@ impl<H: NodeHash, V: Vuf, S: Signer, R: Rng> Directory<H, V, S, R> {
     }
 
     /// The index of a name, and the key that waits for it.
-    fn waiting(&self, name: &Name) -> Option<(Index, KeyData)>
+    fn waiting(&self, name: &Name) -> Option<(Index, BoundKey)>
         ensures key { option_map (λ found. found.1) result ≡ option_map (λ binding. binding.key) (at self.now.pending name.now) }
         ensures index { IfSome result (λ found. found.0 ≡ index_by (provider H.digest_of V.value_of S.signature_of self.now) name.now) }
     {
@@ -191,7 +191,7 @@ struct Sought<'a> {
 #[derive(Drop)]
 struct Opening {
     salt: Hash32,
-    key: KeyData,
+    key: BoundKey,
 }
 
 impl Sought<'_> {

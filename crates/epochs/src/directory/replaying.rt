@@ -14,7 +14,7 @@ use super::Directory;
 use crate::foreseen::{AT_ONCE, Foreseen};
 use book::{NoKeeper, Record, Refusal};
 use commands::Verb;
-use encoding::{Hash32, KeyData, Name};
+use encoding::{BoundKey, Hash32, Name};
 use nodehash::{NodeHash, NodeText};
 use rand_core::Rng;
 use sigiface::Signer;
@@ -62,7 +62,7 @@ impl<H: NodeHash, V: Vuf, S: Signer, R: Rng> Directory<H, V, S, R> {
         verb: Verb,
         salt: Hash32,
         name: &Name,
-        key: &KeyData,
+        key: &BoundKey,
     ) -> Result<(), Refusal>
         ensures replays { Replays R.stream (index_by (provider H.digest_of V.value_of S.signature_of self.old)) self.old (Bound verb salt name.now key.now) result self.new }
         ensures keys { HasKeysOf self.old self.new }
@@ -80,7 +80,7 @@ impl<H: NodeHash, V: Vuf, S: Signer, R: Rng> Directory<H, V, S, R> {
         what: &Record,
         salt: Hash32,
         name: &Name,
-        key: &KeyData,
+        key: &BoundKey,
     ) -> Result<(), Refusal>
         ensures replays { Replays R.stream (index_by (provider H.digest_of V.value_of S.signature_of self.old)) self.old (Bound Register salt name.now key.now) result self.new }
         ensures keys { HasKeysOf self.old self.new }
@@ -101,7 +101,7 @@ impl<H: NodeHash, V: Vuf, S: Signer, R: Rng> Directory<H, V, S, R> {
         what: &Record,
         salt: Hash32,
         name: &Name,
-        key: &KeyData,
+        key: &BoundKey,
     ) -> Result<(), Refusal>
         ensures replays { Replays R.stream (index_by (provider H.digest_of V.value_of S.signature_of self.old)) self.old (Bound Change salt name.now key.now) result self.new }
         ensures keys { HasKeysOf self.old self.new }

@@ -98,12 +98,12 @@ impl<H: NodeHash, V: Vuf, S: Signer, R: Rng> Directory<H, V, S, R> {
     /// Puts a key to a name.
     fn put<K: Keeper>(&mut self, keeper: &mut K, put: Put<'_>) -> Result<SignedPromise, Refusal>
         ensures turn { Turn (provider H.digest_of V.value_of S.signature_of self.old) K.kept K.failed (book R.stream self.old) keeper.old
-            (EditOf (PutOf put.entry.verb put.entry.name.now put.entry.key.now)) (replied.promised result) (book R.stream self.new) keeper.new }
+            (EditOf (PutOf put.entry.verb put.entry.name.now (put.entry.key.now, put.entry.policy))) (replied.promised result) (book R.stream self.new) keeper.new }
         ensures keys { HasKeysOf self.old self.new }
     {
         match put.verb {
-            Verb::Register => self.register(keeper, put.name, put.key),
-            Verb::Change => self.change(keeper, put.name, put.key),
+            Verb::Register => self.register_with(keeper, put.name, put.key, put.policy),
+            Verb::Change => self.change_with(keeper, put.name, put.key, put.policy),
         }
     }
 }

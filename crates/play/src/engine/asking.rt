@@ -1,7 +1,8 @@
 // What a line asks goes as one frame to session 0 of the hub, and the frame that comes back is told. A proof is
 // told by what the client makes of it, and the promise of a new key also goes to the monitors of its name.
 
-ghost use Rattle.std.specs.Prelude.{◌≡◌, ◌≢◌, ◌==◌, ◌++◌, ◌∷◌, [], if◌then◌else◌, IfOk, List, OnOk};
+ghost use Rattle.std.specs.Prelude.{◌≡◌, ◌≢◌, ◌==◌, ◌++◌, ◌∷◌, [], if◌then◌else◌, IfOk, List, None, OnOk};
+ghost use Rattle.commands.specs.Operations.{bound_key};
 ghost use Rattle.commands.specs.declared.edit.Verb.{Verb};
 ghost use Rattle.wire.specs.Frames.{frame_bytes, Frame, IsFrame};
 ghost use Rattle.wire.specs.FrameViews.{frame_seen};
@@ -11,6 +12,7 @@ ghost use Rattle.wire.specs.Responses.{response_seen, Refused, ResponseContent};
 ghost use Rattle.book.specs.Books.{Page};
 ghost use Rattle.book.specs.declared.directory_refusal.Refusal.TheVariants.{Memory};
 ghost use Rattle.book.specs.Refusals.{book_refusal_number};
+ghost use Rattle.book.specs.Steps.{bad_key, bad_policy, first};
 ghost use Rattle.book.specs.Shows.{index_of};
 ghost use Rattle.epochs.specs.DirectoryStates.{provider, HasKeysOf};
 ghost use Rattle.play.specs.Checked.{line_of_reply, HasAnswered, HasAskedKnowing, HasChecked, HasLooked, HasLookedUp};
@@ -31,7 +33,7 @@ use crate::ask::{Ask, token};
 use crate::laws::honest;
 use crate::telling::{tell_refusal, tell_response, tell_statement};
 use book::{NoKeeper, Refusal};
-use encoding::Name;
+use encoding::{BoundKey, KeyData, Name, Policy};
 use hub::{Event, replies_are_honest};
 use nodehash::NodeHash;
 use rand_core::Rng;
@@ -257,26 +259,62 @@ where
             → MayHand H.digest_of V.value_of S.signature_of R.stream V.accepted S.verified before asked self.old (ask_seen ask.now) reply.now watchers
             → OnOk result (HasHanded H.digest_of V.value_of S.signature_of R.stream V.accepted S.verified before asked self.old (ask_seen ask.now) watchers self.new) }
     {
-        let Ask::Put { name, key, .. } = ask else {
+        let Ask::Put {
+            name,
+            key,
+            policy,
+            ..
+        } = ask
+        else {
             return Ok(());
         };
-        self.hand_out(name, key, reply)
+        self.hand_out(name, key, *policy, reply)
     }
 
     /// Hands the promise of a key for a name to each monitor of the name, if the reply is one.
     #[inline(never)]
-    fn hand_out(&mut self, name: &[u8], key: &[u8], reply: &[u8]) -> Result<(), AllocError>
+    fn hand_out(
+        &mut self,
+        name: &[u8],
+        key: &[u8],
+        policy: Option<u8>,
+        reply: &[u8],
+    ) -> Result<(), AllocError>
         requires asked { (before : Parties R) × (asked : Parties R) × (verb : Verb) × (watchers : List Watcher)
-            × MayHand H.digest_of V.value_of S.signature_of R.stream V.accepted S.verified before asked self.old (Put verb name.now key.now) reply.now watchers }
+            × MayHand H.digest_of V.value_of S.signature_of R.stream V.accepted S.verified before asked self.old (Put verb name.now (key.now, policy)) reply.now watchers }
         ensures { (before asked : Parties R) (verb : Verb) (watchers : List Watcher)
-            → MayHand H.digest_of V.value_of S.signature_of R.stream V.accepted S.verified before asked self.old (Put verb name.now key.now) reply.now watchers
-            → OnOk result (HasHanded H.digest_of V.value_of S.signature_of R.stream V.accepted S.verified before asked self.old (Put verb name.now key.now) watchers self.new) }
+            → MayHand H.digest_of V.value_of S.signature_of R.stream V.accepted S.verified before asked self.old (Put verb name.now (key.now, policy)) reply.now watchers
+            → OnOk result (HasHanded H.digest_of V.value_of S.signature_of R.stream V.accepted S.verified before asked self.old (Put verb name.now (key.now, policy)) watchers self.new) }
     {
         let promise = body_of(reply);
         // Only a refusal has a body of one byte.
         if promise.len() == 1 {
             return Ok(());
         }
-        hand_all(&mut self.monitors, &mut self.checks, name, key, promise)
+        let key = accepted_key(key, policy);
+        hand_all(&mut self.monitors, &mut self.checks, name, &key, promise)
+    }
+}
+
+/// The key of a promise that was asked for and made, so that key and policy are allowed.
+fn accepted_key(key: &[u8], policy: Option<u8>) -> BoundKey
+    requires { first (bad_key key.now ∷ bad_policy policy ∷ []) ≡ None }
+    ensures { result ≡ bound_key (key.now, policy) }
+{
+    let Ok(value) = KeyData::new(key) else {
+        unreachable!()
+    };
+    match policy {
+        None => BoundKey {
+            value,
+            policy: None,
+        },
+        Some(byte) => match Policy::new(byte) {
+            Ok(policy) => BoundKey {
+                value,
+                policy: Some(policy),
+            },
+            Err(_) => unreachable!(),
+        },
     }
 }

@@ -2,7 +2,6 @@
 
 ghost use Rattle.std.specs.Prelude.{◌≡◌, OnOk};
 ghost use Rattle.std.specs.List.{AllByRecursion, AllZip};
-ghost use Rattle.encoding.specs.Limits.{IsKeyData};
 ghost use Rattle.rootchain.specs.Promises.{SpellsPromise};
 ghost use Rattle.rootchain.specs.declared.signed_promise.SignedPromise.{SignedPromise};
 ghost use Rattle.monitor.specs.Expecting.{IsNewPromise};
@@ -11,7 +10,7 @@ ghost use Rattle.play.specs.Handed.{IsHanded, MayBeHanded};
 
 use super::wanting::monitor_memory;
 use crate::Checks;
-use encoding::KeyData;
+use encoding::BoundKey;
 use monitor::Monitor;
 use nodehash::NodeHash;
 use sigiface::Signer;
@@ -23,10 +22,9 @@ pub(super) fn hand_all<H: NodeHash + Drop, V: Vuf + Drop, S: Signer + Drop>(
     monitors: &mut [Monitor<H, V, S>],
     checks: &mut Checks<H, V, S>,
     name: &[u8],
-    key: &[u8],
+    key: &BoundKey,
     promise: &[u8],
 ) -> Result<(), AllocError>
-    requires key { IsKeyData key.now }
     requires may { AllByRecursion (MayBeHanded H.digest_of S.verified name.now key.now promise.now) monitors.old }
     ensures { (promised : SignedPromise) → SpellsPromise promise.now promised → OnOk result (AllZip (IsHanded name.now promised) monitors.old monitors.new) }
 {
@@ -41,10 +39,9 @@ fn hand_to<H: NodeHash + Drop, V: Vuf + Drop, S: Signer + Drop>(
     monitor: &mut Monitor<H, V, S>,
     checks: &mut Checks<H, V, S>,
     name: &[u8],
-    key: &[u8],
+    key: &BoundKey,
     promise: &[u8],
 ) -> Result<(), AllocError>
-    requires key { IsKeyData key.now }
     requires may { MayBeHanded H.digest_of S.verified name.now key.now promise.now monitor.old }
     ensures { (promised : SignedPromise) → SpellsPromise promise.now promised → OnOk result (IsHanded name.now promised monitor.old monitor.new) }
 {
@@ -59,17 +56,13 @@ fn hand_to<H: NodeHash + Drop, V: Vuf + Drop, S: Signer + Drop>(
 fn hand_key<H: NodeHash + Drop, V: Vuf + Drop, S: Signer + Drop>(
     monitor: &mut Monitor<H, V, S>,
     checks: &mut Checks<H, V, S>,
-    key: &[u8],
+    key: &BoundKey,
     promise: &[u8],
 ) -> Result<(), AllocError>
-    requires key { IsKeyData key.now }
     requires new { (promised : SignedPromise) × IsNewPromise H.digest_of S.verified monitor.old key.now promise.now promised }
     ensures { (promised : SignedPromise) → SpellsPromise promise.now promised → OnOk result (monitor.new ≡ with_change monitor.old promised) }
 {
-    let Ok(key) = KeyData::new(key) else {
-        unreachable!()
-    };
-    match monitor.expect_change(&mut checks.hash, &checks.verifier, &key, promise) {
+    match monitor.expect(&mut checks.hash, &checks.verifier, key, promise) {
         Ok(()) => Ok(()),
         Err(why) => Err(monitor_memory(why)),
     }

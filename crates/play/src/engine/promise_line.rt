@@ -1,13 +1,13 @@
 // The line of a promise, of which no more is read than the epoch.
 
 ghost use Rattle.std.specs.Prelude.{◌≡◌, ◌++◌, ◌∷◌, [], OnOk, codes, decimal};
-ghost use Rattle.encoding.specs.Reading.{read_behind, read_number, Gives};
-ghost use Rattle.rootchain.specs.Promises.{promise_head, SpellsPromise};
+ghost use Rattle.encoding.specs.Reading.{read_both, read_number, read_version, Gives};
+ghost use Rattle.rootchain.specs.Promises.{promise_kind, SpellsPromise};
 ghost use Rattle.rootchain.specs.declared.signed_promise.SignedPromise.{SignedPromise as Signed};
 
 use crate::telling::push_number;
 use encoding::{Cursor, Fault};
-use rootchain::PROMISE_HEAD;
+use rootchain::PROMISE;
 use std::alloc::AllocError;
 
 /// Appends the line of a promise.
@@ -28,17 +28,14 @@ fn promise_epoch(promise: &[u8]) -> u64
 {
     let mut cursor = Cursor::new(promise);
     match read_epoch(&mut cursor) {
-        Ok(epoch) => epoch,
+        Ok((_, epoch)) => epoch,
         Err(_) => unreachable!(),
     }
 }
 
-/// The epoch of the promise at the front of the bytes.
-fn read_epoch(cursor: &mut Cursor<'_>) -> Result<u64, Fault>
-    ensures { Gives (λ epoch. epoch) result cursor.new (read_behind promise_head (read_number 8) cursor.old) }
+/// Whether the promise at the front of the bytes has a policy, and its epoch.
+fn read_epoch(cursor: &mut Cursor<'_>) -> Result<(bool, u64), Fault>
+    ensures { Gives (λ read. read) result cursor.new (read_both (read_version promise_kind) (read_number 8) cursor.old) }
 {
-    if cursor.take(2)? != PROMISE_HEAD.as_slice() {
-        return Err(Fault::OutOfRange);
-    }
-    cursor.u64()
+    Ok((cursor.version(PROMISE)?, cursor.u64()?))
 }

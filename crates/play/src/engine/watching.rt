@@ -23,7 +23,7 @@ use super::wanting::start;
 use crate::Checks;
 use crate::ask::Ask;
 use crate::telling::{tell_refusal, tell_step};
-use encoding::{KeyData, Name};
+use encoding::{BoundKey, Name};
 use monitor::Monitor;
 use nodehash::NodeHash;
 use rand_core::Rng;
@@ -43,7 +43,7 @@ where
     pub(super) fn watch(
         &mut self,
         name: &Name,
-        key: Option<&KeyData>,
+        key: Option<&BoundKey>,
         text: &mut Vec<u8>,
     ) -> Result<(), AllocError>
         requires at { (stand : Stand) × AreAt H.digest_of V.value_of S.signature_of R.stream V.accepted S.verified self.old stand }
@@ -56,7 +56,7 @@ where
     }
 
     /// Adds a monitor of a name, whose client starts at the head.
-    fn add_monitor(&mut self, name: &Name, key: Option<&KeyData>) -> Result<(), AllocError>
+    fn add_monitor(&mut self, name: &Name, key: Option<&BoundKey>) -> Result<(), AllocError>
         requires at { (stand : Stand) × AreAt H.digest_of V.value_of S.signature_of R.stream V.accepted S.verified self.old stand }
         ensures keys { OnOk result (HasKeysOf (self.old).hub.service.directory (self.new).hub.service.directory) }
         ensures added { (stand : Stand) → AreAt H.digest_of V.value_of S.signature_of R.stream V.accepted S.verified self.old stand → OnOk result (AreAt H.digest_of V.value_of S.signature_of R.stream V.accepted S.verified self.new (record stand { watchers = stand.watchers ++ watcher_of stand.book name.now (option_map (λ k. k.now) key.entry) ∷ [] })) }
@@ -68,8 +68,7 @@ where
             Some(key) => Some(key.copied()),
             None => None,
         };
-        self.monitors
-            .push(Monitor::new(self.alloc, client, name.copied(), key))?;
+        self.monitors.push(Monitor::from_start(self.alloc, client, name.copied(), key))?;
         Ok(())
     }
 

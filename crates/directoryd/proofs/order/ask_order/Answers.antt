@@ -11,11 +11,12 @@ returns c =
     let command : option_map (λ s. s.now) c.get_str-3.result ≡ first_of (codes "command") (rows_of found) = c.get_str-3.ensures ∙ first_value-rows found (codes "command") in
     let first : option_map (λ s. s.now) c.get_str-4.result ≡ first_of (codes "first") (rows_of found) = c.get_str-4.ensures ∙ first_value-rows found (codes "first") in
     let second : option_map (λ s. s.now) c.get_str-5.result ≡ first_of (codes "second") (rows_of found) = c.get_str-5.ensures ∙ first_value-rows found (codes "second") in
+    let third : option_map (λ s. s.now) c.get_str-6.result ≡ first_of (codes "third") (rows_of found) = c.get_str-6.ensures ∙ first_value-rows found (codes "third") in
     λ i. record {
       signing_key = [];
       token = token i;
       state = state i;
       address = c.text.ensures i;
-      words = command i ∷ first i ∷ second i ∷ [];
+      words = command i ∷ first i ∷ second i ∷ third i ∷ [];
       after = c.after.ensures i;
     }

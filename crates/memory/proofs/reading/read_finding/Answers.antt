@@ -1,5 +1,6 @@
-use Rattle.std.proofs.Common.{◌≡◌, ◌++◌, ◌∷◌, ℕ, List, Option, rules}
-use Rattle.memory.specs.Words.{HasNoSpace, IsFoundWord}
+use Rattle.std.proofs.Common.{◌≡◌, ◌++◌, ◌∷◌, Option, rules}
+use Rattle.encoding.specs.declared.bound_key.BoundKey.{BoundKey}
+use Rattle.memory.specs.Words.{HasNoSpace, IsFoundText}
 use Rattle.memory.proofs.SaidLines.{finding_two, no_finding}
 use Rattle.memory.proofs.reading.read_finding.Goals as goal
 
@@ -17,5 +18,5 @@ returns-in_default-read_number c =
 pub returns-in-None : goal.returns-in-None
 returns-in-None c =
     let parts : c.args.text.now ≡ c.first_part.result.0.now ++ 32 ∷ c.in_default-Some.behind.now = search rules in
-    let none : (found : Option (List ℕ)) → ¬ IsFoundWord c.in_default-Some.behind.now found = search rules in
+    let none : (found : Option BoundKey) → ¬ IsFoundText c.in_default-Some.behind.now found = search rules in
     λ finding is. none finding.1 (finding_two _ _ _ parts c.first_part.ensures.front finding is).1

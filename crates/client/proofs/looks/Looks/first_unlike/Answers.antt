@@ -1,4 +1,5 @@
 use Rattle.std.proofs.Common.{ℕ, List, [], Option, Vec, Global, inl, inr, refl, sym, subst, ◌∙◌}
+use Rattle.encoding.specs.declared.bound_key.BoundKey.{BoundKey}
 use Rattle.proofs.specs.Replies.{SpellsReply}
 use Rattle.client.specs.Agreements.{AllState, IsFirstOther}
 use Rattle.client.specs.Clients.{Look}
@@ -42,7 +43,7 @@ loop-place-preserved-in_default c =
       passed items_of c.args.others.now inv.0 c.loop-place.place-iterator c.next.new.self x (found_of c.loop-place.found) inv.2 c.in-Some.ensures.steps
           (inl
           (λ read spelled.
-          subst (λ (told : Option (List ℕ)). AllState c.args.others.now x.0.asked.name.items x.0.asked.epoch told)
+          subst (λ (told : Option BoundKey). AllState c.args.others.now x.0.asked.name.items x.0.asked.epoch told)
           (c.statement.ensures read (subst (λ (bytes : List ℕ). SpellsReply bytes read) (sym c.deref.ensures.value) spelled)) c.in_default.ensures)),
     )
 
@@ -59,7 +60,7 @@ loop-place-preserved c =
             name = c.deref-in-loop-place.ensures.value;
             one = c.deref-in-loop-place-2.ensures.value;
             other = λ read spelled.
-                subst (λ (told : Option (List ℕ)). IsFirstOther c.args.others.now x.0.asked.name.items x.0.asked.epoch told c.in-Some-first_other.other.now)
+                subst (λ (told : Option BoundKey). IsFirstOther c.args.others.now x.0.asked.name.items x.0.asked.epoch told c.in-Some-first_other.other.now)
                 (c.statement.ensures read (subst (λ (bytes : List ℕ). SpellsReply bytes read) (sym c.deref.ensures.value) spelled)) c.in-Some-first_other.ensures;
           })
           (not-before c.loop-place.found x.0.number (λ is. let yes-it = c.is_before.ensures.1 is in let not-it = c.if-is_before.false in absurd cc)),

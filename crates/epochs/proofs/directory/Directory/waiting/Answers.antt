@@ -1,5 +1,6 @@
-use Rattle.std.proofs.Common.{List, ℕ, Some, ap, rules, sym, ◌∙◌}
+use Rattle.std.proofs.Common.{Some, ap, rules, sym, ◌∙◌}
 use Rattle.std.specs.Option.{option_map}
+use Rattle.encoding.specs.declared.bound_key.BoundKey.{BoundKey}
 use Rattle.book.specs.Books.{Binding}
 use Rattle.epochs.specs.declared.address.Address.{Address}
 use Rattle.epochs.specs.Directories.{parts_of, state_of}
@@ -15,7 +16,7 @@ returns-in_default-clause-key g c =
 pub returns-in-Some-waiting-clause-key : goal.returns-in-Some-waiting-clause-key
 returns-in-Some-waiting-clause-key g c =
     rw (← c.self.view_is)
-    (ap (λ (key : List ℕ). Some key) c.key.ensures
+    (ap (λ (key : BoundKey). Some key) c.key.ensures
     ∙ ap (option_map (λ (binding : Binding). binding.key))
     (c.in-Some-waiting.ensures
     ∙ waits_there _ (parts_of c.self.inside) _ _ c.self.invariant.0 c.args.name.now c.len.result (search rules) c.in-Some.history.now.versions (rw c.bytes.ensures.value at c.in-Some.ensures.versions)))

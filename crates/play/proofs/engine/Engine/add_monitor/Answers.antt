@@ -27,8 +27,8 @@ pub returns-clause-added : goal.returns-clause-added
 returns-clause-added g c = λ stand all.
     let key : c.match-key.key ≡ option_map (λ k. k.now) c.args.key = elim c.match-key.branch [ in-Some w ↦ search rules | in-None w ↦ search rules ] in
     let name : c.copied-2.result ≡ c.args.name.now = c.copied-2.ensures in
-    let one : c.new.result ≡ new_monitor c.in_ok-client.client c.args.name.now (option_map (λ k. k.now) c.args.key)
-    = c.new.ensures ∙ ap (λ (n : List ℕ). new_monitor c.in_ok-client.client n c.match-key.key) name ∙ ap (new_monitor c.in_ok-client.client c.args.name.now) key in
+    let one : c.from_start.result ≡ new_monitor c.in_ok-client.client c.args.name.now (option_map (λ k. k.now) c.args.key)
+    = c.from_start.ensures ∙ ap (λ (n : List ℕ). new_monitor c.in_ok-client.client n c.match-key.key) name ∙ ap (new_monitor c.in_ok-client.client c.args.name.now) key in
     let items : c.push.new.self.items ≡ c.self.inside.monitors.items ++ new_monitor c.in_ok-client.client c.args.name.now (option_map (λ k. k.now) c.args.key) ∷ []
     = c.in_ok-push.ensures.items ∙ ap (λ (m : Monitor). c.self.inside.monitors.items ++ m ∷ []) one in
     let starts : Starts g.S.Verifier.verified c.args.self.now.key c.body_of.result.now (Ok c.in_ok-client.client)

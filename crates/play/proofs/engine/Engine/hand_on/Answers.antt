@@ -8,8 +8,8 @@ use Rattle.play.proofs.engine.Engine.hand_on.Goals as goal
 pub hand_out-requires : goal.hand_out-requires
 hand_out-requires g c =
     let (before, asked, watchers, may) = c.requires.asked in
-    let is : ask_seen c.args.ask.now ≡ Put c.in-Put.verb c.deref.result.now c.deref-2.result.now
-    = ap ask_seen c.in-Put.is ∙ ap₂ (λ (name key : List ℕ). Put c.in-Put.verb name key) (sym c.deref.ensures.value) (sym c.deref-2.ensures.value) in
+    let is : ask_seen c.args.ask.now ≡ Put c.in-Put.verb c.deref.result.now (c.deref-2.result.now, c.in-Put.policy)
+    = ap ask_seen c.in-Put.is ∙ ap₂ (λ (name key : List ℕ). Put c.in-Put.verb name (key, c.in-Put.policy)) (sym c.deref.ensures.value) (sym c.deref-2.ensures.value) in
     record {
       asked = (
         before,

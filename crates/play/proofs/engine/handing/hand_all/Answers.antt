@@ -9,10 +9,12 @@ use Rattle.play.proofs.engine.handing.hand_all.Goals as goal
 pub loop-monitor-init : goal.loop-monitor-init
 loop-monitor-init g c = (moved-begin (λ (before after : Monitor). ⊤) c.args.monitors.now, λ promised spelled. moved-begin (IsHanded c.args.name.now promised) c.args.monitors.now)
 
-pub hand_to-requires-clause-may : goal.hand_to-requires-clause-may
-hand_to-requires-clause-may g c =
-    still-holds (MayBeHanded g.H.NodeHash.digest_of g.S.Verifier.verified c.args.name.now c.args.key.now c.args.promise.now) (λ (before after : Monitor). ⊤)
-    c.args.monitors.now c.loop-monitor.monitors c.loop-monitor.monitor-index c.loop-monitor.auto.monitors (omega arith) c.loop-monitor.invariant.0 c.requires.may c.monitor-item.result
+pub hand_to-requires : goal.hand_to-requires
+hand_to-requires g c =
+    record {
+      may = still-holds (MayBeHanded g.H.NodeHash.digest_of g.S.Verifier.verified c.args.name.now c.args.key.now c.args.promise.now) (λ (before after : Monitor). ⊤)
+          c.args.monitors.now c.loop-monitor.monitors c.loop-monitor.monitor-index c.loop-monitor.auto.monitors (omega arith) c.loop-monitor.invariant.0 c.requires.may c.monitor-item.result;
+    }
 
 pub loop-monitor-preserved : goal.loop-monitor-preserved
 loop-monitor-preserved g c = (

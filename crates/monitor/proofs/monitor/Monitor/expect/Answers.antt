@@ -4,7 +4,7 @@ use Rattle.monitor.specs.Expecting.{MayExpect}
 use Rattle.monitor.specs.Views.{monitor_of}
 use Rattle.monitor.proofs.Expected.{expects-above}
 use Rattle.monitor.proofs.Watching.{change-watching}
-use Rattle.monitor.proofs.monitor.Monitor.expect_change.Goals as goal
+use Rattle.monitor.proofs.monitor.Monitor.expect.Goals as goal
 
 pub invariant_of-self-2 : goal.invariant_of-self-2
 invariant_of-self-2 g c =
