@@ -408,7 +408,7 @@ class Asked(Followed):
     def __init__(self, provider, roots=None, kept=(), path="state", after=None):
         super().__init__(provider)
         self.saved, self.found, self.path, self.after = roots or [], Memory.read(kept), path, after
-        self.changes, self.settled, self.is_answered = [], None, False
+        self.changes, self.settled = [], None
 
     def run(self, script, words=()):
         """Asks the lines of a script, or the words of the command line, of which the script is then the only line."""
@@ -515,7 +515,6 @@ class Asked(Followed):
     def answer(self, request, is_told=True):
         """Asks a request, and tells what comes back: at the beginning only where it is refused."""
         before, got = self.head_epoch(), self.ask(*request)
-        self.is_answered = True
         if got is None:
             return
         kind, value, body = got
@@ -630,8 +629,7 @@ class Asked(Followed):
 
     def state(self):
         """The lines of the two files after the run."""
-        # The root at which a chain begins is kept once the directory has answered again.
-        roots = [root.write() for root in self.client.chain.roots] if self.is_answered else self.saved
+        roots = self.saved if self.client is None else [root.write() for root in self.client.chain.roots]
         return [root.hex() for root in roots], self.memory().write()
 
     def memory(self):

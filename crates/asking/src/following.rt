@@ -1,7 +1,7 @@
 // The client and its monitors take the roots that are new.
 ghost use Rattle.std.specs.Prelude.{◌≡◌, ◌≢◌, Err, IfErr, IfOk, OnOk};
 ghost use Rattle.std.specs.List.{AllZip};
-ghost use Rattle.asking.specs.Askers.{asker_client, asker_marks};
+ghost use Rattle.asking.specs.Askers.{asker_client};
 ghost use Rattle.asking.specs.Catching.{Advances, AdvancesSome};
 ghost use Rattle.asking.specs.Exchanges.{ExchangesFrames};
 ghost use Rattle.asking.specs.Following.{AllUpdate, AnyRefuses, IsBelow, MonitorUpdates, OneRefuses, RefusesList, StopsList, TakesList, TellsRootRefusal};

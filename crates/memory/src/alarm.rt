@@ -1,6 +1,6 @@
 use encoding::{BoundKey, Name};
 
-/// A key, or absence, that the owner of a name did not expect at an epoch.
+/// A key with its policy, or absence, that the owner of a name did not expect at an epoch.
 #[derive(Drop, PartialEq, Eq)]
 pub struct Alarm {
     pub name: Name,

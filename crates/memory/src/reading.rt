@@ -4,7 +4,7 @@ ghost use Rattle.std.specs.Prelude.{◌≡◌, ◌↔◌, ◌∷◌, ◌++◌, c
 ghost use Rattle.audits.specs.Files.{evidence_text};
 ghost use Rattle.memory.specs.Finding.{Finds};
 ghost use Rattle.memory.specs.Lines.{promise_word, IsEvidenceLine, IsLineOf};
-ghost use Rattle.memory.specs.Words.{HasNoSpace, IsAlarmText, IsFinding, IsMarkText, IsSpan};
+ghost use Rattle.memory.specs.Words.{HasNoSpace, IsFinding, IsSpan};
 
 use crate::words::{first_part, read_found, read_name, read_number, read_promise};
 use crate::{Alarm, EvidenceLine, Item, Mark, Promised};

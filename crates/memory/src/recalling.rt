@@ -1,6 +1,6 @@
 // The memory that a text spells, line by line.
 
-ghost use Rattle.std.specs.Prelude.{◌≡◌, ◌∷◌, ◌<◌, length, MatchResult};
+ghost use Rattle.std.specs.Prelude.{◌≡◌, ◌∷◌, ◌<◌, length};
 ghost use Rattle.textio.specs.Lines.{lines_of};
 ghost use Rattle.memory.specs.Texts.{IsRead, TakesLine};
 

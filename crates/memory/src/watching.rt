@@ -1,6 +1,6 @@
 // How far a name was watched by its monitors, and which promises they still need.
 
-ghost use Rattle.std.specs.Prelude.{◌≡◌, ◌↔◌, ◌∷◌, ◌++◌, [], List, IsTrue};
+ghost use Rattle.std.specs.Prelude.{◌↔◌, ◌∷◌, ◌++◌, [], List, IsTrue};
 ghost use Rattle.monitor.specs.Monitors.{Monitor as Watcher};
 ghost use Rattle.memory.specs.Watching.{IsAwaited, IsWatchedUpTo, WatchedUpTo};
 

@@ -1,7 +1,7 @@
 // The lines of what is remembered. Each function appends to the text; an `Err` says that memory ran out, and some of
 // the line may then stand behind what the text was.
 
-ghost use Rattle.std.specs.Prelude.{◌≡◌, ◌++◌, ◌∷◌, [], OnErr, OnOk, Some, codes, decimal};
+ghost use Rattle.std.specs.Prelude.{◌≡◌, ◌++◌, ◌∷◌, [], OnErr, OnOk, Some, decimal};
 ghost use Rattle.std.specs.Io.{StartsWith};
 ghost use Rattle.encoding.specs.Limits.{IsName};
 ghost use Rattle.hex.specs.Hex.{encode_lower};

@@ -1,6 +1,5 @@
 // Whether the last epoch that was watched of a name, or the head's, is as late as an order wants it.
 ghost use Rattle.std.specs.Prelude.{◌≡◌, IfErr, IfOk, None, OnOk, Some, option_map};
-ghost use Rattle.memory.specs.declared.mark.Mark.{Mark as Marked};
 ghost use Rattle.std.specs.Io.KnownBytes.{Appends};
 ghost use Rattle.textio.specs.Output.{WritesSome};
 ghost use Rattle.textio.specs.declared.program_fault.ProgramFault.TheVariants.{CannotWrite};

@@ -548,7 +548,11 @@ impl Run {
         if self.state.is_none() {
             return self.settle(asker, Ok(()), keeper, writer, errors);
         }
-        let reply = asker.send(stream, &Ask::Head)?;
+        let reply = match asker.send(stream, &Ask::Head) {
+            Ok(reply) => reply,
+            // The root at which a chain began is kept all the same.
+            Err(fault) => return self.settle(asker, Err(fault), keeper, writer, errors),
+        };
         self.catch_up(asker, reply.epoch(), keeper, stream, writer, errors)?;
         let prepared = self.look_around(asker, &reply, stream);
         let settled = self.settle(asker, prepared, keeper, writer, errors);

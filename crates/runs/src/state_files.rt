@@ -3,7 +3,7 @@
 // the disk before more is told. At the end of a run a new second file, without the lines that no longer hold, takes the
 // place of the old one. A line without its LF was cut short, and is dropped. Contracts do not know what a file holds:
 // `scripts/states.py` shows it.
-ghost use Rattle.std.specs.Prelude.{◌≡◌, ◌≢◌, ◌⊎◌, ◌≤◌, ◌++◌, ℕ, [], All, length, List, IfErr, IfOk, Ok, OnOk};
+ghost use Rattle.std.specs.Prelude.{◌≡◌, ◌≢◌, ◌≤◌, ◌++◌, ℕ, [], All, length, List, IfErr, IfOk, Ok};
 ghost use Rattle.textio.specs.declared.program_fault.ProgramFault.TheVariants.{OutOfMemory};
 ghost use Rattle.memory.specs.Memories.{nothing};
 ghost use Rattle.memory.specs.Texts.{HasWholeLines, Spells};

@@ -27,14 +27,14 @@ fn promise_epoch(promise: &[u8]) -> u64
     ensures { (signed : Signed) → SpellsPromise promise.now signed → result ≡ signed.promise.epoch }
 {
     let mut cursor = Cursor::new(promise);
-    match read_epoch(&mut cursor) {
+    match read_front(&mut cursor) {
         Ok((_, epoch)) => epoch,
         Err(_) => unreachable!(),
     }
 }
 
 /// Whether the promise at the front of the bytes has a policy, and its epoch.
-fn read_epoch(cursor: &mut Cursor<'_>) -> Result<(bool, u64), Fault>
+fn read_front(cursor: &mut Cursor<'_>) -> Result<(bool, u64), Fault>
     ensures { Gives (λ read. read) result cursor.new (read_both (read_version promise_kind) (read_number 8) cursor.old) }
 {
     Ok((cursor.version(PROMISE)?, cursor.u64()?))

@@ -1,4 +1,4 @@
-use Rattle.std.proofs.Common.{rules, ◌≡◌, ◌∙◌, None, ap, inr, option_map}
+use Rattle.std.proofs.Common.{rules, ◌≡◌, ◌∙◌, None, ap, inr}
 use Rattle.runs.specs.AskOptions.{ask_values}
 use Rattle.directoryd.specs.Orders.{texts_of}
 use Rattle.directoryd.specs.Programs.{wrong_line}
