@@ -1,7 +1,7 @@
 #!/usr/bin/env python3
 """The reference model of the directory: every byte form and every check, by Python's standard library alone.
 
-    scripts/formats.py                   prints the worked frames of docs/OPERATING.md, field by field in hex
+    scripts/formats.py                   prints the worked frames of docs/FORMATS.md, field by field in hex
     scripts/formats.py --keys            prints the options of the directory that they are of
     scripts/formats.py --ask HOST:PORT   asks such a directory that listens, and compares its replies
     scripts/formats.py --again HOST:PORT the same over another connection, without the changes

@@ -79,7 +79,7 @@ stops() {
 needs directoryd "$program"
 needs example_client "$example"
 keys=$(scripts/formats.py --keys)
-well "the document has the frames that are computed" scripts/formats.py --in docs/OPERATING.md
+well "the document has the frames that are computed" scripts/formats.py --in docs/FORMATS.md
 
 # Over the standard streams.
 scripts/formats.py --requests >"$folder/requests"

@@ -106,22 +106,23 @@ class Picture:
 
 
 def look_up():
-    picture = Picture(920, 590, "How a look-up is proved")
+    picture = Picture(940, 640, "How a look-up is proved")
     draw_index(picture)
     draw_path(picture)
-    draw_roots(picture)
+    draw_body(picture)
+    draw_chain(picture)
     for x, kind, words in [
         (24, "sent", "in the reply"),
         (150, "plain", "what the client asks about or computes"),
-        (440, "held", "in the chain that the client has, with the same body"),
+        (440, "held", "in the chain that the client has"),
     ]:
-        picture.rect(x, 558, 18, 14, kind)
-        picture.text(x + 26, 570, words, "note", "start")
+        picture.rect(x, 608, 18, 14, kind)
+        picture.text(x + 26, 620, words, "note", "start")
     return picture
 
 
 def draw_index(picture):
-    """From the name to its index."""
+    """From the name to its index, whose bits choose the way."""
     picture.box(24, 32, 190, 44, "name", "alice")
     picture.arrow((119, 76), (119, 140))
     picture.text(128, 100, "verifiable function: the\nprovider computes it,\nanyone can check it", "note", "start")
@@ -129,8 +130,9 @@ def draw_index(picture):
     picture.arrow((119, 184), (119, 236))
     picture.text(128, 214, "hash", "note", "start")
     picture.box(24, 236, 190, 44, "index", "256 bits: 0 1 …")
-    picture.arrow((119, 280), (119, 356), (372, 356))
-    picture.text(128, 378, "its bits choose the way from the\nroot: 0 for left, 1 for right", "note", "start")
+    picture.arrow((214, 258), (316, 258), (316, 234), (392, 234))
+    picture.arrow((272, 258), (272, 121), (408, 121))
+    picture.text(24, 304, "Bit 0 chooses the side below the\nroot, bit 1 the side below that:\n0 for left, 1 for right.", "note", "start")
     picture.text(24, 452, "If the name has no key, what stands at the\nend of the path is an empty node or the\nleaf of another index.", "note", "start")
 
 
@@ -141,8 +143,8 @@ def draw_path(picture):
     picture.line((450, 76), (530, 166))
     picture.line((370, 210), (460, 300), kind="way")
     picture.line((370, 210), (310, 300))
-    picture.text(398, 118, "0", "strong", "end")
-    picture.text(428, 250, "1", "strong", "start")
+    picture.text(438, 138, "0", "strong")
+    picture.text(430, 248, "1", "strong", "start")
     picture.box(370, 32, 160, 44, "tree root", "hash of the two below")
     picture.box(290, 166, 160, 44, "node", "hash of the two below")
     picture.box(470, 166, 110, 44, "sibling", "hash", "sent")
@@ -154,62 +156,83 @@ def draw_path(picture):
     picture.box(372, 496, 196, 36, "salt and key", "", "sent")
 
 
-def draw_roots(picture):
-    """The body that has the root hash, its signature and the chain."""
-    picture.rect(640, 32, 256, 212, "held")
-    picture.text(768, 52, "signed root of epoch 3", "strong")
-    picture.rect(652, 62, 232, 134, "sent")
-    picture.text(768, 80, "body", "strong")
-    parts = ["root hash", "epoch, epoch before", "hash of the body before", "nonce", "key of the verifiable function"]
-    for row, words in enumerate(parts):
-        picture.text(768, 100 + 20 * row, words, "note")
-    picture.text(768, 216, "signature of the body,\nunder the provider's key", "note")
-    picture.arrow((530, 54), (612, 54), (612, 96), (652, 96))
-    picture.text(582, 46, "must be equal", "note")
-    picture.arrow((768, 244), (768, 308))
-    picture.text(760, 272, "names the one before,\nby the hash of its body", "note", "end")
-    picture.box(640, 308, 256, 44, "signed root of epoch 2", "", "held")
-    picture.arrow((768, 352), (768, 410))
-    picture.box(640, 410, 256, 44, "signed root of epoch 1", "", "held")
-    picture.text(768, 480, "chain of the provider", "strong")
-    picture.text(768, 498, "clients and auditors compare their chains", "note")
+BODY = ["epoch, epoch before", "hash of the body before", "nonce", "key of the verifiable function"]
+
+
+def draw_body(picture):
+    """The body that comes in the reply, whose root hash the path has to lead from."""
+    picture.rect(660, 32, 256, 130, "sent")
+    for row, words in enumerate(["body", "root hash", *BODY]):
+        picture.text(788, 52 + 20 * row, words, "note" if row else "strong")
+    picture.arrow((530, 54), (620, 54), (620, 68), (660, 68))
+    picture.text(590, 46, "must be equal", "note")
+    picture.arrow((788, 191), (788, 162))
+    picture.arrow((788, 191), (788, 220))
+    picture.text(780, 188, "must be equal,\nbyte for byte", "note", "end")
+
+
+def draw_chain(picture):
+    """The chain, whose root of this epoch has the body too, under a signature."""
+    picture.rect(660, 220, 256, 132, "held")
+    picture.text(788, 240, "signed root of epoch 3", "strong")
+    picture.rect(672, 250, 232, 50, "held")
+    picture.text(788, 270, "body", "strong")
+    picture.text(788, 288, "the same fields", "note")
+    picture.text(788, 322, "signature of the body,\nunder the provider's key", "note")
+    picture.arrow((788, 352), (788, 410))
+    picture.text(780, 378, "names the one before,\nby the hash of its body", "note", "end")
+    picture.box(660, 410, 256, 44, "signed root of epoch 2", "", "held")
+    picture.arrow((788, 454), (788, 496))
+    picture.box(660, 496, 256, 44, "signed root of epoch 1", "", "held")
+    picture.text(788, 566, "chain of the provider", "strong")
+    picture.text(788, 584, "clients and auditors compare their chains", "note")
 
 
 # Who talks to whom -------------------------------------------------------------------------------
 
 
 def talks():
-    picture = Picture(920, 590, "Who talks to whom")
-    picture.box(380, 20, 160, 44, "operator", "has the token")
-    picture.arrow((460, 64), (460, 108))
-    picture.text(468, 90, "close the epoch", "note", "start")
-    picture.box(380, 108, 160, 290, "provider", "runs the directory;\nnobody has to trust it")
+    picture = Picture(980, 590, "Who talks to whom")
+    picture.box(410, 20, 160, 44, "operator", "has the token")
+    picture.arrow((490, 64), (490, 108))
+    picture.text(498, 90, "close the epoch", "note", "start")
+    picture.box(410, 108, 160, 290, "provider", "runs the directory;\nnobody has to trust it")
     for x, y, name, words, request, answer in [
-        (20, 108, "user's client", "chain, looks, promises", "register, change, look up", "promise, reply, signed roots"),
-        (20, 318, "another user's client", "chain, looks, promises", "look up", "reply, signed roots"),
-        (720, 108, "owner's monitor", "a client that watches one\nname, epoch by epoch", "look up its name", "reply, signed roots"),
-        (720, 318, "auditor", "a chain of each provider", "ask for roots", "signed roots"),
+        (44, 108, "user's client", "chain, looks, promises", "register, change, look up", "promise, reply, signed roots"),
+        (44, 318, "another user's client", "chain, looks, promises", "look up", "reply, signed roots"),
+        (756, 108, "owner's monitor", "a client that watches one\nname, epoch by epoch", "look up its name", "reply, signed roots"),
+        (756, 318, "auditor", "a chain of each provider", "ask for roots", "signed roots"),
     ]:
         picture.box(x, y, 180, 80, name, words, "held")
-        near, far = (200, 380) if x < 380 else (720, 540)
+        near, far = (224, 410) if x < 410 else (756, 570)
         picture.arrow((near, y + 26), (far, y + 26))
         picture.arrow((far, y + 62), (near, y + 62))
         picture.text((near + far) / 2, y + 18, request, "note")
         picture.text((near + far) / 2, y + 54, answer, "note")
-    picture.line((110, 188), (110, 318), kind="dashed")
-    picture.text(118, 250, "compare chains\nand looks", "note", "start")
-    picture.line((810, 188), (810, 318), kind="dashed")
-    picture.text(802, 250, "compare\nsigned roots", "note", "end")
-    picture.line((110, 398), (110, 446), (810, 446), (810, 398), kind="dashed")
-    picture.text(460, 438, "compare signed roots", "note")
-    picture.arrow((460, 446), (460, 492))
-    picture.text(468, 474, "evidence, if the provider told two things", "note", "start")
-    picture.box(380, 492, 160, 44, "anyone", "judges the evidence")
-    picture.line((24, 568), (64, 568))
-    picture.text(72, 572, "frames to and from the directory", "note", "start")
-    picture.line((320, 568), (360, 568), kind="dashed")
-    picture.text(368, 572, "ways of their own, which do not lead through the provider", "note", "start")
+    draw_comparisons(picture)
+    for x, kind, words in [
+        (24, "line", "frames to and from the directory"),
+        (300, "dashed", "ways of their own, which do not lead through the provider"),
+        (740, "way", "evidence"),
+    ]:
+        picture.line((x, 568), (x + 40, 568), kind=kind)
+        picture.text(x + 48, 572, words, "note", "start")
     return picture
+
+
+def draw_comparisons(picture):
+    """The three comparisons, each of which may give evidence that anyone can judge."""
+    picture.line((134, 188), (134, 318), kind="dashed")
+    picture.text(142, 250, "compare chains\nand looks", "note", "start")
+    picture.line((846, 188), (846, 318), kind="dashed")
+    picture.text(838, 250, "compare\nsigned roots", "note", "end")
+    picture.line((134, 398), (134, 446), (846, 446), (846, 398), kind="dashed")
+    picture.text(490, 438, "compare signed roots", "note")
+    picture.arrow((134, 253), (24, 253), (24, 514), (410, 514), kind="way")
+    picture.arrow((846, 253), (956, 253), (956, 514), (570, 514), kind="way")
+    picture.arrow((490, 446), (490, 492), kind="way")
+    picture.text(217, 506, "evidence, if the provider told two things", "note")
+    picture.box(410, 492, 160, 44, "anyone", "judges the evidence")
 
 
 # The crates in layers ----------------------------------------------------------------------------

@@ -1,4 +1,4 @@
-"""The worked frames of docs/OPERATING.md, what the scripts compare a running directory with, and the options of
+"""The worked frames of docs/FORMATS.md, what the scripts compare a running directory with, and the options of
 scripts/formats.py.
 """
 
