@@ -1,4 +1,3 @@
-pub mod Changing
 pub mod Contradicting
 pub mod Following
 pub mod Holding

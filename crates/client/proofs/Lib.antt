@@ -3,15 +3,12 @@ pub mod Rooted
 pub mod Breaking
 pub mod Growing
 pub mod Keeping
-pub mod ByNames
 pub mod Tested
 pub mod Groups
 pub mod Seen
 pub mod Others
 pub mod Passed
 pub mod Unlikes
-pub mod Changed
-pub mod Latest
 pub mod Telling
 pub mod InBytes
 pub mod InPieces

@@ -5,7 +5,6 @@ ghost use Rattle.client.specs.Starting.{Starts};
 ghost use Rattle.client.specs.declared.client_refusal.Refusal.TheVariants.{Memory};
 
 use crate::kept::KeptPromises;
-use crate::kept_looks::KeptLooks;
 use crate::looks::Looks;
 use crate::roots::has_root_of;
 use crate::{Refusal, RootRefusal};
@@ -18,7 +17,6 @@ use std::marker::{Model, PhantomData};
 use vrfiface::VufCheck;
 
 mod dues;
-mod finality;
 mod looking;
 mod updating;
 mod updating_from;
@@ -28,7 +26,7 @@ mod updating_from;
 #[derive(Drop)]
 pub struct Client<H: NodeHash, V: VufCheck, S: Verifier> {
     chain: Chain<H, S>,
-    looks: KeptLooks<H>,
+    looks: Looks,
     promises: KeptPromises,
     types: PhantomData<V>,
 }
@@ -58,7 +56,7 @@ impl<H: NodeHash, V: VufCheck, S: Verifier> Client<H, V, S> {
         match Chain::start(alloc, verifier, key, root) {
             Ok(chain) => Ok(Client {
                 chain,
-                looks: KeptLooks::new(alloc),
+                looks: Looks::new(alloc),
                 promises: KeptPromises::new(alloc),
                 types: PhantomData,
             }),
@@ -79,7 +77,7 @@ impl<H: NodeHash, V: VufCheck, S: Verifier> Client<H, V, S> {
         ensures value { result.now ≡ self.now.looks }
         ensures sound { IsSoundClient H.digest_of V.accepted S.verified self.now }
     {
-        self.looks.all()
+        &self.looks
     }
 
     /// The public key of the provider.

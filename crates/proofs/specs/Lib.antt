@@ -1,5 +1,4 @@
 pub mod Accepts
-pub mod BrokenFinals
 pub mod BrokenPromises
 pub mod Comparisons
 pub mod Honest

@@ -11,7 +11,6 @@ ghost use Rattle.proofs.specs.Views.{key_stated};
 
 use super::{LookPlace, Looks};
 use proofs::{ReplyView, Statement};
-use std::rc::Rc;
 
 /// Two looks for one name and epoch whose replies state two things.
 #[derive(Drop)]
@@ -24,7 +23,7 @@ pub(crate) struct Unlike<'a> {
 }
 
 /// What a reply states that was accepted.
-pub(crate) fn statement(reply: &[u8]) -> Statement<'_>
+fn statement(reply: &[u8]) -> Statement<'_>
     requires { SpellsOne reply.now }
     ensures { (read : Reply) → SpellsReply reply.entry.now read → key_stated result ≡ stated read.end }
 {
@@ -32,13 +31,6 @@ pub(crate) fn statement(reply: &[u8]) -> Statement<'_>
         unreachable!()
     };
     view.statement()
-}
-
-/// The bytes of a reply.
-fn bytes(reply: &Rc<Vec<u8>>) -> &[u8]
-    ensures { result.now ≡ reply.entry.now.value.items }
-{
-    reply.as_slice()
 }
 
 /// Whether an accepted reply states this.
@@ -87,8 +79,8 @@ impl Looks {
             if !place.is_beside(other) {
                 return found;
             }
-            if !states(bytes(reply), told) {
-                found = Some(bytes(reply));
+            if !states(reply, told) {
+                found = Some(reply);
             }
         }
         found
@@ -106,8 +98,8 @@ impl Looks {
             if !place.is_beside(other) {
                 return None;
             }
-            if !states(bytes(reply), told) {
-                return Some(bytes(reply));
+            if !states(reply, told) {
+                return Some(reply);
             }
         }
         None
@@ -127,13 +119,13 @@ impl Looks {
             if is_before(&found, place.number) {
                 continue;
             }
-            let Some(other) = others.first_other(place, &statement(bytes(reply))) else {
+            let Some(other) = others.first_other(place, &statement(reply)) else {
                 continue;
             };
             found = Some(Unlike {
                 number: place.number,
                 name: &place.asked.name,
-                one: bytes(reply),
+                one: reply,
                 other,
             });
         }
