@@ -1,3 +1,4 @@
+pub mod Changing
 pub mod Contradicting
 pub mod Following
 pub mod Holding

@@ -1,4 +1,4 @@
-use proofs::BrokenPromise;
+use proofs::{BrokenFinal, BrokenPromise};
 use rootchain::RootEvidence;
 
 /// What shows anyone that a provider cheated, if it holds (CONIKS, section 4).
@@ -8,4 +8,6 @@ pub enum Evidence {
     Root(RootEvidence),
     /// A promise that is said not to have been kept.
     Broken(BrokenPromise),
+    /// A final binding that is said to have been changed.
+    Final(BrokenFinal),
 }

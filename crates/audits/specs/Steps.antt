@@ -1,5 +1,8 @@
 -- The parts of a file, and the answer to a line, for private clauses.
 use Rattle.std.specs.Prelude.{◌≡◌, ℕ, List, ◌++◌, Result, Ok, Err, ⊤}
+use Rattle.encoding.specs.Forms.{counted_bytes}
+use Rattle.encoding.specs.Limits.{IsName}
+use Rattle.proofs.specs.declared.broken_final.BrokenFinal.{BrokenFinal}
 use Rattle.proofs.specs.declared.broken_promise.BrokenPromise.{BrokenPromise}
 use Rattle.proofs.specs.Replies.{Reply, SpellsReply}
 use Rattle.rootchain.specs.declared.root_refusal.Refusal.{Refusal}
@@ -30,6 +33,16 @@ IsRootWithProof bytes pair = (bytes ≡ signed_root_bytes pair.0 ++ pair.1) × I
 abbrev pub IsBroken : List ℕ → List ℕ → BrokenPromise → Type 0
 IsBroken first second broken =
     ((first ≡ signed_promise_bytes broken.promise) × IsSignedPromise broken.promise) × IsRootWithProof second (broken.root, broken.proof)
+
+-- bytes that spell a name behind its length, followed by a signed root and a reply
+abbrev pub IsNameWithRoot : List ℕ → List ℕ × (SignedRoot × List ℕ) → Type 0
+IsNameWithRoot bytes parts =
+    (bytes ≡ counted_bytes parts.0 ++ (signed_root_bytes parts.1.0 ++ parts.1.1)) × IsName parts.0 × IsSignedRoot parts.1.0 × ((reply : Reply) × SpellsReply parts.1.1 reply)
+
+-- bytes that spell a name, a signed root and a reply, and more bytes that spell a signed root followed by a reply
+abbrev pub IsChange : List ℕ → List ℕ → BrokenFinal → Type 0
+IsChange first second broken =
+    IsNameWithRoot first (broken.name, (broken.root, broken.proof)) × IsRootWithProof second (broken.later_root, broken.later_proof)
 
 -- ---- a line of `audit`
 

@@ -1,20 +1,23 @@
 // Evidence is read in steps: the file to a value of JSON, two of its three members to bytes, and these, as the
-// third says, to two roots, or to a promise, a root and a proof. Where a step finds nothing, the file is no
-// evidence.
+// third says, to two roots, to a promise, a root and a proof, or to a name and two roots, each with a proof. Where a
+// step finds nothing, the file is no evidence.
 ghost use Rattle.std.specs.Prelude.{◌≡◌, ◌↔◌, option_map, IsTrue};
 ghost use Rattle.serde_json.specs.View.{view};
 ghost use Rattle.audits.specs.Files.{text_at, Finds, HasHex, HasThree, IsEvidenceOf, IsFileOf, IsJson, ReadsAgain};
 ghost use Rattle.audits.specs.Parts.{HasParts};
-ghost use Rattle.audits.specs.Steps.{AreRoots, IsBroken, IsProof, IsRootWithProof};
+ghost use Rattle.audits.specs.Steps.{AreRoots, IsBroken, IsChange, IsNameWithRoot, IsProof, IsRootWithProof};
 
 use crate::ReadFault;
 use auditor::Evidence;
-use encoding::{Cursor, Form, ProofText};
+use encoding::{Cursor, Form, MAX_NAME_LEN, Name, ProofText};
 use hex::FromHexError;
-use proofs::{BrokenPromise, ReplyView};
+use proofs::{BrokenFinal, BrokenPromise, ReplyView};
 use rootchain::{RootEvidence, SignedPromise, SignedRoot};
 use serde_json::Value;
 use std::alloc::Global;
+
+/// The bytes of the length of a name.
+const COUNT_LEN: usize = 2;
 
 /// These bytes as a proof.
 fn proof(bytes: &[u8]) -> Result<ProofText, ReadFault>
@@ -70,6 +73,35 @@ fn broken_promise(first: &[u8], second: &[u8]) -> Result<BrokenPromise, ReadFaul
     })
 }
 
+/// A name behind its length, and the root and the proof that follow it.
+fn name_root_and_proof(bytes: &[u8]) -> Result<(Name, (SignedRoot, ProofText)), ReadFault>
+    ensures { Finds (λ parts. parts) (IsNameWithRoot bytes.now) result }
+{
+    let mut cursor = Cursor::new(bytes);
+    let Ok(name) = cursor.bounded::<MAX_NAME_LEN>() else {
+        return Err(ReadFault::NotEvidence);
+    };
+    // A name has one spelling, so this many bytes were read.
+    let (_, rest) = bytes.split_at(COUNT_LEN + name.bytes().len());
+    let pair = root_and_proof(rest)?;
+    Ok((name, pair))
+}
+
+/// The name, the roots and the proofs that these bytes spell.
+fn broken_final(first: &[u8], second: &[u8]) -> Result<BrokenFinal, ReadFault>
+    ensures { Finds (λ broken. broken) (IsChange first.now second.now) result }
+{
+    let (name, (root, proof)) = name_root_and_proof(first)?;
+    let (later_root, later_proof) = root_and_proof(second)?;
+    Ok(BrokenFinal {
+        name,
+        root,
+        proof,
+        later_root,
+        later_proof,
+    })
+}
+
 /// The evidence of a kind and two parts.
 fn of_parts(first: &[u8], kind: &str, second: &[u8]) -> Result<Evidence, ReadFault>
     ensures { Finds (λ evidence. evidence) (HasParts (record { first = first.now; kind = kind.now; second = second.now })) result }
@@ -88,6 +120,7 @@ fn of_parts(first: &[u8], kind: &str, second: &[u8]) -> Result<Evidence, ReadFau
             Ok(Evidence::Root(RootEvidence::Skip(one, other)))
         }
         "broken-promise" => Ok(Evidence::Broken(broken_promise(first, second)?)),
+        "broken-final" => Ok(Evidence::Final(broken_final(first, second)?)),
         _ => Err(ReadFault::NotEvidence),
     }
 }

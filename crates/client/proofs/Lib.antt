@@ -3,12 +3,14 @@ pub mod Rooted
 pub mod Breaking
 pub mod Growing
 pub mod Keeping
+pub mod ByNames
 pub mod Tested
 pub mod Groups
 pub mod Seen
 pub mod Others
 pub mod Passed
 pub mod Unlikes
+pub mod Changed
 pub mod Telling
 pub mod InBytes
 pub mod InPieces

@@ -1,5 +1,6 @@
 -- The looks for one name and epoch, gone through from a place down and up.
 use Rattle.std.proofs.Common.{◌≡◌, ◌≢◌, ◌↔◌, inl, inr, ℕ, zero, suc, ◌<◌, ◌≤◌, List, [], ◌∷◌, ◌++◌, append_assoc, slice_get, Global, Vec, Option, Some, None, option_map, MatchOption, Bool, true, false, IsTrue, refl, sym, ap, subst, ◌∙◌, arith}
+use Rattle.std.specs.declared.rc.Rc.{Rc}
 use Rattle.std.specs.List.{AllByRecursion}
 use Rattle.std.specs.List.Sorted.{IsStrictlySortedBy}
 use Rattle.std.specs.Map.{keys_of}
@@ -15,8 +16,8 @@ use Rattle.client.specs.declared.looks.LookPlace.{LookPlace}
 use Rattle.client.proofs.Groups.{below-number, below_of, beside-below, beside-from, cmp_place, filter-sorted, from-filter, from_of, in-filter, in-parts, in-second, later-number, none-above, none-below, of-each, sorted, sorted-end, sorted-front, AreGone, AreSorted, Entries, IsIn}
 use Rattle.client.proofs.Seen.{seen, stored}
 
-abbrev pub items_of : Vec ℕ Global → List ℕ
-items_of reply = reply.items
+abbrev pub items_of : Rc (Vec ℕ Global) Global → List ℕ
+items_of reply = reply.value.items
 
 pub spelled-at : (ls : List Look) → AllByRecursion (λ look. SpellsOne look.reply) ls → (n : ℕ) (look : Look) → slice_get ls n ≡ Some look → SpellsOne look.reply
 spelled-at [] all n look at = absurd cc

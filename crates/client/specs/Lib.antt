@@ -1,6 +1,7 @@
 pub mod Agreements
 pub mod Clients
 pub mod Dues
+pub mod Finality
 pub mod Looking
 pub mod Numbered
 pub mod Promising

@@ -5,6 +5,7 @@ ghost use Rattle.client.specs.Starting.{Starts};
 ghost use Rattle.client.specs.declared.client_refusal.Refusal.TheVariants.{Memory};
 
 use crate::kept::KeptPromises;
+use crate::kept_looks::KeptLooks;
 use crate::looks::Looks;
 use crate::roots::has_root_of;
 use crate::{Refusal, RootRefusal};
@@ -17,6 +18,7 @@ use std::marker::{Model, PhantomData};
 use vrfiface::VufCheck;
 
 mod dues;
+mod finality;
 mod looking;
 mod updating;
 mod updating_from;
@@ -26,7 +28,7 @@ mod updating_from;
 #[derive(Drop)]
 pub struct Client<H: NodeHash, V: VufCheck, S: Verifier> {
     chain: Chain<H, S>,
-    looks: Looks,
+    looks: KeptLooks<H>,
     promises: KeptPromises,
     types: PhantomData<V>,
 }
@@ -56,7 +58,7 @@ impl<H: NodeHash, V: VufCheck, S: Verifier> Client<H, V, S> {
         match Chain::start(alloc, verifier, key, root) {
             Ok(chain) => Ok(Client {
                 chain,
-                looks: Looks::new(alloc),
+                looks: KeptLooks::new(alloc),
                 promises: KeptPromises::new(alloc),
                 types: PhantomData,
             }),
@@ -77,7 +79,7 @@ impl<H: NodeHash, V: VufCheck, S: Verifier> Client<H, V, S> {
         ensures value { result.now ≡ self.now.looks }
         ensures sound { IsSoundClient H.digest_of V.accepted S.verified self.now }
     {
-        &self.looks
+        self.looks.all()
     }
 
     /// The public key of the provider.

@@ -15,10 +15,13 @@
 //! ```
 #![tactic(auto)]
 
+mod by_name;
+mod changes;
 mod client;
 mod client_refusal;
 mod due;
 mod kept;
+mod kept_looks;
 mod laws;
 mod looks;
 mod outcome;

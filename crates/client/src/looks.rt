@@ -8,10 +8,11 @@ use encoding::Name;
 use std::alloc::{AllocError, Global};
 use std::collections::BTreeMap;
 use std::marker::Model;
+use std::rc::Rc;
 
 mod comparing;
 
-pub(crate) use comparing::Unlike;
+pub(crate) use comparing::{Unlike, statement};
 
 /// What a look asked for.
 #[derive(Drop, PartialEq, Eq, PartialOrd, Ord)]
@@ -32,7 +33,7 @@ struct LookPlace {
 #[derive(Drop)]
 pub(crate) struct Looks {
     alloc: Global,
-    replies: BTreeMap<LookPlace, Vec<u8>>,
+    replies: BTreeMap<LookPlace, Rc<Vec<u8>>>,
 }
 
 impl Model for Looks {
@@ -43,7 +44,7 @@ impl Model for Looks {
     ghost Value = { List Look };
 
     ghost view = { λ looks. all_numbered (λ place. place.number)
-        (λ entry. record { name = entry.0.asked.name.items; epoch = entry.0.asked.epoch; reply = entry.1.items }) looks.replies.entries };
+        (λ entry. record { name = entry.0.asked.name.items; epoch = entry.0.asked.epoch; reply = entry.1.value.items }) looks.replies.entries };
 
     ghost invariant = { λ looks. AreNumbered (λ place. place.number) looks.replies.entries };
 }
@@ -60,8 +61,13 @@ impl Looks {
     }
 
     /// Keeps a look. An `Err` leaves the looks as they were.
-    pub(crate) fn push(&mut self, name: &Name, epoch: u64, reply: &[u8]) -> Result<(), AllocError>
-        ensures ok { OnOk result (self.new ≡ self.old ++ (record { name = name.now; epoch = epoch; reply = reply.now }) ∷ []) }
+    pub(crate) fn push(
+        &mut self,
+        name: &Name,
+        epoch: u64,
+        reply: Rc<Vec<u8>>,
+    ) -> Result<(), AllocError>
+        ensures ok { OnOk result (self.new ≡ self.old ++ (record { name = name.now; epoch = epoch; reply = reply.value.items }) ∷ []) }
         ensures err { OnErr result (self.new ≡ self.old) }
         ensures named { OnOk result (IsName name.now) }
     {
@@ -72,7 +78,6 @@ impl Looks {
             },
             number: self.replies.len(),
         };
-        let reply = Vec::from_slice(self.alloc, reply)?;
         self.replies.insert(place, reply)?;
         Ok(())
     }

@@ -6,7 +6,7 @@ use Rattle.auditor.specs.declared.evidence.Evidence.{Evidence as EvidenceMade}
 use Rattle.audits.specs.Files.{parts_text}
 use Rattle.audits.specs.Parts.{evidence_parts}
 use Rattle.audits.proofs.Parts.{IsBytes-first, IsBytes-second}
-use Rattle.auditor.specs.declared.evidence.Evidence.TheVariants.{Root, Broken}
+use Rattle.auditor.specs.declared.evidence.Evidence.TheVariants.{Root, Broken, Final}
 use Rattle.rootchain.specs.declared.evidence.RootEvidence.TheVariants.{Fork, Link, Skip}
 use Rattle.encoding.specs.declared.bound_key.BoundKey.{BoundKey}
 use Rattle.hex.specs.Hex.{encode_lower}
@@ -37,6 +37,7 @@ plain-kind (Root (Fork one other)) = plain_word (codes "fork") refl
 plain-kind (Root (Link one other)) = plain_word (codes "link") refl
 plain-kind (Root (Skip one other)) = plain_word (codes "skip") refl
 plain-kind (Broken broken) = plain_word (codes "broken-promise") refl
+plain-kind (Final broken) = plain_word (codes "broken-final") refl
 
 pub plain-evidence : (line : List ℕ) → IsEvidenceLine line → IsPlain line
 unfolding parts_text

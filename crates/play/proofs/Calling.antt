@@ -417,6 +417,7 @@ module _ (provider : Provider) (accepted verified : List ℕ → List ℕ → Li
   judged (evidence.Root (Link one other)) issued is = h.linear one other issued.0 issued.1 (is.0, is.1, inr (inl is.2))
   judged (evidence.Root (Skip one other)) issued is = h.linear one other issued.0 issued.1 (is.0, is.1, inr (inr is.2))
   judged (evidence.Broken broken) ((command, said), (name, epoch, found)) is = h.unbroken command broken.promise name epoch broken.proof broken.root said found is
+  judged (evidence.Final broken) issued is = absurd issued
 
   pub all-honest : CallsAreHonest provider accepted verified key before after commands replies
   all-honest = record {

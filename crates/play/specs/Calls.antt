@@ -100,11 +100,13 @@ IsShown before commands replies name of_page text = (latest : ℕ) × (epoch : �
 abbrev pub WasPromised : List Operation → List Reply → SignedPromise → Type 0
 WasPromised commands replies promised = (command : Operation) × IsSaid commands replies command (reply.Promised promised)
 
--- two roots that were issued; or a promise and the reply to a look-up that were, with whatever root
+-- two roots that were issued; or a promise and the reply to a look-up that were, with whatever root; nothing is claimed
+-- here of final bindings
 abbrev pub IsIssued : Provider → Book → List Operation → List Reply → Evidence → Type 0
 IsIssued provider after commands replies (evidence.Root both) = BothAre (Contains (roots provider after)) both
 IsIssued provider after commands replies (evidence.Broken broken) = WasPromised commands replies broken.promise
     × ((name : List ℕ) × (epoch : ℕ) × IsSaid commands replies (Query (Lookup name epoch)) (reply.Found broken.proof))
+IsIssued provider after commands replies (evidence.Final broken) = ⊥
 
 module _ (provider : Provider) (accepted verified : List ℕ → List ℕ → List ℕ → Type 0) (key : List ℕ) (before after : Book) (commands : List Operation) (replies : List Reply) where
   pub record CallsAreHonest : Type 0 where

@@ -1,4 +1,5 @@
 pub mod Accepts
+pub mod BrokenFinals
 pub mod BrokenPromises
 pub mod Comparisons
 pub mod Honest

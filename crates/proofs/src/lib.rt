@@ -15,6 +15,7 @@
 #![tactic(auto)]
 
 mod accepted;
+mod broken_final;
 mod broken_promise;
 mod checking;
 mod comparing;
@@ -27,6 +28,7 @@ mod statement;
 mod view;
 
 pub use accepted::Accepted;
+pub use broken_final::BrokenFinal;
 pub use broken_promise::BrokenPromise;
 pub use checking::{accept, check};
 pub use comparing::{RefusedReply, SameOr, compare_replies, same_or_collision};

@@ -1,4 +1,5 @@
 ghost use Rattle.std.specs.Prelude.{◌≡◌, ◌↔◌, IsTrue, Some};
+ghost use Rattle.proofs.specs.BrokenFinals.{states_final};
 ghost use Rattle.proofs.specs.Views.{key_stated};
 
 use encoding::{BoundKey, Policy};
@@ -19,6 +20,18 @@ impl Statement<'_> {
     {
         match self {
             Statement::Present(stated, its) => stated == key.bytes() && its == key.policy,
+            Statement::Absent => false,
+        }
+    }
+
+    /// Whether the name is bound to a key that is never to change.
+    pub fn is_final(self) -> bool
+        ensures { result ≡ states_final (key_stated self.entry) }
+    {
+        match self {
+            Statement::Present(_, Some(Policy::Final)) => true,
+            Statement::Present(_, Some(Policy::Open)) => false,
+            Statement::Present(_, None) => false,
             Statement::Absent => false,
         }
     }

@@ -4,7 +4,7 @@ use crate::stand_ins::{Functions, keyed};
 use auditor::{Auditor, Evidence, Observed, judge};
 use encoding::{Hash32, PROOF_TEXT_ROOM, ProofText};
 use nodehash::{NodeHash, Sha256Hash};
-use proofs::BrokenPromise;
+use proofs::{BrokenFinal, BrokenPromise};
 use questions::{AnySign, Case, refuse_root, say_evidence, say_place};
 use rootchain::{Refusal, RootEvidence, SignedPromise, SignedRoot};
 use sigiface::KeyedSign;
@@ -107,7 +107,7 @@ fn chain<H: NodeHash + Drop>(case: &mut Case<'_>, auditor: &Kept<H>) {
     }
 }
 
-/// `judge KEY KIND FIRST SECOND [PROOF]`
+/// `judge KEY KIND FIRST SECOND [PROOF]`, or `judge KEY broken-final NAME ROOT PROOF ROOT PROOF`
 fn judged<H, V>(case: &mut Case<'_>, by: &mut Functions<H, V>)
 where
     H: NodeHash + Drop,
@@ -119,6 +119,10 @@ where
             let promise = case.bytes();
             let root = case.bytes();
             let evidence = broken(case, promise, root);
+            tell_judged(case, by, &key, evidence);
+        }
+        b"broken-final" => {
+            let evidence = changed(case);
             tell_judged(case, by, &key, evidence);
         }
         kind => {
@@ -188,6 +192,28 @@ fn broken(case: &mut Case<'_>, promise: &[u8], root: &[u8]) -> Result<Evidence, 
         root,
         proof,
     }))
+}
+
+/// The evidence of the name and of the two roots, each with a proof behind it, in the next five words.
+pub(crate) fn changed(case: &mut Case<'_>) -> Result<Evidence, Refusal> {
+    let name = case.name();
+    let root = SignedRoot::read(case.bytes())?;
+    let proof = next_proof(case);
+    let later_root = SignedRoot::read(case.bytes())?;
+    let later_proof = next_proof(case);
+    Ok(Evidence::Final(BrokenFinal {
+        name,
+        root,
+        proof,
+        later_root,
+        later_proof,
+    }))
+}
+
+/// The proof in the next word.
+fn next_proof(case: &mut Case<'_>) -> ProofText {
+    let bytes = case.bytes();
+    proof_text(case, bytes)
 }
 
 /// The bytes as those of a proof.

@@ -1,10 +1,10 @@
 //! Of `audits`: evidence as JSON, and the programs that judge and audit.
 
-use crate::auditors::{of_roots, proof_text};
+use crate::auditors::{changed, of_roots, proof_text};
 use auditor::Evidence;
 use audits::{AuditOrder, ReadFault, Verdict, audit, evidence_json, judge_file, read_evidence};
 use encoding::{Cursor, Form};
-use proofs::BrokenPromise;
+use proofs::{BrokenFinal, BrokenPromise};
 use questions::{Case, refuse_root, say_ended, say_evidence, say_fault};
 use rootchain::{Refusal, SignedPromise, SignedRoot};
 use textio::ProgramFault;
@@ -20,10 +20,11 @@ pub(crate) fn answer(case: &mut Case<'_>) {
     }
 }
 
-/// `json KIND FIRST SECOND`
+/// `json KIND FIRST SECOND`, or `json broken-final NAME ROOT PROOF ROOT PROOF`
 fn json(case: &mut Case<'_>) {
     let evidence = match case.word() {
         b"broken-promise" => broken(case),
+        b"broken-final" => changed(case),
         kind => of_roots(case, kind),
     };
     match evidence {
@@ -69,6 +70,7 @@ fn say_whole(case: &mut Case<'_>, evidence: &Evidence) {
     match evidence {
         Evidence::Root(evidence) => say_evidence(case, evidence),
         Evidence::Broken(broken) => say_broken(case, broken),
+        Evidence::Final(broken) => say_changed(case, broken),
     }
 }
 
@@ -85,6 +87,16 @@ fn say_broken(case: &mut Case<'_>, broken: &BrokenPromise) {
     case.say("broken-promise");
     case.say_bytes(broken.promise.write().bytes());
     case.say_bytes(&second);
+}
+
+/// The name, and the two roots, each with its proof behind it.
+fn say_changed(case: &mut Case<'_>, broken: &BrokenFinal) {
+    case.say("broken-final");
+    case.say_bytes(broken.name.bytes());
+    case.say_bytes(broken.root.write().bytes());
+    case.say_bytes(broken.proof.bytes());
+    case.say_bytes(broken.later_root.write().bytes());
+    case.say_bytes(broken.later_proof.bytes());
 }
 
 /// `judge KEYTEXT BYTES`

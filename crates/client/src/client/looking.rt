@@ -4,7 +4,7 @@ ghost use Rattle.client.specs.Looking.{KeepsLook, Looks as LooksUp, LooksNext};
 
 use super::Client;
 use crate::Refusal;
-use crate::looks::Looks;
+use crate::kept_looks::KeptLooks;
 use crate::roots::asked;
 use encoding::Name;
 use nodehash::NodeHash;
@@ -68,7 +68,7 @@ impl<H: NodeHash, V: VufCheck, S: Verifier> Client<H, V, S> {
 
 /// Checks a reply to a look-up of this name against a root, and keeps it among the looks.
 fn look_under<'a, H: NodeHash, V: VufCheck>(
-    looks: &mut Looks,
+    looks: &mut KeptLooks<H>,
     hash: &mut H,
     vuf: &V,
     name: &Name,
@@ -80,7 +80,8 @@ fn look_under<'a, H: NodeHash, V: VufCheck>(
 {
     match accept::<H, V>(hash, vuf, &root.body, name, bytes) {
         Ok(accepted) => {
-            if looks.push(name, root.body.epoch, bytes).is_err() {
+            let index = accepted.index();
+            if looks.push(name, root.body.epoch, index, bytes).is_err() {
                 return Err(Refusal::Memory);
             }
             Ok(accepted.statement())

@@ -11,6 +11,7 @@ ghost use Rattle.proofs.specs.Views.{key_stated};
 
 use super::{LookPlace, Looks};
 use proofs::{ReplyView, Statement};
+use std::rc::Rc;
 
 /// Two looks for one name and epoch whose replies state two things.
 #[derive(Drop)]
@@ -23,7 +24,7 @@ pub(crate) struct Unlike<'a> {
 }
 
 /// What a reply states that was accepted.
-fn statement(reply: &[u8]) -> Statement<'_>
+pub(crate) fn statement(reply: &[u8]) -> Statement<'_>
     requires { SpellsOne reply.now }
     ensures { (read : Reply) → SpellsReply reply.entry.now read → key_stated result ≡ stated read.end }
 {
@@ -31,6 +32,13 @@ fn statement(reply: &[u8]) -> Statement<'_>
         unreachable!()
     };
     view.statement()
+}
+
+/// The bytes of a reply.
+fn bytes(reply: &Rc<Vec<u8>>) -> &[u8]
+    ensures { result.now ≡ reply.entry.now.value.items }
+{
+    reply.as_slice()
 }
 
 /// Whether an accepted reply states this.
@@ -79,8 +87,8 @@ impl Looks {
             if !place.is_beside(other) {
                 return found;
             }
-            if !states(reply, told) {
-                found = Some(reply);
+            if !states(bytes(reply), told) {
+                found = Some(bytes(reply));
             }
         }
         found
@@ -98,8 +106,8 @@ impl Looks {
             if !place.is_beside(other) {
                 return None;
             }
-            if !states(reply, told) {
-                return Some(reply);
+            if !states(bytes(reply), told) {
+                return Some(bytes(reply));
             }
         }
         None
@@ -119,13 +127,13 @@ impl Looks {
             if is_before(&found, place.number) {
                 continue;
             }
-            let Some(other) = others.first_other(place, &statement(reply)) else {
+            let Some(other) = others.first_other(place, &statement(bytes(reply))) else {
                 continue;
             };
             found = Some(Unlike {
                 number: place.number,
                 name: &place.asked.name,
-                one: reply,
+                one: bytes(reply),
                 other,
             });
         }

@@ -1,4 +1,5 @@
 use Rattle.std.proofs.Common.{ℕ, List, Vec, Global, sym, subst, ◌∙◌}
+use Rattle.std.specs.declared.rc.Rc.{Rc}
 use Rattle.proofs.specs.Replies.{SpellsReply}
 use Rattle.proofs.specs.Views.{key_stated}
 use Rattle.client.specs.Agreements.{AreBeside}
@@ -19,7 +20,7 @@ loop-other-init c =
 pub returns-then-not-is_beside : goal.returns-then-not-is_beside
 returns-then-not-is_beside c =
     let inv = c.loop-other.invariant in
-    let x : LookPlace × Vec ℕ Global = (c.in-Some.other.now, c.in-Some.reply.now) in
+    let x : LookPlace × Rc (Vec ℕ Global) Global = (c.in-Some.other.now, c.in-Some.reply.now) in
     all-state items_of c.args.self.now c.args.place.now (key_stated c.args.told.now) c.requires.ones inv.0 inv.1 c.requires.below c.loop-other.other-iterator
     (up-stops items_of c.args.self.now c.args.place.now (key_stated c.args.told.now) c.requires.ones inv.0 inv.1 c.requires.below x c.next.new.self c.loop-other.other-iterator inv.2 c.in-Some.ensures.steps
     (λ beside. let yes = c.is_beside.ensures.1 beside in let no = c.if-not-is_beside.true in absurd cc))
@@ -28,32 +29,32 @@ returns-then-not-is_beside c =
 pub states-requires : goal.states-requires
 states-requires c =
     let inv = c.loop-other.invariant in
-    let x : LookPlace × Vec ℕ Global = (c.in-Some.other.now, c.in-Some.reply.now) in
+    let x : LookPlace × Rc (Vec ℕ Global) Global = (c.in-Some.other.now, c.in-Some.reply.now) in
     let here = up-here items_of c.args.self.now c.args.place.now (key_stated c.args.told.now) c.requires.ones inv.0 inv.1 c.requires.below x c.next.new.self c.loop-other.other-iterator inv.2 c.in-Some.ensures.steps in
-    rw c.deref.ensures.value (spells items_of c.args.self.now c.args.place.now (key_stated c.args.told.now) c.requires.ones inv.0 inv.1 x here)
+    rw c.bytes.ensures (spells items_of c.args.self.now c.args.place.now (key_stated c.args.told.now) c.requires.ones inv.0 inv.1 x here)
 
 pub returns-then-not-states : goal.returns-then-not-states
 returns-then-not-states c =
     let inv = c.loop-other.invariant in
-    let x : LookPlace × Vec ℕ Global = (c.in-Some.other.now, c.in-Some.reply.now) in
+    let x : LookPlace × Rc (Vec ℕ Global) Global = (c.in-Some.other.now, c.in-Some.reply.now) in
     let here = up-here items_of c.args.self.now c.args.place.now (key_stated c.args.told.now) c.requires.ones inv.0 inv.1 c.requires.below x c.next.new.self c.loop-other.other-iterator inv.2 c.in-Some.ensures.steps in
     let other = does-not items_of c.args.self.now c.args.place.now (key_stated c.args.told.now) c.requires.ones inv.0 inv.1 x here (c.is_beside.ensures.0 c.if-not-is_beside.false) c.states.result c.if-not-states.true
-    (λ read spelled. c.states.ensures read (subst (λ (bytes : List ℕ). SpellsReply bytes read) (sym c.deref.ensures.value) spelled)) in
-    rw c.deref-then-not-states.ensures.value
+    (λ read spelled. c.states.ensures read (subst (λ (bytes : List ℕ). SpellsReply bytes read) (sym c.bytes.ensures) spelled)) in
+    rw c.bytes-then-not-states.ensures
     (up-found items_of c.args.self.now c.args.place.now (key_stated c.args.told.now) c.requires.ones inv.0 inv.1 c.requires.below x c.next.new.self c.loop-other.other-iterator inv.2 c.in-Some.ensures.steps (items_of x.1) other)
 
 pub loop-other-preserved : goal.loop-other-preserved
 loop-other-preserved c =
     let inv = c.loop-other.invariant in
-    let x : LookPlace × Vec ℕ Global = (c.in-Some.other.now, c.in-Some.reply.now) in (
+    let x : LookPlace × Rc (Vec ℕ Global) Global = (c.in-Some.other.now, c.in-Some.reply.now) in (
       inv.0,
       inv.1,
       more-gone _ (from_of c.args.place.now inv.0) _ x c.next.new.self inv.2 c.in-Some.ensures.steps
-          (λ read spelled. (c.states.ensures read (subst (λ (bytes : List ℕ). SpellsReply bytes read) (sym c.deref.ensures.value) spelled)).0 c.if-not-states.false),
+          (λ read spelled. (c.states.ensures read (subst (λ (bytes : List ℕ). SpellsReply bytes read) (sym c.bytes.ensures) spelled)).0 c.if-not-states.false),
     )
 
 pub returns : goal.returns
 returns c =
     let inv = c.loop-other.invariant in
     all-state items_of c.args.self.now c.args.place.now (key_stated c.args.told.now) c.requires.ones inv.0 inv.1 c.requires.below c.loop-other.other-iterator
-    (subst (λ (rest : Entries (Vec ℕ Global)). (e : LookPlace × Vec ℕ Global) → IsIn rest e → ¬ AreBeside c.args.place.now e.0) (sym c.in-None.ensures.steps.0) (λ e is. absurd is)) inv.2
+    (subst (λ (rest : Entries (Rc (Vec ℕ Global) Global)). (e : LookPlace × Rc (Vec ℕ Global) Global) → IsIn rest e → ¬ AreBeside c.args.place.now e.0) (sym c.in-None.ensures.steps.0) (λ e is. absurd is)) inv.2

@@ -1,4 +1,5 @@
 use Rattle.std.proofs.Common.{ℕ, List, Vec, Global, sym, ap, subst, ◌∙◌}
+use Rattle.std.specs.declared.rc.Rc.{Rc}
 use Rattle.proofs.specs.Replies.{SpellsReply}
 use Rattle.proofs.specs.Views.{key_stated}
 use Rattle.client.specs.Agreements.{AreBeside}
@@ -18,7 +19,7 @@ loop-other-init c =
 pub returns-then-not-is_beside : goal.returns-then-not-is_beside
 returns-then-not-is_beside c =
     let inv = c.loop-other.invariant in
-    let x : LookPlace × Vec ℕ Global = (c.in-Some.other.now, c.in-Some.reply.now) in
+    let x : LookPlace × Rc (Vec ℕ Global) Global = (c.in-Some.other.now, c.in-Some.reply.now) in
     answer-below items_of c.args.self.now c.args.place.now (key_stated c.args.told.now) inv.2 inv.0 inv.1 c.loop-other.other-iterator.iter
     (down-stops items_of c.args.self.now c.args.place.now (key_stated c.args.told.now) inv.2 inv.0 inv.1 x c.next.new.self.iter c.loop-other.other-iterator.iter _ inv.3 c.in-Some.ensures.steps
     (λ beside. let yes = c.is_beside.ensures.1 beside in let no = c.if-not-is_beside.true in absurd cc))
@@ -27,38 +28,38 @@ returns-then-not-is_beside c =
 pub states-requires : goal.states-requires
 states-requires c =
     let inv = c.loop-other.invariant in
-    let x : LookPlace × Vec ℕ Global = (c.in-Some.other.now, c.in-Some.reply.now) in
+    let x : LookPlace × Rc (Vec ℕ Global) Global = (c.in-Some.other.now, c.in-Some.reply.now) in
     let here = down-here items_of c.args.self.now c.args.place.now (key_stated c.args.told.now) inv.2 inv.0 inv.1 x c.next.new.self.iter c.loop-other.other-iterator.iter _ inv.3 c.in-Some.ensures.steps in
-    rw c.deref.ensures.value (spells items_of c.args.self.now c.args.place.now (key_stated c.args.told.now) inv.2 inv.0 inv.1 x here)
+    rw c.bytes.ensures (spells items_of c.args.self.now c.args.place.now (key_stated c.args.told.now) inv.2 inv.0 inv.1 x here)
 
 pub loop-other-preserved-then-not-states : goal.loop-other-preserved-then-not-states
 loop-other-preserved-then-not-states c =
     let inv = c.loop-other.invariant in
-    let x : LookPlace × Vec ℕ Global = (c.in-Some.other.now, c.in-Some.reply.now) in
+    let x : LookPlace × Rc (Vec ℕ Global) Global = (c.in-Some.other.now, c.in-Some.reply.now) in
     let here = down-here items_of c.args.self.now c.args.place.now (key_stated c.args.told.now) inv.2 inv.0 inv.1 x c.next.new.self.iter c.loop-other.other-iterator.iter _ inv.3 c.in-Some.ensures.steps in
     let other = does-not items_of c.args.self.now c.args.place.now (key_stated c.args.told.now) inv.2 inv.0 inv.1 x here (c.is_beside.ensures.0 c.if-not-is_beside.false) c.states.result c.if-not-states.true
-    (λ read spelled. c.states.ensures read (subst (λ (bytes : List ℕ). SpellsReply bytes read) (sym c.deref.ensures.value) spelled)) in (
+    (λ read spelled. c.states.ensures read (subst (λ (bytes : List ℕ). SpellsReply bytes read) (sym c.bytes.ensures) spelled)) in (
       inv.0,
       inv.1,
       inv.2,
-      rw c.deref-then-not-states.ensures.value
+      rw c.bytes-then-not-states.ensures
           (down-found items_of c.args.self.now c.args.place.now (key_stated c.args.told.now) inv.2 inv.0 inv.1 x c.next.new.self.iter c.loop-other.other-iterator.iter _ inv.3 c.in-Some.ensures.steps (items_of x.1) other),
     )
 
 pub loop-other-preserved : goal.loop-other-preserved
 loop-other-preserved c =
     let inv = c.loop-other.invariant in
-    let x : LookPlace × Vec ℕ Global = (c.in-Some.other.now, c.in-Some.reply.now) in (
+    let x : LookPlace × Rc (Vec ℕ Global) Global = (c.in-Some.other.now, c.in-Some.reply.now) in (
       inv.0,
       inv.1,
       inv.2,
       down-stated items_of c.args.self.now c.args.place.now (key_stated c.args.told.now) inv.2 inv.0 inv.1 x c.next.new.self.iter c.loop-other.other-iterator.iter _ inv.3 c.in-Some.ensures.steps
-          (λ read spelled. (c.states.ensures read (subst (λ (bytes : List ℕ). SpellsReply bytes read) (sym c.deref.ensures.value) spelled)).0 c.if-not-states.false),
+          (λ read spelled. (c.states.ensures read (subst (λ (bytes : List ℕ). SpellsReply bytes read) (sym c.bytes.ensures) spelled)).0 c.if-not-states.false),
     )
 
 pub returns : goal.returns
 returns c =
     let inv = c.loop-other.invariant in
     answer-below items_of c.args.self.now c.args.place.now (key_stated c.args.told.now) inv.2 inv.0 inv.1 c.loop-other.other-iterator.iter
-    (subst (λ (rest : Entries (Vec ℕ Global)). (e : LookPlace × Vec ℕ Global) → IsIn rest e → ¬ AreBeside c.args.place.now e.0) (sym c.in-None.ensures.steps.0) (λ e is. absurd is))
+    (subst (λ (rest : Entries (Rc (Vec ℕ Global) Global)). (e : LookPlace × Rc (Vec ℕ Global) Global) → IsIn rest e → ¬ AreBeside c.args.place.now e.0) (sym c.in-None.ensures.steps.0) (λ e is. absurd is))
     (λ reply. reply.now) c.loop-other.found inv.3
