@@ -265,8 +265,14 @@ module _ (provider : Provider) where
         let c = b.changes in
         let one = own-of name s.page s.root.body broken.proof (right latest name epoch broken.proof s alone) broken.root.body broken.name c.statement c.index c.passes c.has_index in
         let other = own-of later_name t.page t.root.body broken.later_proof (right later_latest later_name later_epoch broken.later_proof t also) broken.later_root.body broken.name c.later_statement c.index c.later_passes c.later_has_index in
-        let above : s.page.epoch < t.page.epoch = omega (arith, b.later, ap (λ (x : Body). x.epoch) one.of_body, ap (λ (x : Body). x.epoch) other.of_body,
-            root-epoch provider 0 (replicate 32 0) (pages after) _ s.is, root-epoch provider 0 (replicate 32 0) (pages after) _ t.is) in
+        let above : s.page.epoch < t.page.epoch = omega (
+          arith,
+          b.later,
+          ap (λ (x : Body). x.epoch) one.of_body,
+          ap (λ (x : Body). x.epoch) other.of_body,
+          root-epoch provider 0 (replicate 32 0) (pages after) _ s.is,
+          root-epoch provider 0 (replicate 32 0) (pages after) _ t.is,
+        ) in
         let final : is_final_binding (at s.page.bindings name) ≡ true = final-key (at s.page.bindings name) (ap states_final (sym one.states) ∙ c.final) in
         let stays : at t.page.bindings name ≡ at s.page.bindings name
         = finals s.page t.page (sealed-page provider 0 (replicate 32 0) (pages after) _ s.is) (sealed-page provider 0 (replicate 32 0) (pages after) _ t.is) above name final in

@@ -455,7 +455,7 @@ module _ (provider : Provider) (accepted verified : List ℕ → List ℕ → Li
       h.unchanged one.0.1.0 other.0.1.0 one.0.1.1 other.0.1.1 broken one.0.1.2 other.0.1.2
       (subst (λ (own : List ℕ). IsBrokenFinal provider.hash accepted verified own broken) f.keyed is-broken)
     where
-      abbrev IsFound : Look → Type 0
+      IsFound : Look → Type 0
       IsFound each = IsAcceptedLook provider.hash accepted holder.chain each × WasFound commands replies each.reply
 
       own : AllByRecursion (λ each. IsFound each × (bytes_eq each.name name ≡ true)) (looks_for name holder.looks)
@@ -467,13 +467,13 @@ module _ (provider : Provider) (accepted verified : List ℕ → List ℕ → Li
       other : IsFound later × (bytes_eq later.name name ≡ true)
       other = all-at (λ each. IsFound each × (bytes_eq each.name name ≡ true)) (looks_for name holder.looks) l later own there
 
-      abbrev first : IsAcceptedLook provider.hash accepted holder.chain look
+      first : IsAcceptedLook provider.hash accepted holder.chain look
       first = one.0.0
 
-      abbrev second : IsAcceptedLook provider.hash accepted holder.chain later
+      second : IsAcceptedLook provider.hash accepted holder.chain later
       second = other.0.0
 
-      abbrev broken : BrokenFinal
+      broken : BrokenFinal
       broken = record { name = name; root = first.root; proof = look.reply; later_root = second.root; later_proof = later.reply }
 
       is-broken : IsBrokenFinal provider.hash accepted verified holder.chain.key broken
