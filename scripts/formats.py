@@ -1260,7 +1260,7 @@ class Feed:
 
 # Evidence ------------------------------------------------------------------------------------------------
 
-BROKEN = "broken-promise"
+BROKEN, BROKEN_FINAL = "broken-promise", "broken-final"
 
 
 @dataclass(frozen=True)
@@ -1286,6 +1286,32 @@ class BrokenPromise:
         return accepted.index == promise.index and accepted.statement() != promise.statement()
 
 
+@dataclass(frozen=True)
+class BrokenFinal:
+    """Replies for one name under two roots, of which the first states a key with Final, and the later anything else."""
+
+    name: bytes
+    root: SignedRoot
+    proof: bytes
+    later_root: SignedRoot
+    later_proof: bytes
+
+    kind = BROKEN_FINAL
+
+    def holds(self, digest, vuf, key):
+        if not (self.root.verifies(key) and self.later_root.verifies(key) and self.root.epoch < self.later_root.epoch):
+            return False
+        try:
+            accepted = accept(digest, vuf, self.root.body, self.name, self.proof)
+            later = accept(digest, vuf, self.later_root.body, self.name, self.later_proof)
+        except ReplyRefusal:
+            return False
+        stated = accepted.statement()
+        if accepted.index != later.index or stated is None or stated.policy != FINAL:
+            return False
+        return later.statement() != stated
+
+
 def judge(digest, vuf, key, evidence):
     """Whether evidence holds against the provider of this key."""
     if isinstance(evidence, RootEvidence):
@@ -1297,6 +1323,9 @@ def evidence_parts(evidence):
     """The two byte strings of evidence."""
     if isinstance(evidence, RootEvidence):
         return evidence.a.write(), evidence.b.write()
+    if evidence.kind == BROKEN_FINAL:
+        first = counted(evidence.name) + evidence.root.write() + evidence.proof
+        return first, evidence.later_root.write() + evidence.later_proof
     return evidence.promise.write(), evidence.root.write() + evidence.proof
 
 
