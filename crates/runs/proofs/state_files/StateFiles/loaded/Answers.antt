@@ -1,8 +1,12 @@
-use Rattle.std.proofs.Common.{subst, sym}
+use Rattle.std.proofs.Common.{Bor, Err, inr, option_map, rules, subst, sym}
+use Rattle.textio.specs.Lines.{lines_of}
 use Rattle.memory.specs.Memories.{Memory}
 use Rattle.rootchain.specs.Chains.{KeyedRoots}
+use Rattle.runs.specs.Loading.{IsSecond, KeepsLines, LoadsClient}
 use Rattle.runs.specs.Remembering.{AreWithin}
 use Rattle.runs.specs.Saves.{HasOneOfEachName}
+use Rattle.runs.specs.declared.state_files.LineFile.{LineFile}
+use Rattle.runs.proofs.Named.{fault_told}
 use Rattle.runs.proofs.state_files.StateFiles.loaded.Goals as goal
 
 pub returns-in-Ok-remember-clause-marks : goal.returns-in-Ok-remember-clause-marks
@@ -12,3 +16,14 @@ returns-in-Ok-remember-clause-marks g c =
       subst (λ (memory : Memory). AreWithin c.remember.new.asker.client.chain memory) (sym same) here,
       subst HasOneOfEachName (sym same) c.in-Ok-remember.ensures.once,
     )
+
+pub returns-in-Err-remember-clause-names : goal.returns-in-Err-remember-clause-names
+returns-in-Err-remember-clause-names g c =
+    let hash = g.H.NodeHash.digest_of in
+    let verified = g.S.Verifier.verified in
+    let start = c.in-Ok.asker.client in
+    let text = c.whole_lines-lines.result.now in
+    let bytes = option_map (λ (file : Bor LineFile). file.now.bytes.items) c.args.second in
+    let is : IsSecond bytes text = search rules in
+    fault_told c.in-Err-remember.fault c.fault_in-in-Err-remember.result (λ bad. KeepsLines hash verified 1 (lines_of text) start (Err bad)) (λ bad. LoadsClient hash verified c.args.key c.args.lines.now bytes (Err bad))
+    c.fault_in-in-Err-remember.ensures.same (λ bad keeps. inr (start, text, c.in-Ok.ensures.starts, is, keeps)) c.in-Err-remember.ensures.names
