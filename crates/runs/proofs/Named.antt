@@ -1,5 +1,5 @@
 -- The line that a fault names, and what comes of those before it.
-use Rattle.std.proofs.Common.{◌≡◌, ◌≢◌, ◌⊎◌, ◌∙◌, ℕ, ◌+◌, List, [], ◌∷◌, Result, Ok, Err, ap, arith, inl, inr, length, refl, subst, sym}
+use Rattle.std.proofs.Common.{◌≡◌, ◌≢◌, ◌⊎◌, ◌∙◌, ℕ, ◌+◌, List, [], ◌∷◌, Option, None, Result, Ok, Err, ap, arith, inl, inr, length, option_map, refl, subst, sym}
 use Rattle.std.specs.Prelude.{IfErr, IsErrAnd}
 use Rattle.hex.specs.Hex.{encode_lower}
 use Rattle.textio.specs.Lines.{lines_of}
@@ -15,14 +15,14 @@ use Rattle.client.specs.declared.client_refusal.Refusal.{Refusal}
 use Rattle.client.specs.declared.client_refusal.Refusal.TheVariants.{Root, Proof, UnknownRoot, RootDiffers, Memory, NoPromise}
 use Rattle.client.specs.declared.client_refusal.RootRefusal.TheVariants.{Malformed, BadSignature, NotLater, BadLink}
 use Rattle.memory.specs.Lines.{IsLineOf}
-use Rattle.memory.specs.Memories.{Memory as Known}
+use Rattle.memory.specs.Memories.{nothing, Memory as Known}
 use Rattle.memory.specs.Texts.{Spells}
 use Rattle.memory.specs.declared.item.Item.{Item}
 use Rattle.memory.specs.declared.read_fault.ReadFault.TheVariants as read
 use Rattle.memory.proofs.OneItem.{one_item}
 use Rattle.memory.proofs.OneMemory.{one_memory}
 use Rattle.memory.proofs.OneWord.{promise_same}
-use Rattle.runs.specs.Loading.{fault_at, IsAccepted, IsFaultAt, IsHexOf, IsRefused, RefusesItem, RefusesNext, StartsFrom, TakesLines, TakesNext, TakesRoots}
+use Rattle.runs.specs.Loading.{fault_at, IsAccepted, IsFaultAt, IsHexOf, IsRefused, IsSecond, LoadsClient, RefusesItem, RefusesNext, StartsFrom, TakesLines, TakesNext, TakesRoots}
 
 -- ---- faults
 
@@ -130,3 +130,15 @@ module _ (hash : List ℕ → List ℕ) (verified : List ℕ → List ℕ → Li
 -- a text that spells a memory has no line that is no item
 pub spelled_so : (text : List ℕ) (memory : Known) (bad : ℕ) → Spells text (Ok memory) → Spells text (Err (read.BadItem bad)) → ⊥
 spelled_so text memory bad spells not_spelled = let same = one_memory text (Ok memory) (Err (read.BadItem bad)) spells not_spelled in cc
+
+-- ---- no second file
+
+pub second_none : {A : Type 0} (bytes : A → List ℕ) (second : Option A) → second ≡ None → IsSecond (option_map bytes second) []
+second_none {A} bytes second none = subst (λ (some : Option A). IsSecond (option_map bytes some) []) (sym none) refl
+
+pub loads_first : (hash : List ℕ → List ℕ) (verified : List ℕ → List ℕ → List ℕ → Type 0) (key roots : List ℕ) (second : Option (List ℕ)) (client : Client) → IsSecond second []
+    → StartsFrom hash verified key (lines_of roots) (Ok client) → LoadsClient hash verified key roots second (Ok client)
+loads_first hash verified key roots second client none starts = inr (client, [], starts, none, refl)
+
+pub spells_nothing : (known : Known) → known ≡ nothing → Spells [] (Ok known)
+spells_nothing known same = ap Ok same

@@ -21,8 +21,8 @@ returns-in_default-clause-names g c =
     let line = c.args.line.now in
     let some : line ≡ [] → ⊥ = λ is. let zero_length = ap length is in search rules in
     let none : (item : Item) → ¬ IsLineOf line item = search rules in
-    inr (c.args.number, refl, (refl, next_refused (RefusesItem g.H.NodeHash.digest_of g.S.Verifier.verified) line c.args.asker.now.client some
-    (refuses_none g.H.NodeHash.digest_of g.S.Verifier.verified c.args.asker.now.client line none)))
+    let refuses = refuses_none g.H.NodeHash.digest_of g.S.Verifier.verified c.args.asker.now.client line none in
+    inr (c.args.number, refl, (refl, next_refused (RefusesItem g.H.NodeHash.digest_of g.S.Verifier.verified) line c.args.asker.now.client some refuses))
 
 pub returns-in_err-accept-clause-names : goal.returns-in_err-accept-clause-names
 returns-in_err-accept-clause-names g c =
