@@ -17,9 +17,10 @@ use client::Client;
 use encoding::{Hash32, Name, Policy};
 use nodehash::Sha256Hash;
 use proofs::Statement;
-use provider::bind;
-use rootchain::write_list;
+use provider::{Page, bind};
+use rootchain::{SignedRoot, write_list};
 use sigiface::{KeyedSign, Signer};
+use std::alloc::Global;
 use vrfiface::KeyedVuf;
 
 type KeyedClient = Client<Sha256Hash, KeyedVuf, KeyedSign>;
@@ -35,34 +36,60 @@ fn evidence(client: &KeyedClient, name: &Name) -> Result<Evidence>
     }
 }
 
-fn main(rt: HostRuntime) -> Result<()> {
+/// A client that takes the signed roots of both epochs, and looks the name up under each.
+fn shown(rt: &HostRuntime, signer: &KeyedSign, vuf: &KeyedVuf, name: &Name) -> Result<KeyedClient> {
     let alloc = rt.alloc();
-    let mut hash = Sha256Hash::new();
+    let first = bind(alloc, signer, vuf, name, b"k1", 3, None)?;
+    let later = bind(alloc, signer, vuf, name, b"k2", 7, Some(&first))?;
+    let root = first.root.write();
+    let mut client = Client::start(alloc, signer, signer.public(), root.bytes())?;
+    follow(alloc, &mut client, signer, &later.root)?;
+    look(rt, &mut client, vuf, name, &first)?;
+    look(rt, &mut client, vuf, name, &later)?;
+    Ok(client)
+}
+
+/// The client takes the signed root that comes next.
+fn follow(
+    alloc: Global,
+    client: &mut KeyedClient,
+    signer: &KeyedSign,
+    root: &SignedRoot,
+) -> Result<()> {
+    let mut roots = Vec::new(alloc);
+    write_list(&[root.copied()], &mut roots)?;
+    client.update(&mut Sha256Hash::new(), signer, &roots)?;
+    Ok(())
+}
+
+/// The client looks the name up under a root, and tells which key is stated with Final.
+fn look(
+    rt: &HostRuntime,
+    client: &mut KeyedClient,
+    vuf: &KeyedVuf,
+    name: &Name,
+    page: &Page,
+) -> Result<()> {
+    let (epoch, reply) = (page.root.body.epoch, page.reply.bytes());
+    let stated = client.look(&mut Sha256Hash::new(), vuf, name, epoch, reply)?;
+    if let Statement::Present(key, Some(Policy::Final)) = stated {
+        println!(rt; "epoch {epoch} states {}, final", key.escape_ascii())?;
+    }
+    Ok(())
+}
+
+fn main(rt: HostRuntime) -> Result<()> {
     let name = Name::new(b"alice")?;
     let signer = KeyedSign::new(Hash32::new([1; 32]));
     let vuf = KeyedVuf::new(Hash32::new([2; 32]));
-    let first = bind(alloc, &signer, &vuf, &name, b"k1", 3, None)?;
-    let later = bind(alloc, &signer, &vuf, &name, b"k2", 7, Some(&first))?;
-
-    // A client takes the signed roots, and looks the name up under each.
-    let root = first.root.write();
-    let mut client: KeyedClient = Client::start(alloc, &signer, signer.public(), root.bytes())?;
-    let mut roots = Vec::new(alloc);
-    write_list(&[later.root.copied()], &mut roots)?;
-    client.update(&mut hash, &signer, &roots)?;
-    for page in [&first, &later] {
-        let epoch = page.root.body.epoch;
-        let stated = client.look(&mut hash, &vuf, &name, epoch, page.reply.bytes())?;
-        if let Statement::Present(key, Some(Policy::Final)) = stated {
-            println!(rt; "epoch {epoch} states {}, final", key.escape_ascii())?;
-        }
-    }
+    let client = shown(&rt, &signer, &vuf, &name)?;
 
     // Its looks are evidence against the provider, whoever judges them.
     let evidence = evidence(&client, &name)?;
+    let mut hash = Sha256Hash::new();
     if judge(&mut hash, &vuf, &signer, client.key(), &evidence) {
         println!(rt; "judged: evidence")?;
     }
-    println!(rt; "{}", evidence_json(alloc, &evidence)?)?;
+    println!(rt; "{}", evidence_json(rt.alloc(), &evidence)?)?;
     Ok(())
 }
