@@ -11,7 +11,6 @@ import random
 import client_questions
 import directory_questions
 import evidence_questions
-import finality_questions
 import opening_questions
 import piece_questions
 import policy_session_questions
@@ -111,8 +110,7 @@ def of_scripts(q, rng):
 
 def questions():
     q = Questions()
-    later = piece_questions.SUBJECTS + policy_session_questions.SUBJECTS + finality_questions.SUBJECTS
-    for place, (text, of) in enumerate(SUBJECTS + later):
+    for place, (text, of) in enumerate(SUBJECTS + piece_questions.SUBJECTS + policy_session_questions.SUBJECTS):
         q.subject(text)
         of(q, random.Random(place + 1))
     return q.lines[1:]

@@ -2,7 +2,6 @@ pub mod Agreements
 pub mod Clients
 pub mod Dues
 pub mod Finality
-pub mod Latest
 pub mod Looking
 pub mod Numbered
 pub mod Promising
