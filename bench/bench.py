@@ -1248,15 +1248,19 @@ TURN_HEAD = ["a second", "least", "median", "greatest", "checks", "median", "gre
 def look_row(epochs):
     """The row of a client that looked all names up at so many epochs."""
     rounds, runs_made = LOOK_RUNS[epochs]
-    looks, turns, memory = epochs * LOOK_NAMES, Turns(LOOK_NAMES), []
+    looks, turns, memory, searched = epochs * LOOK_NAMES, Turns(LOOK_NAMES), [], []
     for _ in range(runs_made):
         words = [LOOK_NAMES, LOOK_SIBLINGS, LOOK_ROOTS, epochs, rounds]
-        _, (kept, *run_steps) = steps(1 + 4 * rounds, "looks", *words)
+        _, (kept, changes, *run_steps) = steps(2 + 4 * rounds, "looks", *words)
+        if changes.number != LOOK_NAMES:
+            sys.exit(f"looks: {changes.number} names have no changed binding, and {LOOK_NAMES} was wanted")
+        searched.append(changes.seconds)
         digests = digests_of(kept.number // epochs, LOOK_NAMES)
         memory.append((kept.memory - kept.number) / looks)
         for k in range(0, 4 * rounds, 4):
             turns.round(digests, *run_steps[k + 1 : k + 4])
-    return [f"{looks:,}", *turns.cells(), f"{statistics.median(memory):.0f}"]
+    finality = statistics.median(searched) * 1e9 / looks
+    return [f"{looks:,}", *turns.cells(), f"{statistics.median(memory):.0f}", f"{finality:.0f}"]
 
 
 def update_row(before, piece=0, runs_made=None):
@@ -1293,8 +1297,8 @@ def watch_row():
 
 def client(_folder):
     rows = [look_row(epochs) for epochs in LOOK_RUNS]
-    title = "a look, and the reading and check of its reply, microseconds; bytes kept beside the reply's"
-    table(title, ["looks kept", *TURN_HEAD, "bytes"], rows)
+    title = "a look, and the reading and check of its reply, microseconds; bytes kept beside the reply's; finality, ns a look"
+    table(title, ["looks kept", *TURN_HEAD, "bytes", "finality"], rows)
     rows = [update_row(before) for before in UPDATE_RUNS]
     spread = ["least", "median", "greatest", "ratio"]
     head = ["roots", "new/s", *spread, "known/s", *spread, "body, ns", "signature, ns"]

@@ -202,18 +202,10 @@ def owner_line(rng, epoch):
     ])
 
 
-def final_line(rng, epoch):
-    """What somebody does who has a final key, or looks at one."""
-    return rng.choice([
-        "register2 61 6b31 final", f"close {epoch}", f"close {epoch}", "lookup 61 0", "lookup 61 0", f"lookup 61 {rng.choice([2, 3, epoch])}",
-        "watch2 61 6b31 final", "head",
-    ])
-
-
 def drawn_runs(rng):
     """Some runs over one state: commands of a few names, or of one owner, and a closing now and then. Alarms are
     settled between them."""
-    runs, epoch, line = [], 1, rng.choice([drawn_line, owner_line, owner_line, final_line])
+    runs, epoch, line = [], 1, rng.choice([drawn_line, owner_line, owner_line])
     for _ in range(rng.randrange(1, 6)):
         lines = []
         for _ in range(rng.randrange(1, 7)):
@@ -317,24 +309,6 @@ def promised_key_is_opened(provider, _request, reply):
 def let_wait_as_open(directory, name):
     """What waits for a name is open, whatever was promised."""
     directory.waiting[name] = directory.waiting[name]._replace(policy=OPEN)
-
-
-def name_goes(provider, _request, reply):
-    """The next page has no name."""
-    directory = provider.hub.directory
-    directory.pages[-1] = directory.last()._replace(bindings={}, tree=Tree(directory.digest, directory.last().root.body.nonce))
-    return reply
-
-
-def other_final_key_between(provider, request, reply):
-    """The promised key waits for the epoch after the next one, and another final key for that."""
-    directory = provider.hub.directory
-    promised = directory.waiting.copy()
-    directory.let_wait(b"a", EVIL, None, FINAL)
-    close(provider)
-    directory.waiting |= promised
-    close(provider)
-    return reply
 
 
 def key_is_changed_and_put_back(provider, request, _reply):
@@ -543,59 +517,6 @@ def final_promise_and_root():
     return evidence_json(BrokenPromise(promise, directory.close(2), directory.lookup(b"a", 2).write()))
 
 
-def final_directory(*acts):
-    """A directory whose name has a final key in epoch 2. Each act comes before the end of one more epoch."""
-    directory = keyed_directory(1, ZERO32, SIGNING_KEY, VUF_KEY, SALT_KEY)
-    directory.register2(b"a", b"k1", FINAL)
-    directory.close(2)
-    for act in acts:
-        act(directory)
-        directory.close(directory.last().epoch + 1)
-    return directory
-
-
-def change_in(directory, before=None):
-    """The evidence of a final binding that was changed, by the replies for epochs 2 and 3. The first may be of a directory
-    as it was before."""
-    replies = [each.lookup(b"a", epoch).write() for each, epoch in ((before or directory, 2), (directory, 3))]
-    return evidence_json(BrokenFinal(b"a", directory.page(2).root, replies[0], directory.page(3).root, replies[1]))
-
-
-def becomes(key, policy):
-    return lambda directory: directory.let_wait(b"a", key, None, policy)
-
-
-def without_names(directory):
-    directory.pages[-1] = directory.last()._replace(bindings={}, tree=Tree(directory.digest, ZERO32))
-
-
-def others_final():
-    """A directory that changes another's final key to one of its own."""
-    directory = keyed_directory(1, ZERO32, SIGNING_KEY, VUF_KEY, SALT_KEY)
-    directory.register2(b"a", EVIL, FINAL)
-    directory.close(2)
-    directory.let_wait(b"a", b"k1", None, FINAL)
-    directory.close(3)
-    return directory
-
-
-def final_between():
-    """The directory of `other_final_key_between`, and the promise that it broke."""
-    directory = keyed_directory(1, ZERO32, SIGNING_KEY, VUF_KEY, SALT_KEY)
-    promise = directory.register2(b"a", b"k1", FINAL)
-    promised = directory.waiting.copy()
-    directory.let_wait(b"a", EVIL, None, FINAL)
-    directory.close(2)
-    directory.waiting |= promised
-    directory.close(3)
-    return directory, promise
-
-
-def broken_between():
-    directory, promise = final_between()
-    return evidence_json(BrokenPromise(promise, directory.page(2).root, directory.lookup(b"a", 2).write()))
-
-
 def kept_epochs(first, last):
     """What is told of a name that is watched in these epochs."""
     return [f"kept 61 {epoch}" for epoch in range(first, last + 1)]
@@ -622,10 +543,6 @@ FORKED = evidence_json(RootEvidence(FORK, root_2(b"k1"), root_2(EVIL)))
 LINKED = evidence_json(RootEvidence(LINK, root_2(b"k1"), roots_of(EVIL)[1]))
 AFTER_1027 = "no root is taken after epoch 1027"
 EARLIER_EVIDENCE = "state: FILE.kept: evidence of an earlier run"
-FINAL_CHANGED = "final binding of 61: it was changed"
-ROBBED_FINAL = change_in(final_directory(becomes(EVIL, None)))
-OTHERS_FINAL = change_in(others_final())
-GONE_FINAL = change_in(final_directory(without_names), final_directory())
 
 # Of a name: what the directory does, the runs over one state, and how the last of them ends.
 STORED_LIES = {
@@ -1169,27 +1086,27 @@ STORED_LIES = {
     "another key in the place of a final one": (
         lies((2, None, key_is_robbed)),
         [BEGUN_FINAL, WATCH_FINAL],
-        Ending(["root 3 after 2", ALARM, ROBBED_FINAL], 3, [FINAL_CHANGED]),
+        Ending(["root 3 after 2", ALARM], 3, []),
     ),
     "another key in the place of a final one, and a run later": (
         lies((2, None, key_is_robbed)),
         [BEGUN_FINAL, WATCH_FINAL, run_of_words("watch2 61 6b31 final")],
-        Ending([ROBBED_FINAL, ALARM, "watched 61 3"], 3, [EARLIER_EVIDENCE, EARLIER_ALARM]),
+        Ending([ALARM, "watched 61 3"], 3, [EARLIER_ALARM]),
     ),
     "another final key in the place of a final one": (
         lies((2, None, binding_becomes(EVIL, FINAL))),
         [BEGUN_FINAL, WATCH_FINAL],
-        Ending(["root 3 after 2", "alarm 61 3 6576 final", change_in(final_directory(becomes(EVIL, FINAL)))], 3, [FINAL_CHANGED]),
+        Ending(["root 3 after 2", "alarm 61 3 6576 final"], 3, []),
     ),
     "a final key that is shown as open": (
         lies((2, None, binding_becomes(b"k1", OPEN))),
         [BEGUN_FINAL, WATCH_FINAL],
-        Ending(["root 3 after 2", "alarm 61 3 6b31 open", change_in(final_directory(becomes(b"k1", OPEN)))], 3, [FINAL_CHANGED]),
+        Ending(["root 3 after 2", "alarm 61 3 6b31 open"], 3, []),
     ),
     "a final key that is shown without a policy": (
         lies((2, None, binding_becomes(b"k1", None))),
         [BEGUN_FINAL, WATCH_FINAL],
-        Ending(["root 3 after 2", "alarm 61 3 6b31", change_in(final_directory(becomes(b"k1", None)))], 3, [FINAL_CHANGED]),
+        Ending(["root 3 after 2", "alarm 61 3 6b31"], 3, []),
     ),
     "a final key that was promised, and is shown as open": (
         lies((1, "register2", promised_key_is_opened)),
@@ -1200,69 +1117,6 @@ STORED_LIES = {
         lies((1, "register2", promised_key_is_opened)),
         [run_of_lines("register2 61 6b31 final", "close 2"), SETTLE],
         Ending([final_promise_and_root(), "settled 61 0"], 3, [EARLIER_EVIDENCE]),
-    ),
-    # 14. The first reply that stated a final key is remembered. One that shows with it that the binding was changed is
-    # told as evidence, behind what it prints: of a look-up, of a step of a monitor, of the test of a promise.
-    "a final key that is looked up": (
-        lies((2, None, key_is_robbed)),
-        [run_of_lines("register2 61 6b31 final", "close 2", "lookup 61 0"), run_of_lines("close 3", "lookup 61 0")],
-        Ending(["root 3 after 2", "present 3 6576", ROBBED_FINAL], 3, [FINAL_CHANGED]),
-    ),
-    "a final key of somebody else's": (
-        lies((2, None, key_is_robbed)),
-        [run_of_lines("register2 61 6b31 final", "close 2"), run_of_words("lookup 61 2"), run_of_lines("close 3", "lookup 61 3")],
-        Ending(["root 3 after 2", "present 3 6576", ROBBED_FINAL], 3, [FINAL_CHANGED]),
-    ),
-    "a final key that was changed in one run": (
-        lies((1, "close", binding_becomes(EVIL, None))),
-        [run_of_lines("register2 61 6b31 final", "close 2", "close 3", "lookup 61 2", "lookup 61 3")],
-        Ending(["promise 1", "root 2 after 1", "root 3 after 2", "present 2 6b31 final", "present 3 6576", ROBBED_FINAL], 3, [BEGINS, FINAL_CHANGED]),
-    ),
-    "an older reply that a final key changed": (
-        lies((1, None, binding_becomes(EVIL, FINAL)), (1, "close", binding_becomes(b"k1", FINAL))),
-        [run_of_lines("close 2", "close 3", "lookup 61 3", "lookup 61 2")],
-        Ending(["root 2 after 1", "root 3 after 2", "present 3 6b31 final", "present 2 6576 final", OTHERS_FINAL], 3, [BEGINS, FINAL_CHANGED]),
-    ),
-    "an older reply of an open key": (
-        lies((1, None, binding_becomes(EVIL, OPEN)), (1, "close", binding_becomes(b"k1", FINAL))),
-        [run_of_lines("close 2", "close 3", "lookup 61 3", "lookup 61 2")],
-        Ending(["root 2 after 1", "root 3 after 2", "present 3 6b31 final", "present 2 6576 open"], 0, [BEGINS]),
-    ),
-    "a final key that stays": (
-        lies(),
-        [BEGUN_FINAL, WATCH_FINAL, run_of_lines("close 4", "lookup 61 0", "watch2 61 6b31 final", "lookup 61 2")],
-        Ending(["root 4 after 3", "present 4 6b31 final", "kept 61 4", "present 2 6b31 final"], 0, []),
-    ),
-    "a final name that goes": (
-        lies((2, None, name_goes)),
-        [BEGUN_FINAL, WATCH_FINAL],
-        Ending(["root 3 after 2", "alarm 61 3 absent", GONE_FINAL], 3, [FINAL_CHANGED]),
-    ),
-    "a final name that goes, and a look-up": (
-        lies((2, None, name_goes)),
-        [BEGUN_FINAL, run_of_lines("close 3", "lookup 61 0")],
-        Ending(["root 3 after 2", "absent 3", GONE_FINAL], 3, [FINAL_CHANGED]),
-    ),
-    "a final key that a promise's test finds changed": (
-        lies((1, "register2", other_final_key_between), (1, "lookup", memory_runs_out_for(2))),
-        [run_of_lines("register2 61 6b31 final", "lookup 61 0"), run_of_words("head")],
-        Ending([broken_between(), change_in(final_between()[0]), "root 3 after 2"], 3, ["promise for 61: it was not kept", FINAL_CHANGED]),
-    ),
-    "a changed final key, and more epochs": (
-        lies((2, None, key_is_robbed)),
-        [BEGUN_FINAL, WATCH_FINAL, run_of_lines("close 4", "close 5", "lookup 61 0", "watch 61 6576")],
-        Ending(
-            [ROBBED_FINAL, "root 4 after 3", "root 5 after 4", "present 5 6576", ALARM, "kept 61 4", "kept 61 5"], 3, [EARLIER_EVIDENCE, EARLIER_ALARM]),
-    ),
-    "a final key that is changed twice": (
-        lies((2, None, binding_becomes(EVIL, FINAL)), (3, None, binding_becomes(b"k1", FINAL))),
-        [BEGUN_FINAL, WATCH_FINAL, run_of_lines("close 4", "lookup 61 0", "lookup 61 3")],
-        Ending([change_in(final_directory(becomes(EVIL, FINAL))), "root 4 after 3", "present 4 6b31 final", "present 3 6576 final"], 3, [EARLIER_EVIDENCE]),
-    ),
-    "a proof that is altered is not kept": (
-        lies((1, "lookup", proof_is_altered_at(2)), (2, None, key_is_robbed)),
-        [run_of_lines("register2 62 6b31 final", "close 2", "lookup 62 2"), run_of_words("lookup 62 0")],
-        Ending(["present 2 6b31 final"], 0, []),
     ),
 }
 

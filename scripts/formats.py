@@ -1260,7 +1260,7 @@ class Feed:
 
 # Evidence ------------------------------------------------------------------------------------------------
 
-BROKEN, CHANGED = "broken-promise", "broken-final"
+BROKEN, BROKEN_FINAL = "broken-promise", "broken-final"
 
 
 @dataclass(frozen=True)
@@ -1288,7 +1288,7 @@ class BrokenPromise:
 
 @dataclass(frozen=True)
 class BrokenFinal:
-    """A reply for a name that states a key with Final, under a root, and one under a later root that states anything else."""
+    """Replies for one name under two roots, of which the first states a key with Final, and the later anything else."""
 
     name: bytes
     root: SignedRoot
@@ -1296,22 +1296,20 @@ class BrokenFinal:
     later_root: SignedRoot
     later_proof: bytes
 
-    kind = CHANGED
+    kind = BROKEN_FINAL
 
     def holds(self, digest, vuf, key):
         if not (self.root.verifies(key) and self.later_root.verifies(key) and self.root.epoch < self.later_root.epoch):
             return False
         try:
-            one = accept(digest, vuf, self.root.body, self.name, self.proof)
-            other = accept(digest, vuf, self.later_root.body, self.name, self.later_proof)
+            accepted = accept(digest, vuf, self.root.body, self.name, self.proof)
+            later = accept(digest, vuf, self.later_root.body, self.name, self.later_proof)
         except ReplyRefusal:
             return False
-        return one.index == other.index and is_final(one.statement()) and other.statement() != one.statement()
-
-
-def is_final(statement):
-    """Whether a key is stated that is never to change."""
-    return statement is not None and statement.policy == FINAL
+        stated = accepted.statement()
+        if accepted.index != later.index or stated is None or stated.policy != FINAL:
+            return False
+        return later.statement() != stated
 
 
 def judge(digest, vuf, key, evidence):
@@ -1325,7 +1323,7 @@ def evidence_parts(evidence):
     """The two byte strings of evidence."""
     if isinstance(evidence, RootEvidence):
         return evidence.a.write(), evidence.b.write()
-    if isinstance(evidence, BrokenFinal):
+    if evidence.kind == BROKEN_FINAL:
         first = counted(evidence.name) + evidence.root.write() + evidence.proof
         return first, evidence.later_root.write() + evidence.later_proof
     return evidence.promise.write(), evidence.root.write() + evidence.proof

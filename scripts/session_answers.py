@@ -28,7 +28,7 @@ MAX_PROOF_TEXT = 10700
 MAX_SESSION = 2**32 - 1
 MAX_PIECE = 65536
 MOST_EVENTS = 1000
-EVIDENCE_KINDS = (FORK, LINK, SKIP, BROKEN)
+EVIDENCE_KINDS = (FORK, LINK, SKIP, BROKEN, BROKEN_FINAL)
 # Refusals that no question leads to.
 REFUSALS = {
     "directory-memory": f"refused 14 {OUT_OF_MEMORY}",
@@ -66,6 +66,12 @@ def due_words(due):
         parts = (due.promise.write(), due.root.write(), due.proof)
         return ["broken", *map(told, parts)]
     return [due]
+
+
+def changed_words(broken):
+    """A final binding that was changed: the kind, the name, and each root with its proof."""
+    shown = [(broken.root, broken.proof), (broken.later_root, broken.later_proof)]
+    return [broken.kind, told(broken.name), *(told(data) for root, proof in shown for data in (root.write(), proof))]
 
 
 def there(value):
@@ -453,6 +459,11 @@ class SessionAnswers(Lines):
         """`due-epoch NAME`"""
         return [or_none(self.client().due_epoch(w.name()))]
 
+    def client_finality(self, w):
+        """`finality NAME`"""
+        broken = self.client().finality(w.name())
+        return ["none"] if broken is None else changed_words(broken)
+
     def client_key(self, w):
         return [told(self.client().key)]
 
@@ -562,16 +573,31 @@ class SessionAnswers(Lines):
         return [or_none(chain and chain.head().epoch)]
 
     def auditor_judge(self, w):
-        """`judge KEY KIND FIRST SECOND [PROOF]`"""
-        key, kind, first, second = w.hash(), self.kind(w), w.bytes(), w.bytes()
-        if kind != BROKEN:
-            evidence = RootEvidence(kind, SignedRoot.read(first), SignedRoot.read(second))
-            return [yes(judge(sha256, KeyedVuf, key, evidence))]
+        """`judge KEY KIND FIRST SECOND [PROOF]`, or `judge KEY broken-final NAME ROOT PROOF ROOT PROOF`"""
+        key, kind = w.hash(), self.kind(w)
+        return [yes(judge(sha256, KeyedVuf, key, self.judged(kind, w)))]
+
+    def judged(self, kind, w):
+        """The evidence of a kind, of which each part is a word."""
+        if kind == BROKEN_FINAL:
+            return self.changed(w)
+        first, second = w.bytes(), w.bytes()
+        if kind == BROKEN:
+            return BrokenPromise(SignedPromise.read(first), SignedRoot.read(second), self.proof(w))
+        return RootEvidence(kind, SignedRoot.read(first), SignedRoot.read(second))
+
+    def changed(self, w):
+        """A final binding that was changed."""
+        name = w.name()
+        root, proof = SignedRoot.read(w.bytes()), self.proof(w)
+        return BrokenFinal(name, root, proof, SignedRoot.read(w.bytes()), self.proof(w))
+
+    @staticmethod
+    def proof(w):
         proof = w.bytes()
         if len(proof) > MAX_PROOF_TEXT:
             raise BadQuestion
-        evidence = BrokenPromise(SignedPromise.read(first), SignedRoot.read(second), proof)
-        return [yes(judge(sha256, KeyedVuf, key, evidence))]
+        return proof
 
     @staticmethod
     def kind(w):
@@ -583,8 +609,11 @@ class SessionAnswers(Lines):
     # evidence
 
     def evidence_json(self, w):
-        """`json KIND FIRST SECOND`"""
-        evidence = evidence_of(self.kind(w), w.bytes(), w.bytes())
+        """`json KIND FIRST SECOND`, or `json broken-final NAME ROOT PROOF ROOT PROOF`"""
+        kind = self.kind(w)
+        if kind == BROKEN_FINAL:
+            return [told_text(evidence_json(self.changed(w)).encode())]
+        evidence = evidence_of(kind, w.bytes(), w.bytes())
         if evidence.kind == BROKEN and len(evidence.proof) > MAX_PROOF_TEXT:
             raise BadQuestion
         return [told_text(evidence_json(evidence).encode())]
@@ -595,6 +624,8 @@ class SessionAnswers(Lines):
             evidence = read_evidence(w.bytes())
         except ProgramFault as fault:
             return ["fault", str(fault.status), fault.text]
+        if evidence.kind == BROKEN_FINAL:
+            return changed_words(evidence)
         return [evidence.kind, *map(told, evidence_parts(evidence))]
 
     def evidence_judge(self, w):

@@ -11,6 +11,7 @@ import random
 import client_questions
 import directory_questions
 import evidence_questions
+import finality_questions
 import opening_questions
 import piece_questions
 import policy_session_questions
@@ -110,7 +111,8 @@ def of_scripts(q, rng):
 
 def questions():
     q = Questions()
-    for place, (text, of) in enumerate(SUBJECTS + piece_questions.SUBJECTS + policy_session_questions.SUBJECTS):
+    later = piece_questions.SUBJECTS + policy_session_questions.SUBJECTS + finality_questions.SUBJECTS
+    for place, (text, of) in enumerate(SUBJECTS + later):
         q.subject(text)
         of(q, random.Random(place + 1))
     return q.lines[1:]

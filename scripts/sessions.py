@@ -24,6 +24,7 @@ from formats import (
     BAD_SIGNATURE,
     BEFORE_START,
     BROKEN,
+    BROKEN_FINAL,
     EQUAL,
     FAILED,
     FINAL,
@@ -48,6 +49,7 @@ from formats import (
     ZERO32,
     Accepted,
     Body,
+    BrokenFinal,
     BrokenPromise,
     Chain,
     Cursor,
@@ -700,6 +702,24 @@ class Client:
         self.promises = [other for other in self.promises if other is not signed]
         return KEPT
 
+    def finality(self, name):
+        """How a final binding of a name was changed, or None: the first look that states Final and has a look at a later
+        epoch, with its index and another statement, and the first such look, both in order of acceptance."""
+        looks = [look for look in self.looks if look.name == name]
+        for look in looks:
+            stated = look.accepted.statement()
+            if stated is None or stated.policy != FINAL:
+                continue
+            for later in looks:
+                is_later = look.epoch < later.epoch and look.accepted.index == later.accepted.index
+                if is_later and later.accepted.statement() != stated:
+                    return BrokenFinal(name, *self.shown(look), *self.shown(later))
+        return None
+
+    def shown(self, look):
+        """The root of a look, and the reply."""
+        return self.chain.at(look.epoch), look.accepted.reply.write()
+
 
 KEPT, OTHER_INDEX, AGREE = "kept", "other index", "agree"
 LIST_REFUSALS = {"bad signature": BAD_SIGNATURE, BEFORE_START: NOT_LATER, AHEAD: BAD_LINK}
@@ -839,15 +859,25 @@ NOT_EVIDENCE = "not an evidence file"
 
 def evidence_of(kind, first, second):
     """The evidence of a kind and two byte strings. A proof is taken as it is."""
-    if kind != BROKEN:
-        return RootEvidence(kind, SignedRoot.read(first), SignedRoot.read(second))
-    promise = SignedPromise.read(first)
-    cursor = Cursor(second)
+    if kind == BROKEN:
+        return BrokenPromise(SignedPromise.read(first), *root_and_proof(Cursor(second)))
+    if kind == BROKEN_FINAL:
+        cursor = Cursor(first)
+        try:
+            name = cursor.counted(1, MAX_NAME)
+        except Fault:
+            raise RootRefusal(MALFORMED) from None
+        return BrokenFinal(name, *root_and_proof(cursor), *root_and_proof(Cursor(second)))
+    return RootEvidence(kind, SignedRoot.read(first), SignedRoot.read(second))
+
+
+def root_and_proof(cursor):
+    """A signed root, and what follows it."""
     try:
         root = SignedRoot.take(cursor)
     except Fault:
         raise RootRefusal(MALFORMED) from None
-    return BrokenPromise(promise, root, cursor.take(cursor.left()))
+    return root, cursor.take(cursor.left())
 
 
 def hex_bytes(text):
@@ -873,14 +903,21 @@ def read_evidence(file):
             raise ValueError
         if not all(isinstance(text, str) for text in value.values()):
             raise ValueError
-        if value["kind"] not in (FORK, LINK, SKIP, BROKEN):
+        if value["kind"] not in (FORK, LINK, SKIP, BROKEN, BROKEN_FINAL):
             raise ValueError
         evidence = evidence_of(value["kind"], hex_bytes(value["first"]), hex_bytes(value["second"]))
-        if value["kind"] == BROKEN:
-            Reply.read(evidence.proof)
+        for proof in proofs_of(evidence):
+            Reply.read(proof)
     except (ValueError, Refusal):
         raise ProgramFault(NOT_EVIDENCE) from None
     return evidence
+
+
+def proofs_of(evidence):
+    """The proofs that evidence has."""
+    if evidence.kind == BROKEN_FINAL:
+        return [evidence.proof, evidence.later_proof]
+    return [evidence.proof] if evidence.kind == BROKEN else []
 
 
 def judge_file(key, file):

@@ -546,17 +546,12 @@ def cut_lines(program):
                 state = f"{folder}/{number}"
                 put(state, cut.roots, cut.kept)
                 words = "".join(f"state: {state}{line}\n" for line in cut.said)
-                got = done(program, state, address, b"head\n"), without_finals(bytes_of(state))
+                got = done(program, state, address, b"head\n"), bytes_of(state)
                 return different(f"{cut.roots[-20:]} and {cut.kept[-20:]}", ((HEAD_3, words, 0), [whole, cut.kept_then]), got)
 
             with ThreadPoolExecutor(BESIDE) as pool:
                 yield from pool.map(check, enumerate(cut for each in cases for cut in each(begun)))
             yield from cut_first_line(program, address, folder, begun)
-
-
-def without_finals(files):
-    """The bytes of the files, but for what a promise's test has shown of a final key."""
-    return [None if data is None else re.sub(rb"(?m)^final .*\n", b"", data) for data in files]
 
 
 def cut_first_line(program, address, folder, begun):
@@ -599,44 +594,6 @@ def bad_items(program):
                 # FILE may be there, and empty.
                 got[1][0] = got[1][0] or None
             yield different(what, (("", words, 1), before), got)
-
-
-def bad_finals(program):
-    """A line is no item whose reply does not state a final key for its name under FILE's root of its epoch. Of two for one
-    name the first counts."""
-    with tempfile.TemporaryDirectory() as folder:
-        provider = Provider()
-        begun, script = f"{folder}/begun", b"register2 61 6b31 final\nregister2 62 6b31 open\nclose 2\nclose 3\nlookup 61 2\nlookup 62 0\n"
-        provider.begin()
-        ran(program, provider, script, begun)
-        roots, kept = files_of(begun)
-        replies = {(name, epoch): provider.hub.directory.lookup(name, epoch).write().hex() for name in (b"a", b"b", b"c") for epoch in (2, 3)}
-        line, later = (f"final 61 {epoch} {replies[b'a', epoch]}" for epoch in (2, 3))
-        yield different("what is kept of a final key", [line], kept)
-        for count, bad in enumerate(bad_final_lines(line, replies)):
-            state = f"{folder}/{count}"
-            put(state, text_of(roots), text_of([later, bad]))
-            before = bytes_of(state)
-            provider.begin()
-            words = [f"state: {state}.kept: {AS_WRITTEN}", "line 2: bad item"]
-            yield different(f"the line {bad[:30]}", (([], words, 1), before), (ran(program, provider, b"head\n", state), bytes_of(state)))
-        put(f"{folder}/two", text_of(roots), text_of([line, later]))
-        provider.begin()
-        got = ran(program, provider, b"head\n", f"{folder}/two"), files_of(f"{folder}/two")[1]
-        yield different("two lines of a name", (([HEAD_3.strip()], [], 0), [line]), got)
-
-
-def bad_final_lines(line, replies):
-    """Lines made of a good one that are no items."""
-    reply = line.split(" ")[3]
-    return [
-        "final", "final 61", "final 61 2", "final 61 2 ", f"final 61 2 {reply} ", f"final 61 2 {reply} 2", f"final 61  {reply}", f"final  2 {reply}",
-        f"final 6 2 {reply}", f"final {'61' * 256} 2 {reply}", f"final 61 x {reply}", f"final 61 02 {reply}", f"final 61 18446744073709551616 {reply}",
-        f"Final 61 2 {reply}", f"final 61 2 {reply.upper()}", line[:-1], line[:-2], f"{line}00", changed_digit(line), f"final 61 2 {'00' * 10701}",
-        # Of another epoch, or another name, or not of a final key.
-        f"final 61 3 {reply}", f"final 61 1 {reply}", f"final 61 4 {reply}", f"final 61 0 {reply}", f"final 62 2 {reply}",
-        f"final 61 2 {replies[b'a', 3]}", f"final 62 2 {replies[b'b', 2]}", f"final 63 2 {replies[b'c', 2]}",
-    ]
 
 
 def bad_roots(begun, foreign):
@@ -936,7 +893,6 @@ def main():
             "modes": lambda: modes(program),
             "cut lines": lambda: cut_lines(program),
             "bad items": lambda: bad_items(program),
-            "bad final lines": lambda: bad_finals(program),
             "beginnings": lambda: beginnings(program),
             "old states": lambda: old_states(program, words.seed),
             "left over": lambda: left_over(program),

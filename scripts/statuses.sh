@@ -513,7 +513,7 @@ fi
 
 # `judge`, of the evidence that Python computed, which holds or not.
 scripts/formats.py --evidence >"$folder/evidence"
-for kind in fork link skip broken-promise; do
+for kind in fork link skip broken-promise broken-final; do
     sed -n "s/^0 $kind //p" "$folder/evidence" >"$folder/$kind.json"
     given "" judge --key $ones "$folder/$kind.json"
     ends 0 "evidence" ""

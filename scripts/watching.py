@@ -1,6 +1,7 @@
 #!/usr/bin/env python3
 """Runs the lines of docs/OPERATING.md and README.md on watching a name, as they are printed there, over some epochs:
-as the owner of a name from an empty folder, with a directory behind TLS, until it forks.
+as the owner of a name from an empty folder, with a directory behind TLS, until it forks. Then the lines of README on
+evidence: of a final binding that was changed, and of two users who were shown two keys.
 
     scripts/watching.py PROGRAM
 
@@ -27,7 +28,7 @@ import time
 
 SECONDS = 90
 ROOT = pathlib.Path(__file__).resolve().parent.parent
-PORTS = "7000", "7443", "7002"
+PORTS = "7000", "7443", "7002", "7003", "7004"
 
 # The page ----------------------------------------------------------------------------------------------------------
 
@@ -342,6 +343,25 @@ def forked(trial, ask, directory, end):
     trial.same(f"evidence, and no socat ({errors})", ("{", 3), (output[:1], status))
 
 
+def caught(trial):
+    """README's evidence. Of its examples the stored output is taken, and of `rt try` the built program."""
+    lines, wanted = trial.block("A final binding that was changed", "broken_final", trial.readme)
+    stored = f"cat {ROOT}/crates/broken_final/stdout"
+    lines = lines.replace("(cd crates/broken_final && rt try)", stored).replace("rt try -- judge", "directoryd judge")
+    trial.prints("a final binding that was changed", 0, wanted, lines, where=trial.folder)
+    keys = trial.block("Ask a running directory", "keys.txt", trial.readme)[0]
+    made = "".join(line for line in keys.splitlines(True) if "zeros" in line)
+    lines, wanted = trial.block("Two users who were shown two keys", "listen", trial.readme)
+    directories = [line for line in lines.splitlines() if " listen " in line]
+    trial.sh(made, where=trial.folder)
+    for line in directories:
+        trial.start(line.replace(" --count 1", "").removesuffix(" & sleep 1"))  # `until` connects, too
+    for port in "7003", "7004":
+        trial.until(trial.ports[port])
+    asked = "".join(line for line in lines.splitlines(True) if " listen " not in line)
+    trial.prints("two users who were shown two keys", 0, wanted, made + asked, where=trial.folder)
+
+
 def main(program):
     with tempfile.TemporaryDirectory() as folder:
         trial = Trial(os.path.abspath(program), pathlib.Path(folder))
@@ -350,6 +370,7 @@ def main(program):
             told(trial, ask)
             changed(trial, ask)
             forked(trial, ask, directory, end)
+            caught(trial)
     for failure in trial.failures:
         print(failure)
     print(f"{trial.count - len(trial.failures)} passed, {len(trial.failures)} failed")

@@ -279,16 +279,23 @@ def audited():
 
 def evidence():
     """Evidence of each kind that holds under the signing key, and some that does not."""
-    # A promise of another key for alice at epoch 7; and the next root, which binds k1 to her.
     vuf, salt = KeyedVuf(VUF_KEY), bytes(range(0x20, 0x40))
     value = vuf.value(b"alice")
-    tree = Tree(sha256, NONCE, {sha256(value): sha256(commitment_text(salt, b"alice", b"k1"))})
-    eighth = body_after(SEVENTH, 8, root=tree.root())
-    proof = Reply(eighth, value, Opening(salt, b"k1"), ()).write()
+
+    def bound(before, epoch, key, policy=None):
+        """The root of an epoch that binds this to alice, and the reply."""
+        commitment = sha256(commitment_text(salt, b"alice", key, policy))
+        body = body_after(before, epoch, root=Tree(sha256, NONCE, {sha256(value): commitment}).root())
+        return signed(body), Reply(body, value, Opening(salt, key, policy), ()).write()
 
     def promised(key):
+        """A promise of a key for alice at epoch 7; and the next root, which binds k1 to her."""
         promise = Promise(7, sha256(SEVENTH.write()), sha256(value), b"alice", key)
-        return BrokenPromise(SignedPromise.signed(promise, SIGNING_KEY), signed(eighth), proof)
+        return BrokenPromise(SignedPromise.signed(promise, SIGNING_KEY), *bound(SEVENTH, 8, b"k1"))
+
+    def changed(key):
+        """What is final for alice at epoch 7; and a later root, which binds this key to her."""
+        return BrokenFinal(b"alice", *bound(THIRD, 7, b"k1", FINAL), *bound(SEVENTH, 9, key, FINAL))
 
     seventh, other = signed(SEVENTH), signed(OTHER_SEVENTH)
     return [
@@ -296,10 +303,12 @@ def evidence():
         RootEvidence(LINK, seventh, signed(body_after(OTHER_SEVENTH, 9))),
         RootEvidence(SKIP, seventh, signed(body_after(THIRD, 9))),
         promised(b"k9"),
+        changed(b"k2"),
         RootEvidence(FORK, seventh, seventh),
         RootEvidence(LINK, seventh, signed(NINTH)),
         RootEvidence(SKIP, signed(THIRD), seventh),
         promised(b"k1"),
+        changed(b"k1"),
     ]
 
 

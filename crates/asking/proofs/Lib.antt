@@ -3,8 +3,6 @@ pub mod Asked
 pub mod Catching
 pub mod Caught
 pub mod ChainRoots
-pub mod FinalsNoted
-pub mod FinalsShown
 pub mod Going
 pub mod Halted
 pub mod Handed

@@ -17,20 +17,18 @@ use Rattle.asking.specs.declared.ask_fault.AskFault.{AskFault}
 use Rattle.asking.specs.declared.ask_fault.AskFault.TheVariants.{NoReply}
 use Rattle.asking.specs.declared.said.Said.{Said}
 use Rattle.asking.specs.Answering.{IsAnswerTo}
-use Rattle.asking.specs.FinalBindings.{Finals}
 use Rattle.asking.specs.Refused.{client_refuses, other_reply, refuses_text}
 use Rattle.asking.specs.Reports.{Report, Tells, refused, report_of, told_after}
 
--- the client and the monitors, what is known of final bindings, what was told so far, and the stream to the directory
+-- the client and the monitors, what was told so far, and the stream to the directory
 pub record Scene (T : Type 0) : Type 0 where
   pub client : Client
   pub monitors : List Monitor
-  pub finals : Finals
   pub told : Report
   pub stream : T
 
 abbrev pub scene : {H V S T : Type 0} → Asker H V S → Said → T → Scene T
-scene asker said stream = record { client = asker.client; monitors = asker.monitors.items; finals = asker.finals; told = report_of said; stream = stream }
+scene asker said stream = record { client = asker.client; monitors = asker.monitors.items; told = report_of said; stream = stream }
 
 -- a frame that is a response, and answers what was asked
 abbrev pub FrameAnswers : RequestContent → Frame → Type 0

@@ -2,7 +2,6 @@
 use Rattle.std.proofs.Common.{◌≡◌, ◌≢◌, ℕ, List, [], ◌++◌, ◌==◌, codes, slice_index, length, lit≤, ◌+◌, arith, true, false, true≢false, eq-eqb, refl, sym, ap, ap₂, subst, ◌∙◌}
 use Rattle.encoding.proofs.Fields.{counted_field, one_spelling}
 use Rattle.std.proofs.lemmas.List.{length-append}
-use Rattle.byteorder.specs.Numbers.{length-bytes_high_first}
 use Rattle.encoding.specs.Endian.{big_bytes}
 use Rattle.encoding.specs.Forms.{counted_bytes}
 use Rattle.encoding.specs.Limits.{IsName}
@@ -82,7 +81,7 @@ pub name_before : (bytes name rest : List ℕ) → bytes ≡ counted_bytes name 
 name_before bytes name rest e named pair is = (e ∙ ap (λ (end : List ℕ). counted_bytes name ++ end) is.0, named, is.1, is.2)
 
 pub counted_len : (bytes : List ℕ) → length (counted_bytes bytes) ≡ 2 + length bytes
-counted_len bytes = omega (arith, length-append (big_bytes 2 (length bytes)) bytes, length-bytes_high_first 2 (length bytes))
+counted_len bytes = let two : length (big_bytes 2 (length bytes)) ≡ 2 = refl in omega (arith, length-append (big_bytes 2 (length bytes)) bytes, two)
 
 same_change : (one other : BrokenFinal) → IsFormed (Final one) → IsFormed (Final other) → evidence_parts (Final one) ≡ evidence_parts (Final other) → one ≡ other
 same_change one other p q e =

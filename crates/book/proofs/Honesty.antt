@@ -26,23 +26,27 @@ use Rattle.book.specs.declared.reply.Reply.{Reply}
 use Rattle.book.specs.declared.reply.Reply.TheVariants as reply
 use Rattle.commands.specs.Operations.{Operation, IsCommand, Query, Lookup}
 use Rattle.book.specs.Books.{Binding, Book, Page, pages}
+use Rattle.proofs.specs.BrokenFinals.{states_final, IsBrokenFinal}
 use Rattle.proofs.specs.BrokenPromises.{IsBrokenPromise}
+use Rattle.proofs.specs.declared.broken_final.BrokenFinal.{BrokenFinal}
 use Rattle.book.specs.Honest.{key_at, IsAbout, IsAnswer, IsDouble, IsHonestRun, IsKept, IsSaid, IsSaidAt, ListsInOrder, TellsRoot, UsersDiffer}
 use Rattle.encoding.specs.Maps.{Map, at}
 use Rattle.book.specs.ProviderLaws.{KeepsLaws}
 use Rattle.book.specs.Shows.{Provider, SignedPage, index_of, promise, roots, sealed_behind, sealed_pages, IsRootOf}
 use Rattle.book.specs.Turns.{Run}
 use Rattle.proofs.specs.Watches.{expected}
-use Rattle.book.specs.Sound.{IsSound as IsSoundBook}
+use Rattle.book.specs.Sound.{HasFinalsOf, IsSound as IsSoundBook}
+use Rattle.book.specs.Steps.{is_final_binding}
 use Rattle.book.proofs.Begun.{begins-apart, begins-named, climbs, has-salts}
 use Rattle.book.proofs.Carried.{carried}
 use Rattle.book.proofs.Distinct.{AreApart, HasName, IsApart, apart-after, entry-named, named-or-not}
 use Rattle.book.proofs.Doubled.{doubled}
 use Rattle.book.proofs.Entries.{found-entry}
+use Rattle.book.proofs.Finals.{final-key, final-there, later-stays}
 use Rattle.book.proofs.Found.{AreSalted, IsRight, found-right}
 use Rattle.book.proofs.Members.{first-there, later-there, mapped-there}
 use Rattle.book.proofs.Placed.{Alone}
-use Rattle.book.proofs.Running.{at-said, ran, said-at, Seen, SeenFound, SeenPromise}
+use Rattle.book.proofs.Running.{at-said, ran, root-epoch, said-at, Seen, SeenFound, SeenPromise}
 use Rattle.book.proofs.Sealing.{Climb, IsSealed, all-sealed, no-clash, sealed-chain, sealed-page}
 use Rattle.book.proofs.Stretches.{consecutive-there}
 use Rattle.book.proofs.Turning.{IsSound}
@@ -234,6 +238,49 @@ module _ (provider : Provider) where
         b.contradicts.broken (sym (accepts-passed provider.hash accepted root.body promised.promise.name text r.reply r.spells b.contradicts.statement b.contradicts.passes).0
         ∙ r.states ∙ ap (key_at s.page) (sym same) ∙ has)
 
+    -- each page has the final bindings of those of lesser epochs
+    abbrev FinalsStay : Type 0
+    FinalsStay = (page later : Page) → Contains (pages after) page → Contains (pages after) later → page.epoch < later.epoch → HasFinalsOf page later
+
+    -- what is right of a reply that is accepted under some body, for some name, with some statement
+    record IsOwn (name : List ℕ) (page : Page) (own body : Body) (statement : Option BoundKey) (index : List ℕ) : Type 0 where
+      of_body : body ≡ own
+      states : statement ≡ key_at page name
+      indexed : index_of provider name ≡ index
+
+    own-of : (name : List ℕ) (page : Page) (own : Body) (text : List ℕ) → IsRight provider accepted verified key laws name page own text
+        → (body : Body) (other : List ℕ) (statement : Option BoundKey) (index : List ℕ) → Accepts provider.hash accepted body other text statement → HasIndex provider.hash text index → IsOwn name page own body statement index
+    own-of name page own text r body other statement index accepts has = record {
+      of_body = sym accepts.2.of_body ∙ ap (λ (x : Spelled). x.body) (one_reply text accepts.0 r.reply accepts.1 r.spells) ∙ r.of_body;
+      states = sym (accepts-passed provider.hash accepted body other text r.reply r.spells statement accepts).0 ∙ r.states;
+      indexed = sym (ap provider.hash r.value) ∙ sym (ap (λ (x : Spelled). provider.hash x.value) (one_reply text has.0 r.reply has.1 r.spells)) ∙ has.2;
+    }
+
+    -- a final binding is not changed by replies that are right
+    unchanged : FinalsStay → (broken : BrokenFinal) (latest later_latest : ℕ) (name later_name : List ℕ) (epoch later_epoch : ℕ)
+        → (s : SeenFound provider latest after name epoch broken.proof) → Alone provider name s.page.bindings
+        → (t : SeenFound provider later_latest after later_name later_epoch broken.later_proof) → Alone provider later_name t.page.bindings
+        → IsBrokenFinal provider.hash accepted verified key broken → ⊥
+    unchanged finals broken latest later_latest name later_name epoch later_epoch s alone t also b =
+        let c = b.changes in
+        let one = own-of name s.page s.root.body broken.proof (right latest name epoch broken.proof s alone) broken.root.body broken.name c.statement c.index c.passes c.has_index in
+        let other = own-of later_name t.page t.root.body broken.later_proof (right later_latest later_name later_epoch broken.later_proof t also) broken.later_root.body broken.name c.later_statement c.index c.later_passes c.later_has_index in
+        let above : s.page.epoch < t.page.epoch = omega (
+          arith,
+          b.later,
+          ap (λ (x : Body). x.epoch) one.of_body,
+          ap (λ (x : Body). x.epoch) other.of_body,
+          root-epoch provider 0 (replicate 32 0) (pages after) _ s.is,
+          root-epoch provider 0 (replicate 32 0) (pages after) _ t.is,
+        ) in
+        let final : is_final_binding (at s.page.bindings name) ≡ true = final-key (at s.page.bindings name) (ap states_final (sym one.states) ∙ c.final) in
+        let stays : at t.page.bindings name ≡ at s.page.bindings name
+        = finals s.page t.page (sealed-page provider 0 (replicate 32 0) (pages after) _ s.is) (sealed-page provider 0 (replicate 32 0) (pages after) _ t.is) above name final in
+        let there = final-there (at s.page.bindings name) final in
+        let e = found-entry (λ each. index_of provider each.0 ≡ index_of provider later_name → each.0 ≡ later_name) t.page.bindings name there.0 (stays ∙ there.1) also in
+        let same : name ≡ later_name = sym e.2 ∙ e.1 (ap (index_of provider) e.2 ∙ one.indexed ∙ sym other.indexed) in
+        c.changed (other.states ∙ ap (key_at t.page) (sym same) ∙ ap (option_map (λ (binding : Binding). binding.key)) stays ∙ sym one.states)
+
     -- what is found for the name of a promise under the next root
     is-due : (command : Operation) (promised : SignedPromise) (latest epoch : ℕ) (text : List ℕ) (root : SignedRoot) (statement : Option BoundKey) → IsKept provider accepted verified key after command promised
         → (s : SeenFound provider latest after promised.promise.name epoch text) → Alone provider promised.promise.name s.page.bindings → root.body.previous_epoch ≡ promised.promise.epoch
@@ -275,10 +322,10 @@ module _ (provider : Provider) where
         d.refused.fails ((accepts-passed provider.hash accepted body other text d.reply d.spelled statement accepts).1 SameIndex)
 
     pub honest-sound : (before : Book) (commands : List Operation) (replies : List Reply) → ((latest : ℕ) (asked : Operation) (said : Reply) → IsSaidAt before.last.epoch commands replies latest asked said → Seen provider latest after asked said)
-        → IsApart provider after
+        → IsApart provider after → FinalsStay
         → (UsersDiffer provider before commands → (asked : Operation) → Contains commands asked → (name : List ℕ) → IsAbout asked name → (page : Page) (root : SignedRoot) → IsRootOf provider after page root → Alone provider name page.bindings)
         → IsHonestRun provider accepted verified key before after commands replies
-    honest-sound before commands replies shown apart users = record {
+    honest-sound before commands replies shown apart finals users = record {
       chain = whole;
       forms = All-from_recursion IsSignedRoot (roots provider after) (signed-form (sealed_pages provider after) are-sealed);
       told = λ command said root is tells. let s = seen command said is in told s.0 command said root s.1 tells;
@@ -310,6 +357,18 @@ module _ (provider : Provider) where
           elim (either t.0 name epoch text s) [
             | inl alone ↦ unbroken command promised t.0 name epoch text root (holds command promised is) s alone broken
             | inr doubles ↦ absurd (never-accepted t.0 name epoch text doubles root.body promised.promise.name broken.contradicts.statement broken.contradicts.passes)
+          ];
+      unchanged = λ name later_name epoch later_epoch broken is also shows.
+          let t = at-said before.last.epoch commands replies (Query (Lookup name epoch)) (reply.Found broken.proof) is in
+          let u = at-said before.last.epoch commands replies (Query (Lookup later_name later_epoch)) (reply.Found broken.later_proof) also in
+          let s = looked t.0 name epoch broken.proof t.1 in
+          let v = looked u.0 later_name later_epoch broken.later_proof u.1 in
+          elim (either t.0 name epoch broken.proof s) [
+            | inl alone ↦ elim (either u.0 later_name later_epoch broken.later_proof v) [
+              | inl single ↦ unchanged finals broken t.0 u.0 name later_name epoch later_epoch s alone v single shows
+              | inr doubles ↦ absurd (never-accepted u.0 later_name later_epoch broken.later_proof doubles broken.later_root.body broken.name shows.changes.later_statement shows.changes.later_passes)
+            ]
+            | inr doubles ↦ absurd (never-accepted t.0 name epoch broken.proof doubles broken.root.body broken.name shows.changes.statement shows.changes.passes)
           ];
     }
       where
@@ -343,5 +402,6 @@ module _ (provider : Provider) where
       let apart = carried provider kept failed (IsApart provider) commands replies book after before later
       (λ command there one next given holds none does. apart-after provider one next command given holds none does) (begins-apart provider book sound) run in
       honest-sound accepted verified key laws after r.goes.sound (has-salts (index_of provider) after sound_after) book commands replies r.shown apart
+      (later-stays (pages after) sound_after.ascend sound_after.finals)
       (λ differ asked there name about page root rooted. alone-of name page.bindings
       (users-apart provider kept failed book after before later commands replies (begins-named provider book sound commands) run differ asked there name about page root rooted))

@@ -5,6 +5,7 @@ pub mod Carried
 pub mod Distinct
 pub mod Doubled
 pub mod Entries
+pub mod Finals
 pub mod Folding
 pub mod Found
 pub mod Growing

@@ -28,7 +28,7 @@ use Rattle.book.proofs.Stepping.{Does, Finds, finds, put_passed, stepped}
 use Rattle.book.proofs.Stretches.{consecutive-more, told-consecutive}
 use Rattle.book.proofs.Turning.{Goes, Holds, IsSound, above-last, asked-page, goes-nowhere, goes-on, goes-page, goes-pending, holds-now, is-key, is-name, later, not-there, passed, two-passed}
 
-root-epoch : (provider : Provider) (epoch : ℕ) (before : List ℕ) (pages : List Page) (each : SignedPage) → Contains (sealed_behind provider epoch before pages) each → each.root.body.epoch ≡ each.page.epoch
+pub root-epoch : (provider : Provider) (epoch : ℕ) (before : List ℕ) (pages : List Page) (each : SignedPage) → Contains (sealed_behind provider epoch before pages) each → each.root.body.epoch ≡ each.page.epoch
 root-epoch provider epoch before [] each is = absurd (none-there each is)
 root-epoch provider epoch before (page ∷ pages) each is = elim (first-or-later _ _ each is) [
   | inl same ↦ subst (λ (x : SignedPage). x.root.body.epoch ≡ x.page.epoch) same refl

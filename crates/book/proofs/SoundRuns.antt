@@ -56,7 +56,7 @@ module _ (provider : Provider) where
       let has = put_passed (index_of provider) book verb name key none in
       let apart = apart-after provider book (with_pending book name (bound_key key)) (Edit (Put verb name key)) answer (begins-apart provider book stays.sound) none (does.0, refl) in
       subst StaysSound (sym does.1) (record {
-        sound = sound_pending (index_of provider) book name (bound_key key) stays.sound (is-name name has.named are.0) (is-key key.0 has.keyed are.1) (stays.salts 0)
+        sound = sound_pending (index_of provider) book name (bound_key key) stays.sound (is-name name has.named are.0) (is-key key.0 has.keyed are.1) (stays.salts 0) has.changeable
             (free book name (bound_key key) apart);
         salts = λ count. stays.salts (suc count);
       })

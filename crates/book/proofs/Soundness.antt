@@ -11,11 +11,11 @@ use Rattle.encoding.specs.declared.bound_key.BoundKey.{BoundKey}
 use Rattle.encoding.specs.Bytes.{bytes_cmp, Is32Bytes}
 use Rattle.encoding.specs.Limits.{IsKeyData, IsName}
 use Rattle.rootchain.specs.Promises.{IsEpoch}
-use Rattle.book.specs.Steps.{next_page, with_page, with_pending}
+use Rattle.book.specs.Steps.{is_final_binding, next_page, with_page, with_pending}
 use Rattle.book.specs.Books.{Binding, Book, Page, pages}
 use Rattle.book.specs.Fresh.{fresh}
 use Rattle.encoding.specs.Maps.{Map, at, overwritten, put_at}
-use Rattle.book.specs.Sound.{AreBindings, HasNamesOf, HoldsName, IsEntry, IsPage, IsSound}
+use Rattle.book.specs.Sound.{AreBindings, HasFinalsOf, HasNamesOf, HoldsName, IsEntry, IsPage, IsSound}
 use Rattle.book.proofs.Entries.{all_overwritten, all_put, ascends_none, ascends_overwritten, ascends_put, at_put_other, at_put_same, is_name, is_no_name, stays}
 use Rattle.book.proofs.Turning.{next-sized, the-last}
 
@@ -143,6 +143,8 @@ module _ (index_of : List ℕ → List ℕ) where
   sound_fresh epoch nonce salts is size salted = record {
     ascend = λ i j d less within. absurd (omega (arith, less, within));
     stay = λ k d within. absurd (omega (arith, within));
+    finals = λ k d within. absurd (omega (arith, within));
+    settled = λ name final. refl;
     pending = no-bindings;
     salt = salted;
     apart = λ one other a b same. absurd (none one a);
@@ -156,21 +158,35 @@ module _ (index_of : List ℕ → List ℕ) where
       none name (inl has) = nobody has
       none name (inr has) = nobody has
 
-  -- a binding waits, where no other name that is held has the index of this one
+  -- a binding waits, where the last page has no final one for the name, and no other name that is held has its index
   pub sound_pending : (book : Book) (name : List ℕ) (key : BoundKey) → IsSound index_of book → IsName name → IsKeyData key.value → Is32Bytes (fill_bytes 32 book.left).0
-      → ((other : List ℕ) → HoldsName book other → index_of other ≡ index_of name → other ≡ name) → IsSound index_of (with_pending book name key)
-  sound_pending book name key sound named keyed salted free = record {
+      → is_final_binding (at book.last.bindings name) ≡ false → ((other : List ℕ) → HoldsName book other → index_of other ≡ index_of name → other ≡ name) → IsSound index_of (with_pending book name key)
+  sound_pending book name key sound named keyed salted changeable free = record {
     pages = sound.pages;
     ascend = sound.ascend;
     stay = sound.stay;
+    finals = sound.finals;
+    settled = settled;
     pending = bindings-put book.pending name (record { key = key; salt = book.salt }) sound.pending named (keyed, sound.salt);
     salt = salted;
     apart = λ one other a b same. by one other (held one a) (held other b) same;
   }
     where
+      binding : Binding
+      binding = record { key = key; salt = book.salt }
+
+      settled : (other : List ℕ) → is_final_binding (at book.last.bindings other) ≡ true → at (put_at book.pending name binding) other ≡ None
+      settled other final = by (is_at (bytes_cmp name) other) refl
+        where
+          by : (t : Bool) → is_at (bytes_cmp name) other ≡ t → at (put_at book.pending name binding) other ≡ None
+          by true is =
+              let e : true ≡ false = sym final ∙ ap (λ (each : List ℕ). is_final_binding (at book.last.bindings each)) (is_name name other is) ∙ changeable in
+              absurd cc
+          by false is = at_put_other name binding book.pending other (is_no_name name other is) ∙ sound.settled other final
+
       held : (other : List ℕ) → HoldsName (with_pending book name key) other → HoldsName book other ⊎ (other ≡ name)
       held other (inl last) = inl (inl last)
-      held other (inr waits) = elim (put-has book.pending name (record { key = key; salt = book.salt }) other waits) [ inl before ↦ inl (inr before) | inr same ↦ inr same ]
+      held other (inr waits) = elim (put-has book.pending name binding other waits) [ inl before ↦ inl (inr before) | inr same ↦ inr same ]
 
       by : (one other : List ℕ) → HoldsName book one ⊎ (one ≡ name) → HoldsName book other ⊎ (other ≡ name) → index_of one ≡ index_of other → one ≡ other
       by one other (inl a) (inl b) same = sound.apart one other a b same
@@ -184,6 +200,8 @@ module _ (index_of : List ℕ → List ℕ) where
     pages = All-push IsPage (pages book) (next_page book epoch nonce) sound.pages page;
     ascend = ascend-push book.earlier book.last (next_page book epoch nonce) sound.ascend above;
     stay = adjacent-push HasNamesOf book.earlier book.last (next_page book epoch nonce) sound.stay (λ name has. has-overwritten book.pending book.last.bindings name has);
+    finals = adjacent-push HasFinalsOf book.earlier book.last (next_page book epoch nonce) sound.finals (λ name final. stays book.pending book.last.bindings name (sound.settled name final));
+    settled = λ name final. refl;
     pending = no-bindings;
     salt = sound.salt;
     apart = λ one other a b same. sound.apart one other (held one a) (held other b) same;

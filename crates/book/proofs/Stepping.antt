@@ -77,9 +77,11 @@ there : {X : Type 0} (found : Option X) → is_none found ≡ false → (x : X) 
 there None e = absurd cc
 there (Some x) e = (x, refl)
 
-past_final : (verb : Verb) (found : Option Binding) (waits : Bool × Refusal) (last : List (Bool × Refusal)) → first ((final_tests verb found ++ waits ∷ []) ++ last) ≡ None → first (waits ∷ last) ≡ None
-past_final Register found waits last e = e
-past_final Change found waits last e = (passed (is_final_binding found, FinalBinding) (waits ∷ last) e).1
+past_final : (verb : Verb) (found : Option Binding) (waits : Bool × Refusal) (last : List (Bool × Refusal)) → (bad_verb verb found).0 ≡ false → first ((final_tests verb found ++ waits ∷ []) ++ last) ≡ None
+    → (is_final_binding found ≡ false) × (first (waits ∷ last) ≡ None)
+past_final Register None waits last page e = (refl, e)
+past_final Register (Some binding) waits last page e = absurd cc
+past_final Change found waits last page e = passed (is_final_binding found, FinalBinding) (waits ∷ last) e
 
 module _ (index_of : List ℕ → List ℕ) where
   -- where nothing refuses, the step is what is done
@@ -109,6 +111,7 @@ module _ (index_of : List ℕ → List ℕ) where
     pub keyed : not (has_length_within 1 2048 key.0) ≡ false
     pub policy : (bad_policy key.1).0 ≡ false
     pub page : (bad_verb verb (at book.last.bindings name)).0 ≡ false
+    pub changeable : is_final_binding (at book.last.bindings name) ≡ false
     pub pending : is_some (at book.pending name) ≡ false
     pub index : (bad_index index_of verb book name).0 ≡ false
 
@@ -120,8 +123,9 @@ module _ (index_of : List ℕ → List ℕ) where
       let one = two-passed (not (has_length_within 1 255 name)) (not (has_length_within 1 2048 key.0)) BadName BadKey (bad_policy key.1 ∷ bad_verb verb (at book.last.bindings name) ∷ shown) none in
       let two = passed (bad_policy key.1) (bad_verb verb (at book.last.bindings name) ∷ shown) one.2 in
       let three = passed (bad_verb verb (at book.last.bindings name)) shown two.1 in
-      let four = passed waits last (past_final verb (at book.last.bindings name) waits last three.1) in
-      record { named = one.0; keyed = one.1; policy = two.0; page = three.0; pending = four.0; index = (passed (bad_index index_of verb book name) [] four.1).0 }
+      let behind = past_final verb (at book.last.bindings name) waits last three.0 three.1 in
+      let four = passed waits last behind.1 in
+      record { named = one.0; keyed = one.1; policy = two.0; page = three.0; changeable = behind.0; pending = four.0; index = (passed (bad_index index_of verb book name) [] four.1).0 }
 
   -- what is not refused is answered
   pub answer_of : (book : Book) (asked : Operation) → refusal index_of book asked ≡ None → (answer : Answer) × ((done book asked).0 ≡ Answers answer)

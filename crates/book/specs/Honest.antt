@@ -17,7 +17,9 @@ use Rattle.book.specs.declared.reply.Reply.TheVariants as reply
 use Rattle.commands.specs.Operations.{bound_key, Operation, Query, Edit, Put, Promise, Lookup}
 use Rattle.book.specs.Books.{Binding, Book, Page}
 use Rattle.rootchain.specs.Evidence.{AreEvidence}
+use Rattle.proofs.specs.BrokenFinals.{IsBrokenFinal}
 use Rattle.proofs.specs.BrokenPromises.{IsBrokenPromise}
+use Rattle.proofs.specs.declared.broken_final.BrokenFinal.{BrokenFinal}
 use Rattle.encoding.specs.Maps.{at}
 use Rattle.book.specs.Steps.{page_begun}
 use Rattle.book.specs.Shows.{Provider, index_of, roots, IsRootOf}
@@ -179,3 +181,7 @@ module _ (provider : Provider) where
       pub unbroken : (command : Operation) (promised : SignedPromise) (name : List ℕ) (epoch : ℕ) (text : List ℕ) (root : SignedRoot)
           → IsSaid commands replies command (reply.Promised promised) → IsSaid commands replies (Query (Lookup name epoch)) (reply.Found text)
           → ¬ IsBrokenPromise provider.hash accepted verified key promised root text
+      -- and no final binding changed
+      pub unchanged : (name later_name : List ℕ) (epoch later_epoch : ℕ) (broken : BrokenFinal)
+          → IsSaid commands replies (Query (Lookup name epoch)) (reply.Found broken.proof) → IsSaid commands replies (Query (Lookup later_name later_epoch)) (reply.Found broken.later_proof)
+          → ¬ IsBrokenFinal provider.hash accepted verified key broken

@@ -1,5 +1,5 @@
 -- What is true of each book of a directory.
-use Rattle.std.specs.Prelude.{◌≡◌, ◌⊎◌, ℕ, ◌<◌, List, length, All, AllPairs, IsSome}
+use Rattle.std.specs.Prelude.{◌≡◌, ◌⊎◌, ℕ, ◌<◌, true, List, length, None, All, AllPairs, IsSome}
 use Rattle.std.specs.List.{AllAdjacentBelow}
 use Rattle.std.specs.List.Sorted.{IsStrictlySortedBy}
 use Rattle.std.specs.Map.{keys_of}
@@ -7,6 +7,7 @@ use Rattle.encoding.specs.Bytes.{bytes_cmp, Is32Bytes}
 use Rattle.encoding.specs.Limits.{IsKeyData, IsName}
 use Rattle.rootchain.specs.Promises.{IsEpoch}
 use Rattle.book.specs.Books.{Binding, Book, Page, pages}
+use Rattle.book.specs.Steps.{is_final_binding}
 use Rattle.encoding.specs.Maps.{Map, at}
 
 -- a name and what is bound to it, within their limits
@@ -29,6 +30,10 @@ pub record IsPage (page : Page) : Type 0 where
 abbrev pub HasNamesOf : Page → Page → Type 0
 HasNamesOf page later = (name : List ℕ) → IsSome (at page.bindings name) → IsSome (at later.bindings name)
 
+-- the later page has what this one has at each name that is final here
+abbrev pub HasFinalsOf : Page → Page → Type 0
+HasFinalsOf page later = (name : List ℕ) → is_final_binding (at page.bindings name) ≡ true → at later.bindings name ≡ at page.bindings name
+
 -- the last page has the name, or it waits for the next
 abbrev pub HoldsName : Book → List ℕ → Type 0
 HoldsName book name = IsSome (at book.last.bindings name) ⊎ IsSome (at book.pending name)
@@ -37,6 +42,9 @@ pub record IsSound (index_of : List ℕ → List ℕ) (book : Book) : Type 0 whe
   -- epochs ascend, and names stay
   pub ascend : AllPairs (λ earlier later. earlier.epoch < later.epoch) (pages book)
   pub stay : AllAdjacentBelow HasNamesOf (pages book) (length (pages book))
+  -- final bindings stay, and nothing waits for their names
+  pub finals : AllAdjacentBelow HasFinalsOf (pages book) (length (pages book))
+  pub settled : (name : List ℕ) → is_final_binding (at book.last.bindings name) ≡ true → at book.pending name ≡ None
   pub pending : AreBindings book.pending
   pub salt : Is32Bytes book.salt
   -- names that are held have indices of their own

@@ -1,5 +1,5 @@
 -- The replies for each name, as one more is put in and taken out again.
-use Rattle.std.proofs.Common.{◌≡◌, ◌≢◌, ℕ, List, [], ◌∷◌, ◌++◌, Bool, true, false, cond, not, filter, map, bytes_eq, Option, Some, None, Result, Ok, Err, OnErr, OnOk, MatchOption, option_map, refl, sym, ap, subst, ◌∙◌}
+use Rattle.std.proofs.Common.{◌≡◌, ◌≢◌, ℕ, List, [], ◌∷◌, ◌++◌, Bool, true, false, cond, map, bytes_eq, Option, Some, None, Result, Ok, Err, OnErr, OnOk, MatchOption, option_map, refl, sym, ap, subst, ◌∙◌}
 use Rattle.std.specs.BTreeMap.{is_at}
 use Rattle.std.specs.List.{AllByRecursion}
 use Rattle.std.specs.Map.{set_value}

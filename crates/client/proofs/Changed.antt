@@ -1,5 +1,5 @@
 -- Which reply changes what an earlier one states to be final, among those for one name.
-use Rattle.std.proofs.Common.{◌≡◌, ◌≢◌, ◌↔◌, inl, inr, ℕ, zero, suc, ◌+◌, ◌<◌, ◌≤◌, List, [], ◌∷◌, Bool, true, false, cond, IsTrue, length, map, filter, slice_get, Option, Some, None, IfSome, MatchOption, refl, sym, ap, subst, ◌∙◌, arith}
+use Rattle.std.proofs.Common.{◌≡◌, ◌≢◌, ◌↔◌, inl, inr, ℕ, zero, suc, ◌+◌, ◌<◌, ◌≤◌, List, [], ◌∷◌, Bool, true, false, cond, IsTrue, length, map, filter, slice_get, Option, Some, refl, sym, ap, subst, ◌∙◌, arith}
 use Rattle.std.specs.List.{AllByRecursion}
 use Rattle.std.proofs.lemmas.Bool.{cases_lt}
 use Rattle.std.proofs.lemmas.List.Elements.{All-contains}
@@ -10,13 +10,13 @@ use Rattle.rootchain.specs.declared.signed_root.SignedRoot.{SignedRoot}
 use Rattle.rootchain.proofs.Agreement.{unique}
 use Rattle.rootchain.proofs.Chains.{ascend-linked}
 use Rattle.proofs.specs.Accepts.{stated, Accepts, HasIndex, States}
-use Rattle.proofs.specs.BrokenFinals.{states_final, Changes, IsBrokenFinal}
+use Rattle.proofs.specs.BrokenFinals.{states_final, IsBrokenFinal}
 use Rattle.proofs.specs.Replies.{Reply, SpellsReply}
 use Rattle.proofs.specs.declared.broken_final.BrokenFinal.{BrokenFinal}
 use Rattle.proofs.proofs.Passing.{one_reply}
 use Rattle.client.specs.Agreements.{SpellsOne}
-use Rattle.client.specs.Clients.{Client, IsAcceptedLook, IsSoundClient, Look}
-use Rattle.client.specs.Finality.{look_of, looks_for, AreFirst, IndexedReply, IsChangedBy, IsChangedByReply, IsFirstChange, IsIndexed, NoneStandSo, StateAChange}
+use Rattle.client.specs.Clients.{IsAcceptedLook, Look}
+use Rattle.client.specs.Finality.{look_of, looks_for, AreFirst, IndexedReply, IsChangedBy, IsChangedByReply, IsIndexed, NoneStandSo, StateAChange}
 use Rattle.client.proofs.Breaking.{all-at}
 
 -- what the statements of two replies show

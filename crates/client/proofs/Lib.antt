@@ -11,6 +11,7 @@ pub mod Others
 pub mod Passed
 pub mod Unlikes
 pub mod Changed
+pub mod Latest
 pub mod Telling
 pub mod InBytes
 pub mod InPieces

@@ -3,7 +3,6 @@ use Rattle.std.specs.Prelude.{◌≡◌, ◌≢◌, ◌⊎◌, ℕ, ◌<◌, tru
 use Rattle.std.specs.List.{AllByRecursion}
 use Rattle.std.specs.Str.{bytes_eq}
 use Rattle.encoding.specs.Maps.{Map, at}
-use Rattle.encoding.specs.declared.bound_key.BoundKey.{BoundKey}
 use Rattle.rootchain.specs.Chains.{IsAt}
 use Rattle.proofs.specs.Accepts.{stated, HasIndex}
 use Rattle.proofs.specs.BrokenFinals.{states_final}

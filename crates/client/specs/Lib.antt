@@ -2,6 +2,7 @@ pub mod Agreements
 pub mod Clients
 pub mod Dues
 pub mod Finality
+pub mod Latest
 pub mod Looking
 pub mod Numbered
 pub mod Promising

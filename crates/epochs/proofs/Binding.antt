@@ -1,12 +1,12 @@
 -- A binding that waits under a salt of its own: the salts to come stay.
-use Rattle.std.proofs.Common.{◌≡◌, ℕ, List, [], ◌∷◌, length, None, sym, ap, ◌∙◌}
+use Rattle.std.proofs.Common.{◌≡◌, ℕ, false, List, [], ◌∷◌, length, None, sym, ap, ◌∙◌}
 use Rattle.rand_core.specs.Stream.{Stream, fill_bytes}
 use Rattle.encoding.specs.Bytes.{Is32Bytes}
 use Rattle.encoding.specs.Limits.{IsKeyData, IsName}
 use Rattle.commit.specs.Commitments.{commitment_bytes}
 use Rattle.prefixtree.specs.Placement.{Items, commitment_of, put}
 use Rattle.encoding.specs.declared.bound_key.BoundKey.{BoundKey}
-use Rattle.book.specs.Steps.{with_pending}
+use Rattle.book.specs.Steps.{is_final_binding, with_pending}
 use Rattle.book.specs.Books.{Book}
 use Rattle.encoding.specs.Maps.{Map, at, put_at}
 use Rattle.book.specs.Replays.{with_bound}
@@ -16,7 +16,7 @@ use Rattle.book.specs.Sound.{HoldsName}
 use Rattle.book.proofs.Joining.{first-salt}
 use Rattle.epochs.specs.DirectoryStates.{DirectoryState, HasKeysOf, provider}
 use Rattle.epochs.specs.Histories.{Version}
-use Rattle.epochs.specs.Parts.{Keeps, Parts, pending_of}
+use Rattle.epochs.specs.Parts.{Keeps, Parts, last_of, pending_of}
 use Rattle.epochs.specs.Versions.{AllBefore, versions_of, with_version}
 use Rattle.epochs.proofs.Changing.{book_accepted, index_free, keeps_accepted, later_version}
 use Rattle.epochs.proofs.Parts.{book_of}
@@ -35,6 +35,8 @@ resalted provider parts salt left keeps other rest small = record {
   sound = record {
     ascend = keeps.sound.ascend;
     stay = keeps.sound.stay;
+    finals = keeps.sound.finals;
+    settled = keeps.sound.settled;
     pending = keeps.sound.pending;
     salt = small;
     apart = keeps.sound.apart;
@@ -68,8 +70,8 @@ module _ (provider : Provider) (parts : Parts) (own : List ℕ) (left : Stream) 
       drawn : (own, left) ≡ fill_bytes 32 ahead
       drawn = sym (first-salt own [] left)
 
-      pub keeps_bound : IsName name → IsKeyData key.value → Keeps provider parts_bound (book_of parts_bound own left)
-      keeps_bound is-name is-key = keeps_accepted provider parts salt ahead keeps_ahead name key none free len long version is index commitment own left names waiting indexed committed drawn named waits is-name is-key keeps.sound.salt
+      pub keeps_bound : IsName name → IsKeyData key.value → is_final_binding (at (last_of parts).bindings name) ≡ false → Keeps provider parts_bound (book_of parts_bound own left)
+      keeps_bound is-name is-key changeable = keeps_accepted provider parts salt ahead keeps_ahead name key none free len long version is index commitment own left names waiting indexed committed drawn named waits is-name is-key keeps.sound.salt changeable
 
       pub book_bound : book_of parts_bound own left ≡ with_bound (book_of parts own left) name (record { key = key; salt = salt })
       book_bound =

@@ -17,7 +17,7 @@ use Rattle.encoding.specs.declared.bound_key.BoundKey.{BoundKey}
 use Rattle.book.specs.declared.reply.Reply.TheVariants as reply
 use Rattle.book.specs.declared.directory_refusal.Refusal.{Refusal}
 use Rattle.book.specs.declared.directory_refusal.Refusal.TheVariants.{IndexTaken, NameTaken, PendingExists}
-use Rattle.book.specs.Steps.{first, has_its_index, with_pending, Promised}
+use Rattle.book.specs.Steps.{first, has_its_index, is_final_binding, with_pending, Promised}
 use Rattle.book.specs.Books.{Binding}
 use Rattle.encoding.specs.Maps.{Map, at}
 use Rattle.book.specs.Replays.{put_refusal}
@@ -105,10 +105,10 @@ module _ (provider : Provider) (parts : Parts) (salt : List ℕ) (left : Stream)
           all-waiting : waiting ≡ put parts.waiting (index_of provider name) (provider.hash (commitment_bytes salt name key))
           all-waiting = waits ∙ ap (λ (i : List ℕ). put parts.waiting i commitment) indexed ∙ ap (put parts.waiting (index_of provider name)) committed
 
-      pub keeps_accepted : IsName name → IsKeyData key.value → Is32Bytes next → Keeps provider parts_with (book_of parts_with next rest)
-      keeps_accepted is-name is-key is-salt =
+      pub keeps_accepted : IsName name → IsKeyData key.value → Is32Bytes next → is_final_binding (at (last_of parts).bindings name) ≡ false → Keeps provider parts_with (book_of parts_with next rest)
+      keeps_accepted is-name is-key is-salt changeable =
           subst (λ (stand : Stand). Keeps provider stand.parts (book_of stand.parts stand.salt stand.left)) (sym stand-is)
-          (keeps_pending provider parts salt left keeps name key none is-name is-key (subst Is32Bytes (ap (λ (x : List ℕ × Stream). x.0) drawn) is-salt) free)
+          (keeps_pending provider parts salt left keeps name key none is-name is-key (subst Is32Bytes (ap (λ (x : List ℕ × Stream). x.0) drawn) is-salt) changeable free)
 
       pub book_accepted : book_of parts_with next rest ≡ with_pending (book_of parts salt left) name key
       book_accepted = ap (λ (stand : Stand). book_of stand.parts stand.salt stand.left) stand-is ∙ book_with_pending provider parts salt left keeps name key none
@@ -132,8 +132,8 @@ index_alone false false false some s w = absurd cc
 index_alone false true other some s w = absurd cc
 index_alone true waits other some s w = absurd cc
 
-none-holds : (shown waits other : Bool) → is_some (first-of shown waits other) ≡ false → (waits ≡ false) × (other ≡ false)
-none-holds false false false e = (refl, refl)
+none-holds : (shown waits other : Bool) → is_some (first-of shown waits other) ≡ false → (waits ≡ false) × (other ≡ false) × (shown ≡ false)
+none-holds false false false e = (refl, refl, refl)
 none-holds false false true e = absurd cc
 none-holds false true other e = absurd cc
 none-holds true waits other e = absurd cc
@@ -215,11 +215,15 @@ module _ (provider : Provider) (parts : Parts) (salt : List ℕ) (left : Stream)
     pub taken_waiting : waits ≡ is_some due
     taken_waiting = told-is ∙ sym (ap (λ (s : Bool). s || is_some (commitment_of parts.waiting index)) false-is) ∙ told
 
-    untaken : waits ≡ false → (is_some (at later name) ≡ false) × (other-has ≡ false)
+    untaken : waits ≡ false → (is_some (at later name) ≡ false) × (other-has ≡ false) × (is_some (at now name) ≡ false)
     untaken none = none-holds (is_some (at now name)) (is_some (at later name)) other-has (sym taken_waiting ∙ none)
 
     pub taken_later : waits ≡ false → at later name ≡ None
     taken_later none = is-none (at later name) (untaken none).0
+
+    -- the last page has no final binding for it, as it has none
+    pub taken_changeable : waits ≡ false → is_final_binding (at now name) ≡ false
+    taken_changeable none = ap is_final_binding (is-none (at now name) (untaken none).2)
 
     pub taken_free : waits ≡ false → (other : List ℕ) → HoldsName (book_of parts salt left) other → index_of provider other ≡ index_of provider name → other ≡ name
     taken_free none = free_untaken provider parts salt left keeps name (untaken none).1

@@ -18,7 +18,7 @@ use Rattle.encoding.specs.Maps.{at}
 use Rattle.book.specs.Replays.{put_refusal, with_bound}
 use Rattle.book.specs.Shows.{Provider, index_of}
 use Rattle.book.specs.Sound.{HoldsName}
-use Rattle.book.specs.Steps.{binding_tests, first}
+use Rattle.book.specs.Steps.{binding_tests, first, is_final_binding}
 use Rattle.epochs.specs.declared.address.Address.{Address}
 use Rattle.epochs.specs.Addresses.{AreAddresses, HistoryContent, NamesContent, address_of, named, with_history}
 use Rattle.epochs.specs.Histories.{Version, binding_at, chosen, waiting}
@@ -152,6 +152,14 @@ opened (Some x) waits is = (refl, by (is_final x.key.policy) waits is)
     by false None e = refl
     by false (Some y) e = absurd cc
 
+still_changeable : (shown waits : Option Binding) → change_refusal shown waits ≡ None → is_final_binding shown ≡ false
+still_changeable None waits is = refl
+still_changeable (Some x) waits is = by (is_final x.key.policy) refl is
+  where
+    by : (final : Bool) → is_final x.key.policy ≡ final → by_tests final (is_some waits) ≡ None → is_final x.key.policy ≡ false
+    by true e f = absurd cc
+    by false e f = e
+
 module _ (provider : Provider) (names : NamesContent) (rest : Parts) where
   abbrev parts : Parts
   parts = record { names = names.versions; roots = rest.roots; trees = rest.trees; waiting = rest.waiting; body_hash = rest.body_hash }
@@ -212,6 +220,7 @@ module _ (provider : Provider) (names : NamesContent) (rest : Parts) where
           let none = sym due-is ∙ refused in
           keeps_bound provider parts own left keeps name key (nothing-waits none) (alone none) salt small len long the_version refl
           index text names_after.versions waits_after (found-index (at names.addresses name) index refl place) refl (ap (λ (n : NamesContent). n.versions) (added (address_of provider name))) put_in is-name is-key
+          (still_changeable (at (last_of parts).bindings name) (at (pending_of parts) name) none)
       keeps_changed is-name is-key (Err why) (same, stays, refused) =
           subst (λ (x : NamesContent × Items). Keeps provider (over x) (book_of (over x) own left)) (λ i. (sym same i, sym stays i)) keeps
         where

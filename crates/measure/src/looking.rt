@@ -27,6 +27,17 @@ fn look_all(run: &Run, client: &mut Following, answers: &[Answered]) {
     run.step(keys);
 }
 
+/// The step of asking what the looks show of each name's final bindings: counts the names of which they show nothing.
+fn find_changes(run: &Run, client: &Following, pages: &Pages) {
+    let mut names: u64 = 0;
+    for held in &pages.held {
+        if client.finality(&held.name).is_none() {
+            names = names.saturating_add(1);
+        }
+    }
+    run.step(names);
+}
+
 /// The steps of a round: the replies of a root made, read and checked, looked at by the client, and read and
 /// checked once more.
 fn measure_round(run: &Run, client: &mut Following, answers: &[Answered]) {
@@ -36,13 +47,14 @@ fn measure_round(run: &Run, client: &mut Following, answers: &[Answered]) {
     check_all(run, answers);
 }
 
-/// The steps of a client: looks of all names at the first epochs; and in each round those of `measure_round`,
+/// The steps of a client: looks of all names at the first epochs; what they show of final bindings; and in each round those of `measure_round`,
 /// at one more epoch.
 fn measure_client(run: &Run, client: &mut Following, pages: &Pages, epochs: usize, rounds: usize) {
     let names = pages.held.len();
     run.step(0);
     let bytes = pages.keep_looks(run, client, (0, names), epochs);
     run.step(bytes);
+    find_changes(run, client, pages);
     for round in 0..rounds {
         let place = epochs.saturating_add(round);
         let answers = pages.answers(run, names, place, place.saturating_add(1));

@@ -1,11 +1,10 @@
-use crate::{Alarm, EvidenceLine, FinalSeen, Mark, Promised};
+use crate::{Alarm, EvidenceLine, Mark, Promised};
 
 /// What a line of the memory says.
 #[derive(Drop)]
 pub enum Item {
     Promised(Promised),
     Watched(Mark),
-    Final(FinalSeen),
     Alarm(Alarm),
     Evidence(EvidenceLine),
 }

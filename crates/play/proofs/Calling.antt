@@ -1,10 +1,12 @@
 -- What users get from their own calls, from what they see of a run.
 use Rattle.std.proofs.Common.{◌≡◌, ◌↔◌, ℕ, zero, suc, ◌<◌, ◌≤◌, List, [], ◌∷◌, ◌++◌, length, replicate, Option, Some, None, Result, Ok, Err, Contains, refl, sym, ap, subst, ◌∙◌, inl, inr, arith}
-use Rattle.std.specs.Prelude.{option_map}
+use Rattle.std.specs.List.{AllByRecursion}
+use Rattle.std.specs.Prelude.{bytes_eq, option_map, Bool, true, false, cond}
+use Rattle.std.proofs.lemmas.Slice.Eq.{bytes_eq-Decides}
 use Rattle.std.proofs.lemmas.List.Elements.{All-contains}
 use Rattle.encoding.proofs.Fields.{one_spelling}
 use Rattle.rootchain.specs.Bodies.{body_bytes}
-use Rattle.rootchain.specs.Chains.{Ascend, IsAt, IsChain, KeyedRoots, Names}
+use Rattle.rootchain.specs.Chains.{Ascend, IsAt, IsChain, KeyedRoots, Names, Verifies}
 use Rattle.rootchain.specs.Places.{IsNextAfter}
 use Rattle.rootchain.specs.Promises.{promise_bytes, read_signed_promise, signed_promise_bytes, IsSignedPromise, PromiseVerifies, SpellsPromise}
 use Rattle.rootchain.specs.Readable.{signed_promise_field}
@@ -17,11 +19,13 @@ use Rattle.rootchain.proofs.Agreement.{unique}
 use Rattle.rootchain.proofs.Chains.{ascend-linked}
 use Rattle.rootchain.proofs.Places.{one-first}
 use Rattle.proofs.specs.Accepts.{stated, Accepts, States}
+use Rattle.proofs.specs.BrokenFinals.{IsBrokenFinal}
 use Rattle.proofs.specs.BrokenPromises.{IsBrokenPromise}
 use Rattle.proofs.specs.Comparisons.{IsAcceptedReply, Refuses}
 use Rattle.proofs.specs.Refusals.{IsFirstToFail, Passes, ReadsReply}
 use Rattle.proofs.specs.Replies.{Reply as Spelled, SpellsReply}
 use Rattle.proofs.specs.Watches.{expected}
+use Rattle.proofs.specs.declared.broken_final.BrokenFinal.{BrokenFinal}
 use Rattle.proofs.specs.declared.broken_promise.BrokenPromise.{BrokenPromise}
 use Rattle.proofs.specs.declared.reply_refusal.Refusal.{Refusal as ProofRefusal}
 use Rattle.proofs.specs.declared.reply_refusal.Refusal.TheVariants as proof
@@ -44,8 +48,9 @@ use Rattle.auditor.specs.declared.auditor.Observed.{Observed}
 use Rattle.auditor.specs.declared.evidence.Evidence.{Evidence}
 use Rattle.auditor.specs.declared.evidence.Evidence.TheVariants as evidence
 use Rattle.auditor.proofs.InOrder.{followed}
-use Rattle.client.specs.Clients.{Client, with_promise, HasRootOf, IsSoundClient}
+use Rattle.client.specs.Clients.{Client, with_promise, HasRootOf, IsAcceptedLook, IsSoundClient, Look}
 use Rattle.client.specs.Dues.{IsTested, Tests}
+use Rattle.client.specs.Finality.{looks_for, IsChangedBy, NoneStandSo}
 use Rattle.client.specs.Looking.{IsAnswered, IsLookRoot, Looks}
 use Rattle.client.specs.Promising.{KeepsPromise, ReadsPromise}
 use Rattle.client.specs.declared.due.Due.{Due}
@@ -61,7 +66,7 @@ use Rattle.monitor.specs.declared.monitor_refusal.Refusal.{Refusal as MonitorRef
 use Rattle.monitor.specs.declared.monitor_refusal.Refusal.TheVariants as monitor
 use Rattle.monitor.specs.declared.step.Step.{Step}
 use Rattle.monitor.specs.declared.step.Step.TheVariants as step_of
-use Rattle.play.specs.Calls.{CallsAreHonest, ExpectsRight, IsFollowed, IsIssued, IsShown, WasPromised, IsDoubleIn, KeepsRight, LooksRight, MayRefuse, StepsRight}
+use Rattle.play.specs.Calls.{CallsAreHonest, ExpectsRight, IsFollowed, IsIssued, IsShown, WasFound, WasPromised, IsDoubleIn, KeepsRight, LooksRight, MayRefuse, StepsRight}
 use Rattle.play.proofs.Following.{updated}
 
 -- ---- replies
@@ -417,7 +422,77 @@ module _ (provider : Provider) (accepted verified : List ℕ → List ℕ → Li
   judged (evidence.Root (Link one other)) issued is = h.linear one other issued.0 issued.1 (is.0, is.1, inr (inl is.2))
   judged (evidence.Root (Skip one other)) issued is = h.linear one other issued.0 issued.1 (is.0, is.1, inr (inr is.2))
   judged (evidence.Broken broken) ((command, said), (name, epoch, found)) is = h.unbroken command broken.promise name epoch broken.proof broken.root said found is
-  judged (evidence.Final broken) issued is = absurd issued
+  judged (evidence.Final broken) ((name, epoch, found), (later_name, later_epoch, later_found)) is = h.unchanged name later_name epoch later_epoch broken found later_found is
+
+  -- ---- final bindings
+
+  -- the looks for a name have it, and what is true of all looks
+  of-name : (P : Look → Type 0) (name : List ℕ) (looks : List Look) → AllByRecursion P looks → AllByRecursion (λ look. P look × (bytes_eq look.name name ≡ true)) (looks_for name looks)
+  of-name P name [] all = tt
+  of-name P name (look ∷ looks) all = by (bytes_eq look.name name) refl (of-name P name looks all.1)
+    where
+      by : (t : Bool) → bytes_eq look.name name ≡ t → AllByRecursion (λ each. P each × (bytes_eq each.name name ≡ true)) (looks_for name looks)
+          → AllByRecursion (λ each. P each × (bytes_eq each.name name ≡ true)) (cond t (look ∷ looks_for name looks) (looks_for name looks))
+      by true test more = ((all.0, test), more)
+      by false test more = more
+
+  both-are : (P Q : Look → Type 0) (looks : List Look) → AllByRecursion P looks → AllByRecursion Q looks → AllByRecursion (λ look. P look × Q look) looks
+  both-are P Q [] one other = tt
+  both-are P Q (look ∷ looks) one other = ((one.0, other.0), both-are P Q looks one.1 other.1)
+
+  -- what a look that was accepted states, for its name and under its root
+  look-accepts : (chain : KeyedRoots) (look : Look) (is : IsAcceptedLook provider.hash accepted chain look) (name : List ℕ) → look.name ≡ name → (read : Spelled) → SpellsReply look.reply read
+      → Accepts provider.hash accepted is.root.body name look.reply (stated read.end)
+  look-accepts chain look is name named read spelled =
+      subst (λ (r : Spelled). Accepts provider.hash accepted is.root.body name look.reply (stated r.end)) (one_reply look.reply is.reply read is.is.0 spelled)
+      (subst (λ (n : List ℕ). Accepts provider.hash accepted is.root.body n look.reply (stated is.reply.end)) named
+      (accepts-stated provider.hash accepted is.root.body look.name look.reply is.reply is.is))
+
+  pub unchanged : (holder : Client) (name : List ℕ) → IsFollowed provider key after holder.chain → IsSoundClient provider.hash accepted verified holder
+      → AllByRecursion (λ look. WasFound commands replies look.reply) holder.looks
+      → NoneStandSo (IsChangedBy provider.hash) (looks_for name holder.looks)
+  unchanged holder name f sound found k l look later here there so =
+      h.unchanged one.0.1.0 other.0.1.0 one.0.1.1 other.0.1.1 broken one.0.1.2 other.0.1.2
+      (subst (λ (own : List ℕ). IsBrokenFinal provider.hash accepted verified own broken) f.keyed is-broken)
+    where
+      IsFound : Look → Type 0
+      IsFound each = IsAcceptedLook provider.hash accepted holder.chain each × WasFound commands replies each.reply
+
+      own : AllByRecursion (λ each. IsFound each × (bytes_eq each.name name ≡ true)) (looks_for name holder.looks)
+      own = of-name IsFound name holder.looks (both-are _ _ holder.looks sound.looks found)
+
+      one : IsFound look × (bytes_eq look.name name ≡ true)
+      one = all-at (λ each. IsFound each × (bytes_eq each.name name ≡ true)) (looks_for name holder.looks) k look own here
+
+      other : IsFound later × (bytes_eq later.name name ≡ true)
+      other = all-at (λ each. IsFound each × (bytes_eq each.name name ≡ true)) (looks_for name holder.looks) l later own there
+
+      first : IsAcceptedLook provider.hash accepted holder.chain look
+      first = one.0.0
+
+      second : IsAcceptedLook provider.hash accepted holder.chain later
+      second = other.0.0
+
+      broken : BrokenFinal
+      broken = record { name = name; root = first.root; proof = look.reply; later_root = second.root; later_proof = later.reply }
+
+      is-broken : IsBrokenFinal provider.hash accepted verified holder.chain.key broken
+      is-broken = record {
+        signed = All-contains (Verifies verified holder.chain.key) holder.chain.roots first.root (is-chain holder.chain f).signed first.at.0;
+        later_signed = All-contains (Verifies verified holder.chain.key) holder.chain.roots second.root (is-chain holder.chain f).signed second.at.0;
+        later = (let e = first.at.1 in let e' = second.at.1 in let low = so.0 in omega (arith, e, e', low));
+        changes = record {
+          statement = stated so.2.one.end;
+          passes = look-accepts holder.chain look first name ((bytes_eq-Decides look.name name).0 one.1) so.2.one so.2.spelled;
+          final = so.2.final;
+          later_statement = stated so.2.other.end;
+          later_passes = look-accepts holder.chain later second name ((bytes_eq-Decides later.name name).0 other.1) so.2.other so.2.later_spelled;
+          changed = so.2.changed;
+          index = so.1.index;
+          has_index = so.1.has_index;
+          later_has_index = so.1.later_has_index;
+        };
+      }
 
   pub all-honest : CallsAreHonest provider accepted verified key before after commands replies
   all-honest = record {
@@ -427,6 +502,7 @@ module _ (provider : Provider) (accepted verified : List ℕ → List ℕ → Li
     due = due;
     expected = expected-change;
     stepped = stepped;
+    unchanged = unchanged;
     observed = observed;
     judged = judged;
   }

@@ -1,6 +1,7 @@
 -- What the users of an honest provider get from their own calls, in a run (CONIKS, sections 3 and 4): clients and
 -- monitors whose chains are of its roots, auditors, and judges.
 use Rattle.std.specs.Prelude.{◌≡◌, ◌↔◌, ℕ, ◌==◌, ◌<◌, ◌≤◌, if◌then◌else◌, List, [], ◌++◌, length, None, Result, Ok, Err, Contains, ⊤}
+use Rattle.std.specs.List.{AllByRecursion}
 use Rattle.rootchain.specs.Chains.{IsAt, KeyedRoots}
 use Rattle.rootchain.specs.Evidence.{BothAre}
 use Rattle.rootchain.specs.Places.{IsNextAfter}
@@ -29,6 +30,7 @@ use Rattle.auditor.specs.declared.evidence.Evidence.{Evidence}
 use Rattle.auditor.specs.declared.evidence.Evidence.TheVariants as evidence
 use Rattle.client.specs.Clients.{Client, IsSoundClient, with_promise}
 use Rattle.client.specs.Dues.{IsTested, Tests}
+use Rattle.client.specs.Finality.{looks_for, IsChangedBy, NoneStandSo}
 use Rattle.client.specs.Looking.{IsLookRoot, Looks}
 use Rattle.client.specs.Promising.{KeepsPromise}
 use Rattle.client.specs.Updating.{Updates}
@@ -100,13 +102,16 @@ IsShown before commands replies name of_page text = (latest : ℕ) × (epoch : �
 abbrev pub WasPromised : List Operation → List Reply → SignedPromise → Type 0
 WasPromised commands replies promised = (command : Operation) × IsSaid commands replies command (reply.Promised promised)
 
--- two roots that were issued; or a promise and the reply to a look-up that were, with whatever root; nothing is claimed
--- here of final bindings
+-- a look-up was answered with this text
+abbrev pub WasFound : List Operation → List Reply → List ℕ → Type 0
+WasFound commands replies text = (name : List ℕ) × (epoch : ℕ) × IsSaid commands replies (Query (Lookup name epoch)) (reply.Found text)
+
+-- two roots that were issued; or a promise and the reply to a look-up that were, with whatever root; or two such
+-- replies, with whatever roots
 abbrev pub IsIssued : Provider → Book → List Operation → List Reply → Evidence → Type 0
 IsIssued provider after commands replies (evidence.Root both) = BothAre (Contains (roots provider after)) both
-IsIssued provider after commands replies (evidence.Broken broken) = WasPromised commands replies broken.promise
-    × ((name : List ℕ) × (epoch : ℕ) × IsSaid commands replies (Query (Lookup name epoch)) (reply.Found broken.proof))
-IsIssued provider after commands replies (evidence.Final broken) = ⊥
+IsIssued provider after commands replies (evidence.Broken broken) = WasPromised commands replies broken.promise × WasFound commands replies broken.proof
+IsIssued provider after commands replies (evidence.Final broken) = WasFound commands replies broken.proof × WasFound commands replies broken.later_proof
 
 module _ (provider : Provider) (accepted verified : List ℕ → List ℕ → List ℕ → Type 0) (key : List ℕ) (before after : Book) (commands : List Operation) (replies : List Reply) where
   pub record CallsAreHonest : Type 0 where
@@ -143,6 +148,10 @@ module _ (provider : Provider) (accepted verified : List ℕ → List ℕ → Li
         → IsFollowed provider key after watching.client.chain → IsNext watching root → IsShown before commands replies watching.name root.body.epoch text
         → Steps provider.hash accepted watching text result later
         → (page : Page) × IsRootOf provider after page root × StepsRight provider page watching result
+    -- if its looks are such replies, no final binding is changed among them
+    pub unchanged : (holder : Client) (name : List ℕ) → IsFollowed provider key after holder.chain → IsSoundClient provider.hash accepted verified holder
+        → AllByRecursion (λ look. WasFound commands replies look.reply) holder.looks
+        → NoneStandSo (IsChangedBy provider.hash) (looks_for name holder.looks)
     -- an auditor that observes the roots from whichever on, each next one or one that came before, begins a
     -- chain, extends it, and knows those that came before
     pub observed : (coming some : List SignedRoot) (answers : List Observed) (held left : Chains)

@@ -26,7 +26,8 @@ use vrfiface::VufCheck;
 /// What users see of an honest provider's run (`IsHonestRun`, which the runs of a directory and of a hub
 /// ensure) decides what their own calls return, if memory does not run out: looks and promises are accepted
 /// (but for the look at a double index), promises are found kept, a monitor's step is `Kept` exactly where
-/// the page has what the owner expects, an auditor follows the roots, and nothing that was issued is evidence.
+/// the page has what the owner expects, no look finds a final binding changed, an auditor follows the roots, and
+/// nothing that was issued is evidence.
 pub fn honest<V: VufCheck, S: Verifier>()
     ensures { (provider : Provider) (key : List ℕ) (before after : Book) (commands : List Operation) (replies : List Reply)
         → IsHonestRun provider V.accepted S.verified key before after commands replies

@@ -17,6 +17,7 @@ pub mod Left
 pub mod MarkedRuns
 pub mod Marks
 pub mod MarksKept
+pub mod Named
 pub mod Ran
 pub mod Retraced
 pub mod Rising

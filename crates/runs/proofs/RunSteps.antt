@@ -584,7 +584,7 @@ keeps-none after told (Some state) state' had keeps = absurd (not-none state had
 pub caught-so : {T H V S : Type 0} (hash : List ℕ → List ℕ) (accepted verified : List ℕ → List ℕ → List ℕ → Type 0) (exchanged : T → RequestContent → Frame → T → Type 0) (lines : Option (List (List ℕ))) (start : Found) (old : List ℕ) (Happened : List Act → Type 0)
     (before ready : Asker H V S) (said : Said) (stream : T) (out : Option (List ℕ)) (state state' : Option State) (epoch low : ℕ) (told : Report) (later : T) → IsUpTo before.client low → epoch ≤ low → ready.changes ≡ before.changes → (state ≡ None → state' ≡ None)
     → RunStands hash accepted verified lines start old Happened before said.text.items state out
-    → CatchesUp hash accepted verified exchanged epoch (scene before said stream) (record { client = ready.client; monitors = ready.monitors.items; finals = ready.finals; told = told; stream = later })
+    → CatchesUp hash accepted verified exchanged epoch (scene before said stream) (record { client = ready.client; monitors = ready.monitors.items; told = told; stream = later })
     → IfSome state' (λ one. Fits low one.memory) → (reached : Scene T) → AreBelow hash accepted verified exchanged lines start old Happened ready ready said stream out reached low state'
 caught-so {T} {H} {V} {S} hash accepted verified exchanged lines start old Happened before ready said stream out state None epoch low told later up high still none stands catches fits reached = record { own = λ signed. tt; marks = tt; monitors = tt }
 caught-so {T} {H} {V} {S} hash accepted verified exchanged lines start old Happened before ready said stream out None (Some state') epoch low told later up high still some stands catches fits reached = absurd (not-none state' (some refl))

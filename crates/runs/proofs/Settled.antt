@@ -94,7 +94,7 @@ pub none_caught : (evidence_again nothing).status < CAUGHT
 none_caught = omega arith
 
 again-same : (one other : Memory) → one.evidence ≡ other.evidence → evidence_again one ≡ evidence_again other
-again-same one other same = ap (λ (evidence : List (List ℕ)). evidence_again (record { promises = []; marks = []; finals = []; alarms = []; evidence = evidence })) same
+again-same one other same = ap (λ (evidence : List (List ℕ)). evidence_again (record { promises = []; marks = []; alarms = []; evidence = evidence })) same
 
 -- what is told is what the state remembers, and how many alarms were dropped
 pub told_of : (name : List ℕ) (Before After : List Act → Type 0) (count : ℕ) (was now : Option State) (out : Option (List ℕ)) (before last : Said) → IfSome was (λ state. report_of before ≡ evidence_again state.memory)

@@ -6,6 +6,7 @@ pub mod RunFaults
 pub mod Remembering
 pub mod Keeping
 pub mod Lateness
+pub mod Loading
 pub mod Owning
 pub mod Runs
 pub mod Saves

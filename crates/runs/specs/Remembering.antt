@@ -5,17 +5,14 @@ use Rattle.rootchain.specs.declared.signed_promise.SignedPromise.{SignedPromise}
 use Rattle.rootchain.specs.declared.signed_root.SignedRoot.{SignedRoot}
 use Rattle.memory.specs.Lines.{IsLineOf}
 use Rattle.memory.specs.Memories.{Memory}
-use Rattle.asking.specs.FinalBindings.{IsFinalIn}
-use Rattle.memory.specs.declared.final_seen.FinalSeen.{FinalSeen}
 use Rattle.memory.specs.declared.item.Item.{Item}
-use Rattle.memory.specs.declared.item.Item.TheVariants.{Promised, Watched, Final, Alarm, Evidence}
+use Rattle.memory.specs.declared.item.Item.TheVariants.{Promised, Watched, Alarm, Evidence}
 use Rattle.memory.specs.declared.mark.Mark.{Mark}
 
 -- the promise of an item, if it is one for a change of the owner's own
 abbrev pub own_of : Item → List SignedPromise
 own_of (Promised promised) = if promised.is_own then promised.signed ∷ [] else []
 own_of (Watched mark) = []
-own_of (Final seen) = []
 own_of (Alarm alarm) = []
 own_of (Evidence line) = []
 
@@ -33,22 +30,9 @@ AreOwnOf (line ∷ more) own = (first : List SignedPromise) × (rest : List Sign
 abbrev pub IsWithin : KeyedRoots → Item → Type 0
 IsWithin chain (Watched mark) = (head : SignedRoot) × IsHead chain head × (mark.epoch ≤ head.body.epoch)
 IsWithin chain (Promised promised) = ⊤
-IsWithin chain (Final seen) = ⊤
 IsWithin chain (Alarm alarm) = ⊤
 IsWithin chain (Evidence line) = ⊤
 
 -- so it is for all marks of a memory
 abbrev pub AreWithin : KeyedRoots → Memory → Type 0
 AreWithin chain memory = (mark : Mark) → Contains memory.marks mark → (head : SignedRoot) × IsHead chain head × (mark.epoch ≤ head.body.epoch)
-
--- a reply states a key with Final, and is accepted for its name under the chain's root of its epoch
-abbrev pub IsShown : (List ℕ → List ℕ) → (List ℕ → List ℕ → List ℕ → Type 0) → KeyedRoots → Item → Type 0
-IsShown hash accepted chain (Promised promised) = ⊤
-IsShown hash accepted chain (Watched mark) = ⊤
-IsShown hash accepted chain (Final seen) = IsFinalIn hash accepted chain seen
-IsShown hash accepted chain (Alarm alarm) = ⊤
-IsShown hash accepted chain (Evidence line) = ⊤
-
--- so does each that a memory has
-abbrev pub AreShown : (List ℕ → List ℕ) → (List ℕ → List ℕ → List ℕ → Type 0) → KeyedRoots → Memory → Type 0
-AreShown hash accepted chain memory = (seen : FinalSeen) → Contains memory.finals seen → IsFinalIn hash accepted chain seen

@@ -1,6 +1,6 @@
 // The lines of the files in which a client's chain and what it keeps are stored between runs.
 ghost use Rattle.hex.specs.Hex.{decode_of};
-ghost use Rattle.std.specs.Prelude.{◌≡◌, ◌++◌, ◌∷◌, [], List, map, IfErr, IfOk, Ok, OnOk};
+ghost use Rattle.std.specs.Prelude.{◌≡◌, ◌++◌, ◌∷◌, [], List, map, Err, IfErr, IfOk, Ok, OnOk};
 ghost use Rattle.std.specs.List.{AllByRecursion};
 ghost use Rattle.std.specs.List.Sorted.{IsNonDecreasingBy, IsPermutation, IsStableByKey};
 ghost use Rattle.std.specs.Ordering.{nat_cmp};
@@ -12,21 +12,20 @@ ghost use Rattle.memory.specs.Lists.{HasNoRepeat};
 ghost use Rattle.memory.specs.Memories.{name_of};
 ghost use Rattle.memory.specs.Texts.{Spells, TakesLine};
 ghost use Rattle.memory.specs.declared.item.Item.TheVariants as items;
-ghost use Rattle.asking.specs.FinalBindings.{IsFinalIn, IsKnownIn};
-ghost use Rattle.runs.specs.Remembering.{own_of, AreOwnOf, AreWithin, IsOwnOf, IsShown, IsWithin};
+ghost use Rattle.memory.specs.declared.read_fault.ReadFault.TheVariants as read;
+ghost use Rattle.runs.specs.Loading.{fault_at, IsAccepted, IsFaultAt, IsNoHex, KeepsItem, KeepsLine, KeepsLines, RefusesItem, RefusesNext, RefusesRoot, TakesNext, TakesRoot, TakesRoots};
+ghost use Rattle.runs.specs.Remembering.{own_of, AreOwnOf, AreWithin, IsOwnOf, IsWithin};
 ghost use Rattle.runs.specs.RunFaults.{IsFaultOfState};
 ghost use Rattle.runs.specs.Saves.{AreEarlier};
-ghost use Rattle.client.specs.Clients.{with_promise};
+ghost use Rattle.client.specs.Clients.{with_promise, IsPromised};
 ghost use Rattle.runs.specs.Runs.{IsSameAsker, StillKeeps};
 
-use asking::{Asker, Finals, is_final_in};
+use asking::Asker;
 use client::Client;
 use hex::FromHexError;
-use memory::{
-    FinalSeen, Item, Mark, Memory, Promised, ReadFault, first_line, read_item, read_memory,
-};
+use memory::{Item, Mark, Memory, Promised, ReadFault, first_line, read_item, read_memory};
 use nodehash::NodeHash;
-use play::{next_line, push_hex};
+use play::push_hex;
 use rootchain::SignedPromise;
 use sigiface::Verifier;
 use std::alloc::{AllocError, Global};
@@ -36,6 +35,7 @@ use vrfiface::VufCheck;
 /// The bytes that a line of a file gives in hexadecimal digits.
 pub(crate) fn line_bytes(alloc: Global, line: &[u8], number: u64) -> Result<Vec<u8>, ProgramFault>
     ensures bytes { IfOk result (λ bytes. decode_of line.now ≡ Ok bytes.items) }
+    ensures names { IfErr result (IsFaultAt (λ bad. (bad ≡ number) × IsNoHex line.now)) }
     ensures err { IfErr result IsFaultOfState }
 {
     match hex::decode(alloc, line) {
@@ -47,7 +47,8 @@ pub(crate) fn line_bytes(alloc: Global, line: &[u8], number: u64) -> Result<Vec<
 
 /// The fault for a line of a file that the client refuses.
 pub(crate) fn fault_of(why: &client::Refusal, number: u64) -> ProgramFault
-    ensures { IsFaultOfState result }
+    ensures fault { result ≡ fault_at number why.now }
+    ensures err { IsFaultOfState result }
 {
     match why {
         client::Refusal::Memory => ProgramFault::OutOfMemory,
@@ -67,31 +68,29 @@ fn push_list(list: &mut Vec<u8>, root: &[u8]) -> Result<(), AllocError>
     list.extend_from_slice(root)
 }
 
-/// Takes the roots of a text's lines behind the first.
+/// Takes the roots of the lines behind the first one of a text.
 pub(crate) fn take_lines<H, V, S>(
     asker: &mut Asker<H, V, S>,
-    text: &[u8],
+    behind: &[u8],
 ) -> Result<(), ProgramFault>
 where
     H: NodeHash + Drop,
     V: VufCheck + Drop,
     S: Verifier + Drop,
     ensures same { IsSameAsker asker.old asker.new }
+    ensures takes { OnOk result (TakesRoots H.digest_of S.verified 2 (lines_of behind.now) (asker.old).client (Ok (asker.new).client)) }
+    ensures names { IfErr result (IsFaultAt (λ bad. TakesRoots H.digest_of S.verified 2 (lines_of behind.now) (asker.old).client (Err bad))) }
     ensures earlier { (asker.new).earlier ≡ (asker.old).earlier }
     ensures known { ((asker.new).known ≡ (asker.old).known) × ((asker.new).marks ≡ (asker.old).marks) × ((asker.new).changes ≡ (asker.old).changes) }
-    ensures finals { (asker.new).finals ≡ (asker.old).finals }
     ensures err { IfErr result IsFaultOfState }
 {
-    let mut left = text;
-    let mut line = Vec::new(asker.alloc);
-    // Every loop of Rattle has an end: this one's is past any text.
-    for number in 1..u64::MAX {
-        if !next_line(&mut left, &mut line)? {
-            return Ok(());
-        }
-        if 1 < number && !line.is_empty() {
-            take_line(asker, &line, number)?;
-        }
+    let mut rest = behind;
+    let mut number: u64 = 1;
+    while !rest.is_empty() {
+        let (line, more) = first_line(rest);
+        number += 1;
+        take_line(asker, line, number)?;
+        rest = more;
     }
     Ok(())
 }
@@ -108,6 +107,8 @@ where
     S: Verifier + Drop,
     ensures same { IsSameAsker asker.old asker.new }
     ensures kept { OnOk result (StillKeeps asker.old asker.new) }
+    ensures keeps { OnOk result (KeepsLines H.digest_of S.verified 1 (lines_of text.now) (asker.old).client (Ok (asker.new).client)) }
+    ensures names { IfErr result (IsFaultAt (λ bad. KeepsLines H.digest_of S.verified 1 (lines_of text.now) (asker.old).client (Err bad))) }
     ensures spells { IfOk result (λ memory. Spells text.now (Ok memory) × (memory ≡ (asker.new).known)) }
     ensures marks { OnOk result ((asker.new).marks.items ≡ (asker.new).known.marks) }
     ensures earlier { OnOk result ((own : List Signed) × AreOwnOf (lines_of text.now) own × IsPermutation ((asker.old).earlier.items ++ own) (asker.new).earlier.items) }
@@ -116,14 +117,12 @@ where
     ensures chain { (asker.new).client.chain ≡ (asker.old).client.chain }
     ensures changes { (asker.new).changes ≡ (asker.old).changes }
     ensures within { OnOk result (AreWithin (asker.old).client.chain (asker.new).known) }
-    ensures finals { OnOk result (IsKnownIn (asker.new).known (asker.new).finals) }
     ensures once { OnOk result (HasNoRepeat (map name_of (asker.new).known.marks)) }
     ensures err { IfErr result IsFaultOfState }
 {
     let memory = remember_lines(asker, text)?;
     asker.marks = copied_marks(asker.alloc, memory.marks())?;
     asker.known = read_lines(asker.alloc, text)?;
-    asker.finals = Finals::remembered(asker.alloc, &asker.known)?;
     sort_promises(&mut asker.earlier)?;
     Ok(memory)
 }
@@ -136,6 +135,8 @@ where
     S: Verifier + Drop,
     ensures same { IsSameAsker asker.old asker.new }
     ensures kept { OnOk result (StillKeeps asker.old asker.new) }
+    ensures keeps { OnOk result (KeepsLines H.digest_of S.verified 1 (lines_of text.now) (asker.old).client (Ok (asker.new).client)) }
+    ensures names { IfErr result (IsFaultAt (λ bad. KeepsLines H.digest_of S.verified 1 (lines_of text.now) (asker.old).client (Err bad))) }
     ensures spells { IfOk result (λ memory. Spells text.now (Ok memory)) }
     ensures earlier { OnOk result ((own : List Signed) × AreOwnOf (lines_of text.now) own × ((asker.new).earlier.items ≡ (asker.old).earlier.items ++ own)) }
     ensures chain { (asker.new).client.chain ≡ (asker.old).client.chain }
@@ -155,7 +156,7 @@ where
     Ok(memory)
 }
 
-/// Takes the root of a line.
+/// Takes the root of a line. An empty line is passed over.
 fn take_line<H, V, S>(
     asker: &mut Asker<H, V, S>,
     line: &[u8],
@@ -166,11 +167,15 @@ where
     V: VufCheck + Drop,
     S: Verifier + Drop,
     ensures same { IsSameAsker asker.old asker.new }
+    ensures takes { OnOk result (TakesNext (TakesRoot H.digest_of S.verified) line.now (asker.old).client (asker.new).client) }
+    ensures names { IfErr result (IsFaultAt (λ bad. (bad ≡ number) × RefusesNext (RefusesRoot H.digest_of S.verified) line.now (asker.old).client)) }
     ensures earlier { (asker.new).earlier ≡ (asker.old).earlier }
     ensures known { ((asker.new).known ≡ (asker.old).known) × ((asker.new).marks ≡ (asker.old).marks) × ((asker.new).changes ≡ (asker.old).changes) }
-    ensures finals { (asker.new).finals ≡ (asker.old).finals }
     ensures err { IfErr result IsFaultOfState }
 {
+    if line.is_empty() {
+        return Ok(());
+    }
     let root = line_bytes(asker.alloc, line, number)?;
     let mut list = Vec::new(asker.alloc);
     push_list(&mut list, &root)?;
@@ -198,6 +203,8 @@ where
     S: Verifier + Drop,
     ensures same { IsSameAsker asker.old asker.new }
     ensures kept { OnOk result (StillKeeps asker.old asker.new) }
+    ensures keeps { OnOk result (TakesNext (KeepsLine H.digest_of S.verified) line.now (asker.old).client (asker.new).client) }
+    ensures names { IfErr result (IsFaultAt (λ bad. (bad ≡ number) × RefusesNext (RefusesItem H.digest_of S.verified) line.now (asker.old).client)) }
     ensures takes { OnOk result (TakesLine line.now number memory.old memory.new (Ok tt)) }
     ensures earlier { OnOk result ((own : List Signed) × IsOwnOf line.now own × ((asker.new).earlier.items ≡ (asker.old).earlier.items ++ own)) }
     ensures chain { (asker.new).client.chain ≡ (asker.old).client.chain }
@@ -216,8 +223,7 @@ where
     Ok(())
 }
 
-/// Keeps the promise of an item. Refuses a mark above the chain's head, and a reply that does not state a key with Final, or is
-/// not accepted under the chain's root of its epoch.
+/// Keeps the promise of an item. Refuses a mark above the chain's head.
 fn accept<H, V, S>(asker: &mut Asker<H, V, S>, item: &Item, number: u64) -> Result<(), ProgramFault>
 where
     H: NodeHash + Drop,
@@ -225,9 +231,10 @@ where
     S: Verifier + Drop,
     ensures same { IsSameAsker asker.old asker.new }
     ensures kept { OnOk result (StillKeeps asker.old asker.new) }
+    ensures keeps { OnOk result (IsSound item.now → KeepsItem H.digest_of S.verified item.now (asker.old).client (asker.new).client) }
+    ensures names { IfErr result (IsFaultAt (λ bad. (bad ≡ number) × ¬ IsAccepted H.digest_of S.verified (asker.old).client.chain item.now)) }
     ensures earlier { OnOk result (IsSound item.now → (asker.new).earlier.items ≡ (asker.old).earlier.items ++ own_of item.now) }
     ensures marks { OnOk result (IsWithin (asker.old).client.chain item.now) }
-    ensures shown { OnOk result (IsShown H.digest_of V.accepted (asker.old).client.chain item.now) }
     ensures chain { (asker.new).client.chain ≡ (asker.old).client.chain }
     ensures changes { (asker.new).changes ≡ (asker.old).changes }
     ensures err { IfErr result IsFaultOfState }
@@ -236,34 +243,8 @@ where
         Item::Promised(promised) => keep_earlier(asker, promised, number),
         Item::Watched(mark) if asker.head() < mark.epoch => Err(ProgramFault::BadItem(number)),
         Item::Watched(_) => Ok(()),
-        Item::Final(seen) => accept_final(asker, seen, number),
         Item::Alarm(_) => Ok(()),
         Item::Evidence(_) => Ok(()),
-    }
-}
-
-/// Refuses a reply that does not state a key with Final, or is not accepted for its name under the chain's root of its epoch.
-fn accept_final<H, V, S>(
-    asker: &mut Asker<H, V, S>,
-    seen: &FinalSeen,
-    number: u64,
-) -> Result<(), ProgramFault>
-where
-    H: NodeHash + Drop,
-    V: VufCheck + Drop,
-    S: Verifier + Drop,
-    ensures same { IsSameAsker asker.old asker.new }
-    ensures client { (asker.new).client ≡ (asker.old).client }
-    ensures earlier { (asker.new).earlier ≡ (asker.old).earlier }
-    ensures changes { (asker.new).changes ≡ (asker.old).changes }
-    ensures shown { OnOk result (IsFinalIn H.digest_of V.accepted (asker.old).client.chain seen.now) }
-    ensures err { IfErr result IsFaultOfState }
-{
-    let checks = &mut asker.checks;
-    if is_final_in(asker.client.chain(), checks, seen) {
-        Ok(())
-    } else {
-        Err(ProgramFault::BadItem(number))
     }
 }
 
@@ -279,6 +260,8 @@ where
     S: Verifier + Drop,
     ensures same { IsSameAsker asker.old asker.new }
     ensures kept { OnOk result (StillKeeps asker.old asker.new) }
+    ensures keeps { OnOk result (IsSignedPromise promised.now.signed → KeepsItem H.digest_of S.verified (items.Promised promised.now) (asker.old).client (asker.new).client) }
+    ensures names { IfErr result (IsFaultAt (λ bad. (bad ≡ number) × ¬ IsPromised H.digest_of S.verified (asker.old).client.chain promised.now.signed)) }
     ensures earlier { OnOk result (IsSignedPromise promised.now.signed → (asker.new).earlier.items ≡ (asker.old).earlier.items ++ own_of (items.Promised promised.now)) }
     ensures chain { (asker.new).client.chain ≡ (asker.old).client.chain }
     ensures changes { (asker.new).changes ≡ (asker.old).changes }
@@ -305,6 +288,8 @@ where
     ensures same { IsSameAsker asker.old asker.new }
     ensures kept { IfOk result (λ signed. (asker.new).client ≡ with_promise (asker.old).client signed) }
     ensures one { IfOk result (λ signed. IsSignedPromise promise.now → signed ≡ promise.now) }
+    ensures promised { IfOk result (λ signed. IsPromised H.digest_of S.verified (asker.old).client.chain signed) }
+    ensures names { IfErr result (IsFaultAt (λ bad. (bad ≡ number) × ¬ IsPromised H.digest_of S.verified (asker.old).client.chain promise.now)) }
     ensures earlier { (asker.new).earlier ≡ (asker.old).earlier }
     ensures chain { (asker.new).client.chain ≡ (asker.old).client.chain }
     ensures changes { (asker.new).changes ≡ (asker.old).changes }
@@ -377,6 +362,7 @@ fn copied_marks(alloc: Global, marks: &[Mark]) -> Result<Vec<Mark>, AllocError>
 /// The memory that a text spells.
 fn read_lines(alloc: Global, text: &[u8]) -> Result<Memory, ProgramFault>
     ensures spells { IfOk result (λ memory. Spells text.now (Ok memory)) }
+    ensures names { IfErr result (IsFaultAt (λ bad. Spells text.now (Err (read.BadItem bad)))) }
     ensures err { IfErr result IsFaultOfState }
 {
     match read_memory(alloc, text) {

@@ -3,11 +3,12 @@
 // the disk before more is told. At the end of a run a new second file, without the lines that no longer hold, takes the
 // place of the old one. A line without its LF was cut short, and is dropped. Contracts do not know what a file holds:
 // `scripts/states.py` shows it.
-ghost use Rattle.std.specs.Prelude.{◌≡◌, ◌≢◌, ◌≤◌, ◌++◌, ℕ, [], All, length, List, IfErr, IfOk, Ok};
+ghost use Rattle.std.specs.Prelude.{◌≡◌, ◌≢◌, ◌⊎◌, ◌<◌, ◌≤◌, ◌++◌, ℕ, [], All, length, List, Err, IfErr, IfOk, Ok, option_map};
 ghost use Rattle.textio.specs.declared.program_fault.ProgramFault.TheVariants.{OutOfMemory};
+ghost use Rattle.textio.specs.Lines.{lines_of};
 ghost use Rattle.memory.specs.Memories.{nothing};
 ghost use Rattle.memory.specs.Texts.{HasWholeLines, Spells};
-ghost use Rattle.asking.specs.FinalBindings.{no_finals, IsKnownIn};
+ghost use Rattle.runs.specs.Loading.{IsFaultAt, IsSecond, LoadsClient, StartsFrom};
 ghost use Rattle.runs.specs.Remembering.{AreWithin};
 ghost use Rattle.asking.specs.Reports.{report_of};
 ghost use Rattle.runs.specs.RunFaults.{IsFaultOfSaving, IsFaultOfState};
@@ -20,7 +21,7 @@ use asking::{Asker, Checks, Said};
 use client::Client;
 use encoding::Hash32;
 use files::{LockFault, append, cut, open_existing, open_kept, open_locked, replace};
-use memory::Memory;
+use memory::{Memory, first_line};
 use nodehash::NodeHash;
 use play::push_number;
 use sigiface::Verifier;
@@ -79,6 +80,7 @@ fn push_words(words: &mut Vec<u8>, path: &str, what: &[u8]) -> Result<(), AllocE
 /// A fault that a file of the state has. Where it is of a line, the file is named in a line of the errors.
 fn fault_in(path: &str, fault: ProgramFault, said: &mut Said) -> ProgramFault
     ensures fault { IsFaultOfState fault → IsFaultOfState result }
+    ensures same { (result ≡ fault) ⊎ (result ≡ OutOfMemory) }
     ensures said { report_of said.new ≡ report_of said.old }
 {
     if !matches!(fault, ProgramFault::BadItem(_)) {
@@ -177,22 +179,24 @@ where
     H: NodeHash + Drop,
     V: VufCheck + Drop,
     S: Verifier + Drop,
+    requires { 0 < length lines.now }
+    ensures starts { IfOk result (λ asker. StartsFrom H.digest_of S.verified key (lines_of lines.now) (Ok asker.client)) }
+    ensures names { IfErr result (IsFaultAt (λ bad. StartsFrom H.digest_of S.verified key (lines_of lines.now) (Err bad))) }
     ensures knows { IfOk result (λ asker. (asker.key ≡ key) × (asker.token ≡ token) × (asker.monitors.items ≡ [])) }
     ensures chain { IfOk result (λ asker. asker.client.chain.key ≡ key) }
     ensures none { IfOk result (λ asker. asker.earlier.items ≡ []) }
     ensures known { IfOk result (λ asker. asker.known ≡ nothing) }
     ensures marks { IfOk result (λ asker. asker.marks.items ≡ []) }
     ensures changes { IfOk result (λ asker. asker.changes.items ≡ []) }
-    ensures finals { IfOk result (λ asker. asker.finals ≡ no_finals) }
     ensures err { IfErr result IsFaultOfState }
 {
-    let line = lines.split(|byte| *byte == b'\n').next().unwrap_or(b"");
+    let (line, behind) = first_line(lines);
     let first = line_bytes(alloc, line, 1)?;
     let mut asker = match Asker::start(alloc, checks, key, token, &first) {
         Ok(asker) => asker,
         Err(why) => return Err(fault_of(&why, 1)),
     };
-    take_lines(&mut asker, lines)?;
+    take_lines(&mut asker, behind)?;
     Ok(asker)
 }
 
@@ -235,13 +239,16 @@ impl<F: Files<File = File>> StateFiles<'_, F> {
         H: NodeHash + Drop,
         V: VufCheck + Drop,
         S: Verifier + Drop,
+        requires { 0 < length lines.now }
+        ensures loads { IfOk result (λ found. LoadsClient H.digest_of S.verified key lines.now (option_map (λ file. (file.now).bytes.items) second.entry) (Ok found.asker.client)) }
+        ensures names { IfErr result (IsFaultAt (λ bad. LoadsClient H.digest_of S.verified key lines.now (option_map (λ file. (file.now).bytes.items) second.entry) (Err bad))) }
+        ensures spells { IfOk result (λ found. (text : List ℕ) × IsSecond (option_map (λ file. (file.now).bytes.items) second.entry) text × Spells text (Ok found.asker.known)) }
         ensures knows { IfOk result (λ found. (found.asker.key ≡ key) × (found.asker.token ≡ token) × (found.asker.monitors.items ≡ []) × (found.asker.changes.items ≡ [])) }
         ensures chain { IfOk result (λ found. found.asker.client.chain.key ≡ key) }
         ensures kept { IfOk result (λ found. KeepsAll found.asker.client found.asker.earlier.items) }
         ensures own { IfOk result (λ found. AreEarlier found.asker.known found.asker.earlier.items) }
         ensures memory { IfOk result (λ found. (found.memory ≡ found.asker.known) × (found.asker.marks.items ≡ found.memory.marks)) }
         ensures marks { IfOk result (λ found. AreWithin found.asker.client.chain found.memory × HasOneOfEachName found.memory) }
-        ensures finals { IfOk result (λ found. IsKnownIn found.asker.known found.asker.finals) }
         ensures text { IfOk result (λ found. (text : List ℕ) × HasWholeLines text × Spells text (Ok found.asker.known)) }
         ensures said { report_of said.new ≡ report_of said.old }
         ensures err { IfErr result IsFaultOfState }

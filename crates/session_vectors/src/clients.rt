@@ -1,5 +1,6 @@
 //! Of `client`: a client, and another one, which stay for the next lines.
 
+use crate::evidences::say_changed;
 use crate::stand_ins::{Functions, keyed, summed};
 use crate::{feeds, lists};
 use client::{Client, Due, Outcome, Refusal, reconcile};
@@ -100,6 +101,7 @@ where
         }
         b"due" => due(case, by, client),
         b"due-epoch" => due_epoch(case, client),
+        b"finality" => finality(case, client),
         b"key" => case.say_bytes(client.key().bytes()),
         b"head" => case.say_bytes(client.chain().head().write().bytes()),
         _ => case.spoil(),
@@ -245,6 +247,19 @@ where
 {
     let name = case.name();
     say_option(case, client.due_epoch(&name));
+}
+
+/// `finality NAME`
+fn finality<H, V>(case: &mut Case<'_>, client: &Kept<H, V>)
+where
+    H: NodeHash + Drop,
+    V: VufCheck + Drop,
+{
+    let name = case.name();
+    match client.finality(&name) {
+        Some(broken) => say_changed(case, &broken),
+        None => case.say("none"),
+    }
 }
 
 /// The last word of the number that may be there.

@@ -90,7 +90,7 @@ fn say_broken(case: &mut Case<'_>, broken: &BrokenPromise) {
 }
 
 /// The name, and the two roots, each with its proof behind it.
-fn say_changed(case: &mut Case<'_>, broken: &BrokenFinal) {
+pub(crate) fn say_changed(case: &mut Case<'_>, broken: &BrokenFinal) {
     case.say("broken-final");
     case.say_bytes(broken.name.bytes());
     case.say_bytes(broken.root.write().bytes());

@@ -24,6 +24,7 @@
 //! | | of them `update` calls `Chain::take_bytes`; `update_from`, which calls `take_part` and `take_piece`; `RootFeed::new`, `done` | `from`; `feed`, `done` |
 //! | | `update`, `update_from` of clients of their own; where memory runs out for their room | `ways`; `room-whole`, `room`, `room-more` |
 //! | | `keep_promise`, `due`, `due_epoch` | `keep`, `due`, `due-epoch` |
+//! | | `finality` | `finality` |
 //! | | `key`, `chain` | `key`, `head` |
 //! | | `reconcile` | `reconcile`, `reconcile-self`; `put-aside` makes the client the other one |
 //! | | `start`, `update`, `keep_promise` under a verifier that accepts all | `any` |

@@ -13,7 +13,7 @@ ghost use Rattle.prefixtree.specs.Node.{node_count};
 ghost use Rattle.prefixtree.specs.Placement.{put_all, IsPlacement};
 ghost use Rattle.book.specs.declared.record.Record.TheVariants as kept_as;
 ghost use Rattle.book.specs.declared.directory_refusal.Refusal.{Refusal as RefusalOf};
-ghost use Rattle.book.specs.Steps.{bad_key, bad_policy, first, next_page, with_page, with_pending, Last, Promised};
+ghost use Rattle.book.specs.Steps.{bad_key, bad_policy, first, is_final_binding, next_page, with_page, with_pending, Last, Promised};
 ghost use Rattle.encoding.specs.Maps.{at, overwritten};
 ghost use Rattle.book.specs.Replays.{put_refusal, with_bound};
 ghost use Rattle.book.specs.Shows.{index_of as index_by, placement};
@@ -341,6 +341,7 @@ impl<H: NodeHash, V: Vuf, S: Signer, R: Rng> Directory<H, V, S, R> {
         requires { index.now ≡ index_by (provider H.digest_of V.value_of S.signature_of self.now) name.now }
         ensures taken { let by = index_by (provider H.digest_of V.value_of S.signature_of self.now) in
             result ≡ is_some (put_refusal by (book R.stream self.now) Register name.now) }
+        ensures changeable { result ≡ false → is_final_binding (at self.now.last.bindings name.now) ≡ false }
         ensures waits { result ≡ false → at self.now.pending name.now ≡ None }
         ensures free { let by = index_by (provider H.digest_of V.value_of S.signature_of self.now) in
             result ≡ false → (other : List ℕ) → HoldsName (book R.stream self.now) other → by other ≡ by name.now → other ≡ name.now }
@@ -370,6 +371,7 @@ impl<H: NodeHash, V: Vuf, S: Signer, R: Rng> Directory<H, V, S, R> {
         ensures opens { let by = index_by (provider H.digest_of V.value_of S.signature_of self.old) in MatchResult result
             (λ address. (put_refusal by (book R.stream self.old) Register name.now ≡ None)
             × (address ≡ address_of (provider H.digest_of V.value_of S.signature_of self.old) name.now)
+            × (is_final_binding (at self.old.last.bindings name.now) ≡ false)
             × (at self.old.pending name.now ≡ None)
             × ((other : List ℕ) → HoldsName (book R.stream self.old) other → by other ≡ by name.now → other ≡ name.now))
             (λ why. put_refusal by (book R.stream self.old) Register name.now ≡ Some why) }
@@ -394,6 +396,7 @@ impl<H: NodeHash, V: Vuf, S: Signer, R: Rng> Directory<H, V, S, R> {
         key: &BoundKey,
         salt: Hash32,
     ) -> Result<(), Refusal>
+        requires changeable { is_final_binding (at self.old.last.bindings name.now) ≡ false }
         requires waits { at self.old.pending name.now ≡ None }
         requires addressed { address.now ≡ address_of (provider H.digest_of V.value_of S.signature_of self.old) name.now }
         requires free { let by = index_by (provider H.digest_of V.value_of S.signature_of self.old) in
@@ -434,6 +437,7 @@ impl<H: NodeHash, V: Vuf, S: Signer, R: Rng> Directory<H, V, S, R> {
         key: BoundKey,
     ) -> Result<SignedPromise, Refusal>
         requires limits { IsName name × IsKeyData key.value }
+        requires changeable { is_final_binding (at self.old.last.bindings name) ≡ false }
         requires waits { at self.old.pending name ≡ None }
         requires addressed { address.now ≡ address_of (provider H.digest_of V.value_of S.signature_of self.old) name }
         requires free { let by = index_by (provider H.digest_of V.value_of S.signature_of self.old) in

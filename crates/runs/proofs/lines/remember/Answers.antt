@@ -1,11 +1,15 @@
-use Rattle.std.proofs.Common.{◌∙◌, List, Contains, ap, subst}
+use Rattle.std.proofs.Common.{◌∙◌, List, Contains, Err, ap, subst}
 use Rattle.std.specs.List.Sorted.{IsPermutation}
 use Rattle.textio.specs.Lines.{lines_of}
 use Rattle.memory.specs.Memories.{Memory}
+use Rattle.memory.specs.Texts.{Spells}
+use Rattle.memory.specs.declared.read_fault.ReadFault.TheVariants as read
 use Rattle.rootchain.specs.Promises.{IsSignedPromise}
 use Rattle.rootchain.specs.declared.signed_promise.SignedPromise.{SignedPromise}
+use Rattle.runs.specs.Loading.{KeepsLines}
 use Rattle.runs.specs.Remembering.{AreWithin}
 use Rattle.runs.proofs.Marks.{spelled_once}
+use Rattle.runs.proofs.Named.{passed_on, spelled_so}
 use Rattle.runs.proofs.Remembered.{formed_on, one_spelled, remembered_own, sorted-all}
 use Rattle.runs.proofs.lines.remember.Goals as goal
 
@@ -44,3 +48,9 @@ returns-clause-earlier g c =
 pub returns-clause-kept : goal.returns-clause-kept
 returns-clause-kept g c keeps =
     sorted-all (Contains c.remember_lines.new.asker.client.promises) c.remember_lines.new.asker.earlier.items c.sort_promises.new.promises.items c.sort_promises.ensures.permutation (c.in_ok-memory.ensures.kept keeps)
+
+pub returns-in_err-asker-2-clause-names : goal.returns-in_err-asker-2-clause-names
+returns-in_err-asker-2-clause-names g c =
+    passed_on c.from_residual-in_err-asker-2.result c.in_err-asker-2.field-0.0 (λ bad. Spells c.args.text.now (Err (read.BadItem bad)))
+    (λ bad. KeepsLines g.H.NodeHash.digest_of g.S.Verifier.verified 1 (lines_of c.args.text.now) c.args.asker.now.client (Err bad)) c.from_residual-in_err-asker-2.ensures.1
+    (λ bad spells. absurd (spelled_so c.args.text.now c.in_ok-memory.memory bad c.in_ok-memory.ensures.spells spells)) c.in_err-asker-2.ensures.names

@@ -21,7 +21,7 @@ invariant_of-self-2 g c =
       keeps_bound _ (parts_of c.self.inside) _ _ c.self.invariant.0 c.args.name.now c.args.key.now (rw (← c.self.view_is) at c.requires.waits) (rw (← c.self.view_is) at c.requires.free) c.args.salt c.bytes-3.ensures.size c.len.result (search rules) _ c.in_ok-version.ensures
           c.args.address.now.index c.commit-commitment.result c.let_wait.new.names.versions c.let_wait.new.waiting
           (ap (λ (address : Address). address.index) (rw (← c.self.view_is) at c.requires.addressed)) c.commit-commitment.ensures.value (ap (λ (names : NamesContent). names.versions) c.in_ok-let_wait.ensures.1) c.in_ok-let_wait.ensures.2
-          c.bytes.ensures.limits c.bytes-2.ensures.limits,
+          c.bytes.ensures.limits c.bytes-2.ensures.limits (rw (← c.self.view_is) at c.requires.changeable),
       subst (λ (names : NamesContent). AreAddresses by names.addresses) (sym c.in_ok-let_wait.ensures.1) (addresses_with by c.self.inside.names c.args.name.now c.args.address.now c.in_ok-version.version c.self.invariant.1 (rw (← c.self.view_is) at c.requires.addressed)),
     )
 
