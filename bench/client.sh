@@ -1,7 +1,7 @@
 #!/usr/bin/env bash
 # Measures a client with 1,000, 10,000, 100,000 and 1,000,000 kept looks: looks beside the reading and
-# check of the same replies, and the memory of a kept look; updates by 64 roots, whole and in pieces; and a
-# monitor's steps.
+# check of the same replies, the memory of a kept look, and finality; updates by 64 roots, whole and in
+# pieces; and a monitor's steps.
 #
 #   bench/client.sh
 #

@@ -3,7 +3,6 @@ pub mod Rooted
 pub mod Breaking
 pub mod Growing
 pub mod Keeping
-pub mod ByIndex
 pub mod ByNames
 pub mod Tested
 pub mod Groups

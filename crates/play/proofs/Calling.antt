@@ -449,26 +449,23 @@ module _ (provider : Provider) (accepted verified : List ℕ → List ℕ → Li
       (accepts-stated provider.hash accepted is.root.body look.name look.reply is.reply is.is))
 
   pub unchanged : (holder : Client) (name : List ℕ) → IsFollowed provider key after holder.chain → IsSoundClient provider.hash accepted verified holder
-      → AllByRecursion (λ look. WasFound commands replies look.reply) (looks_for name holder.looks)
+      → AllByRecursion (λ look. WasFound commands replies look.reply) holder.looks
       → NoneStandSo (IsChangedBy provider.hash) (looks_for name holder.looks)
   unchanged holder name f sound found k l look later here there so =
-      h.unchanged one.1.0 other.1.0 one.1.1 other.1.1 broken one.1.2 other.1.2
+      h.unchanged one.0.1.0 other.0.1.0 one.0.1.1 other.0.1.1 broken one.0.1.2 other.0.1.2
       (subst (λ (own : List ℕ). IsBrokenFinal provider.hash accepted verified own broken) f.keyed is-broken)
     where
-      IsOwn : Look → Type 0
-      IsOwn each = IsAcceptedLook provider.hash accepted holder.chain each × (bytes_eq each.name name ≡ true)
-
       IsFound : Look → Type 0
-      IsFound each = IsOwn each × WasFound commands replies each.reply
+      IsFound each = IsAcceptedLook provider.hash accepted holder.chain each × WasFound commands replies each.reply
 
-      own : AllByRecursion IsFound (looks_for name holder.looks)
-      own = both-are IsOwn (λ each. WasFound commands replies each.reply) (looks_for name holder.looks) (of-name (IsAcceptedLook provider.hash accepted holder.chain) name holder.looks sound.looks) found
+      own : AllByRecursion (λ each. IsFound each × (bytes_eq each.name name ≡ true)) (looks_for name holder.looks)
+      own = of-name IsFound name holder.looks (both-are _ _ holder.looks sound.looks found)
 
-      one : IsFound look
-      one = all-at IsFound (looks_for name holder.looks) k look own here
+      one : IsFound look × (bytes_eq look.name name ≡ true)
+      one = all-at (λ each. IsFound each × (bytes_eq each.name name ≡ true)) (looks_for name holder.looks) k look own here
 
-      other : IsFound later
-      other = all-at IsFound (looks_for name holder.looks) l later own there
+      other : IsFound later × (bytes_eq later.name name ≡ true)
+      other = all-at (λ each. IsFound each × (bytes_eq each.name name ≡ true)) (looks_for name holder.looks) l later own there
 
       first : IsAcceptedLook provider.hash accepted holder.chain look
       first = one.0.0
@@ -486,10 +483,10 @@ module _ (provider : Provider) (accepted verified : List ℕ → List ℕ → Li
         later = (let e = first.at.1 in let e' = second.at.1 in let low = so.0 in omega (arith, e, e', low));
         changes = record {
           statement = stated so.2.one.end;
-          passes = look-accepts holder.chain look first name ((bytes_eq-Decides look.name name).0 one.0.1) so.2.one so.2.spelled;
+          passes = look-accepts holder.chain look first name ((bytes_eq-Decides look.name name).0 one.1) so.2.one so.2.spelled;
           final = so.2.final;
           later_statement = stated so.2.other.end;
-          later_passes = look-accepts holder.chain later second name ((bytes_eq-Decides later.name name).0 other.0.1) so.2.other so.2.later_spelled;
+          later_passes = look-accepts holder.chain later second name ((bytes_eq-Decides later.name name).0 other.1) so.2.other so.2.later_spelled;
           changed = so.2.changed;
           index = so.1.index;
           has_index = so.1.has_index;
