@@ -181,7 +181,7 @@ module _ (provider : Provider) where
       pub unbroken : (command : Operation) (promised : SignedPromise) (name : List ℕ) (epoch : ℕ) (text : List ℕ) (root : SignedRoot)
           → IsSaid commands replies command (reply.Promised promised) → IsSaid commands replies (Query (Lookup name epoch)) (reply.Found text)
           → ¬ IsBrokenPromise provider.hash accepted verified key promised root text
-      -- and no final binding changed
+      -- and no final binding is shown changed, by whatever replies and roots
       pub unchanged : (name later_name : List ℕ) (epoch later_epoch : ℕ) (broken : BrokenFinal)
           → IsSaid commands replies (Query (Lookup name epoch)) (reply.Found broken.proof) → IsSaid commands replies (Query (Lookup later_name later_epoch)) (reply.Found broken.later_proof)
           → ¬ IsBrokenFinal provider.hash accepted verified key broken

@@ -1,17 +1,20 @@
 -- The replies for each name, as one more is put in and taken out again.
 use Rattle.std.proofs.Common.{◌≡◌, ◌≢◌, ℕ, List, [], ◌∷◌, ◌++◌, Bool, true, false, cond, map, bytes_eq, Option, Some, None, Result, Ok, Err, OnErr, OnOk, MatchOption, option_map, refl, sym, ap, subst, ◌∙◌}
-use Rattle.std.specs.BTreeMap.{is_at}
+use Rattle.std.specs.BTreeMap.{insert_entry, is_at}
 use Rattle.std.specs.List.{AllByRecursion}
-use Rattle.std.specs.Map.{set_value}
+use Rattle.std.specs.Map.{lookup, set_value}
+use Rattle.std.specs.Ordering.{match_ordering}
+use Rattle.std.specs.declared.cmp.Ordering.{Ordering}
+use Rattle.std.specs.declared.cmp.Ordering.TheVariants.{Less, Equal, Greater}
 use Rattle.std.proofs.lemmas.List.{append-nil, map-append}
 use Rattle.std.proofs.lemmas.List.Elements.{filter-append}
 use Rattle.std.proofs.lemmas.Map.Steps.{set_value_same}
 use Rattle.std.proofs.lemmas.Slice.Eq.{bytes_eq-Decides}
 use Rattle.encoding.specs.Bytes.{bytes_cmp}
 use Rattle.encoding.specs.Maps.{Map, at, put_at}
-use Rattle.prefixtree.proofs.Entries.{at_put_other, at_put_same, is_name, is_no_name}
+use Rattle.prefixtree.proofs.Entries.{at_put_other, at_put_same, is_name}
 use Rattle.client.specs.Clients.{Look}
-use Rattle.client.specs.Finality.{all_of, look_of, looks_for, replies_for, AreByName, ByName, HasOneMore, HaveTheSame, IndexedReply, IsIndexed}
+use Rattle.client.specs.Finality.{all_of, keyed, look_of, looks_for, replies_for, AreByName, ByName, HasOneMore, HaveTheSame, IndexedReply, IsIndexed}
 use Rattle.client.proofs.Keeping.{one-more}
 
 module _ {X : Type 0} where
@@ -35,6 +38,44 @@ module _ {X : Type 0} where
       by true false is too next = rw too refl
       by false true is too next = rw too refl
       by false false is too next = rw too next
+
+-- a map under the bytes of its keys
+abbrev pub is_named : {K : Type 0} → (K → List ℕ) → List ℕ → K → Bool
+is_named bytes name = is_at (λ key. bytes_cmp name (bytes key))
+
+module _ {K X : Type 0} (bytes : K → List ℕ) where
+  pub at-keyed : (name : List ℕ) (entries : List (K × X)) → lookup (is_named bytes name) entries ≡ at (keyed bytes entries) name
+  at-keyed name [] = refl
+  at-keyed name (e ∷ entries) = ap (cond (is_at (bytes_cmp name) (bytes e.0)) (Some e.1)) (at-keyed name entries)
+
+  pub set-keyed : (name : List ℕ) (entries : List (K × X)) (x : X) → keyed bytes (set_value (is_named bytes name) entries x) ≡ set_value (is_at (bytes_cmp name)) (keyed bytes entries) x
+  set-keyed name [] x = refl
+  set-keyed name (e ∷ entries) x = by (is_at (bytes_cmp name) (bytes e.0)) (set-keyed name entries x)
+    where
+      by : (test : Bool) → keyed bytes (set_value (is_named bytes name) entries x) ≡ set_value (is_at (bytes_cmp name)) (keyed bytes entries) x
+          → keyed bytes (cond test ((e.0, x) ∷ entries) (e ∷ set_value (is_named bytes name) entries x))
+          ≡ cond test ((bytes e.0, x) ∷ keyed bytes entries) ((bytes e.0, e.1) ∷ set_value (is_at (bytes_cmp name)) (keyed bytes entries) x)
+      by true next = refl
+      by false next = ap (λ (es : Map X). (bytes e.0, e.1) ∷ es) next
+
+  pub put-keyed : (key : K) (x : X) (entries : List (K × X)) → keyed bytes (insert_entry (λ a b. bytes_cmp (bytes a) (bytes b)) entries key x) ≡ put_at (keyed bytes entries) (bytes key) x
+  put-keyed key x [] = refl
+  put-keyed key x (e ∷ entries) = by (bytes_cmp (bytes key) (bytes e.0)) (put-keyed key x entries)
+    where
+      more : List (K × X)
+      more = insert_entry (λ a b. bytes_cmp (bytes a) (bytes b)) entries key x
+
+      by : (order : Ordering) → keyed bytes more ≡ put_at (keyed bytes entries) (bytes key) x
+          → keyed bytes (match_ordering order ((key, x) ∷ e ∷ entries) ((e.0, x) ∷ entries) (e ∷ more))
+          ≡ match_ordering order ((bytes key, x) ∷ (bytes e.0, e.1) ∷ keyed bytes entries) ((bytes e.0, x) ∷ keyed bytes entries) ((bytes e.0, e.1) ∷ put_at (keyed bytes entries) (bytes key) x)
+      by Less next = refl
+      by Equal next = refl
+      by Greater next = ap (λ (es : Map X). (bytes e.0, e.1) ∷ es) next
+
+-- where nothing was put in
+pub same-if : {A E : Type 0} (result : Result A E) (before after : ByName) → after ≡ before → OnErr result (HaveTheSame before after)
+same-if (Ok x) before after is = tt
+same-if (Err e) before after is = λ name. ap (λ (entries : ByName). replies_for entries name) is
 
 module _ (entries : ByName) (name : List ℕ) where
   module _ (old new : List IndexedReply) (found : at entries name ≡ Some old) where
@@ -62,33 +103,12 @@ module _ (entries : ByName) (name : List ℕ) where
     set-same-if (Ok x) is = tt
     set-same-if (Err e) is = set-same is
 
-    pub set-back : ((replies : List IndexedReply) (last : IndexedReply) → old ≡ replies ++ last ∷ [] → new ≡ replies)
-        → (before : ByName) (reply : IndexedReply) → HasOneMore before name reply entries → HaveTheSame before (set_value (is_at (bytes_cmp name)) entries new)
-    set-back dropped before reply more other = by (is_at (bytes_cmp name) other) refl
-      where
-        by : (test : Bool) → is_at (bytes_cmp name) other ≡ test → replies_for (set_value (is_at (bytes_cmp name)) entries new) other ≡ replies_for before other
-        by true is =
-            subst (λ (n : List ℕ). replies_for (set_value (is_at (bytes_cmp name)) entries new) n ≡ replies_for before n) (sym (is_name name other is))
-            (set-replies ∙ dropped (replies_for before name) reply (sym (ap all_of found) ∙ more.own))
-        by false is = set-others other (is_no_name name other is) ∙ more.others other (is_no_name name other is)
-
   -- the first reply for a name
   pub put-more : (reply : IndexedReply) (new : List IndexedReply) → at entries name ≡ None → new ≡ reply ∷ [] → HasOneMore entries name reply (put_at entries name new)
   put-more reply new none is = record {
     own = ap all_of (at_put_same name new entries) ∙ is ∙ ap (λ (replies : List IndexedReply). replies ++ reply ∷ []) (sym (ap all_of none));
     others = λ other differ. ap all_of (at_put_other name new entries other differ);
   }
-
-  -- a name that has one more has some
-  pub has-some : (before : ByName) (reply : IndexedReply) → HasOneMore before name reply entries → replies_for entries name ≢ []
-  has-some before reply more none = by (replies_for before name) (sym more.own ∙ none)
-    where
-      by : (replies : List IndexedReply) → replies ++ reply ∷ [] ≡ [] → ⊥
-      by [] is = absurd cc
-      by (x ∷ xs) is = absurd cc
-
-  pub none-there : replies_for entries name ≢ [] → at entries name ≡ None → ⊥
-  none-there some none = some (ap all_of none)
 
 -- ---- looks
 

@@ -19,6 +19,10 @@ use Rattle.client.specs.Clients.{IsAcceptedLook, Look}
 use Rattle.client.specs.Finality.{look_of, looks_for, AreFirst, IndexedReply, IsChangedBy, IsChangedByReply, IsIndexed, NoneStandSo, StateAChange}
 use Rattle.client.proofs.Breaking.{all-at}
 
+-- what a reply that was read states is what each reply does that the bytes spell
+pub reads-so : (bytes : List ℕ) (read : Reply) → SpellsReply bytes read → (s : Option BoundKey) → s ≡ stated read.end → (other : Reply) → SpellsReply bytes other → s ≡ stated other.end
+reads-so bytes read spelled s is other other_spelled = is ∙ ap (λ (reply : Reply). stated reply.end) (one_reply bytes read other spelled other_spelled)
+
 -- what the statements of two replies show
 module _ (reply later : List ℕ) (one : SpellsOne reply) (two : SpellsOne later) (s t : Option BoundKey)
     (says : (read : Reply) → SpellsReply reply read → s ≡ stated read.end) (says-later : (read : Reply) → SpellsReply later read → t ≡ stated read.end) where
@@ -97,9 +101,6 @@ module _ {A : Type 0} (So : A → A → Type 0) (xs : List A) where
     ];
   }
 
-pub none-of-none : {A : Type 0} (So : A → A → Type 0) (xs : List A) → xs ≡ [] → NoneStandSo So xs
-none-of-none So xs none = λ k l v w here there. let never : slice_get [] k ≡ Some v = subst (λ (ys : List _). slice_get ys k ≡ Some v) none here in absurd cc
-
 module _ {A B : Type 0} (f : A → B) where
   pub get-map : (xs : List A) (k : ℕ) (x : A) → slice_get xs k ≡ Some x → slice_get (map f xs) k ≡ Some (f x)
   get-map [] k x at = absurd cc
@@ -155,10 +156,6 @@ of-map : {A B : Type 0} (P : B → Type 0) (f : A → B) (xs : List A) → AllBy
 of-map P f [] all = tt
 of-map P f (x ∷ xs) all = (all.0, of-map P f xs all.1)
 
-weaker : {A : Type 0} (P Q : A → Type 0) → ((x : A) → P x → Q x) → (xs : List A) → AllByRecursion P xs → AllByRecursion Q xs
-weaker P Q to [] all = tt
-weaker P Q to (x ∷ xs) all = (to x all.0, weaker P Q to xs all.1)
-
 one-index : (hash : List ℕ → List ℕ) (bytes i j : List ℕ) → HasIndex hash bytes i → HasIndex hash bytes j → i ≡ j
 one-index hash bytes i j one two = sym one.2 ∙ ap (λ (r : Reply). hash r.value) (one_reply bytes one.0 two.0 one.1 two.1) ∙ two.2
 
@@ -193,17 +190,11 @@ module _ (hash : List ℕ → List ℕ) (name : List ℕ) (replies : List Indexe
       are-accepted : AllByRecursion IsAcceptedFor replies
       are-accepted = of-map (IsAcceptedLook hash accepted chain) (look_of name) replies (subst (AllByRecursion (IsAcceptedLook hash accepted chain)) (sym same) (filter-all _ _ looks all))
 
-      pub are-spelled : AllByRecursion (λ (reply : IndexedReply). SpellsOne reply.bytes) replies
-      are-spelled = weaker IsAcceptedFor _ (λ x is. (is.reply, is.is.0)) replies are-accepted
-
       accepted-at : (k : ℕ) (x : IndexedReply) → slice_get replies k ≡ Some x → IsAcceptedFor x
       accepted-at k x at = all-at IsAcceptedFor replies k x are-accepted at
 
       pub root-there : (k : ℕ) (x : IndexedReply) → slice_get replies k ≡ Some x → (root : SignedRoot) × IsAt chain x.epoch root
       root-there k x at = let is = accepted-at k x at in (is.root, is.at)
-
-      pub spelled-there : (k : ℕ) (x : IndexedReply) → slice_get replies k ≡ Some x → SpellsOne x.bytes
-      spelled-there k x at = let is = accepted-at k x at in (is.reply, is.is.0)
 
       -- under the root of its epoch, such a reply states this for the name
       accepts : Ascend chain.roots → (k : ℕ) (x : IndexedReply) → slice_get replies k ≡ Some x → (root : SignedRoot) → IsAt chain x.epoch root → (named bytes : List ℕ) → named ≡ name → bytes ≡ x.bytes

@@ -8,7 +8,8 @@ use Rattle.proofs.specs.Replies.{Reply, SpellsReply}
 use Rattle.proofs.proofs.Passing.{one_reply}
 use Rattle.client.specs.Agreements.{SpellsOne}
 use Rattle.client.specs.Finality.{IndexedReply, IsChangedByReply}
-use Rattle.client.specs.Latest.{AreLatest, BytesState, IsChangedAmong, IsReached, IsReachedByOther}
+use Rattle.client.specs.Latest.{AreLatest, BytesState, HasNoSuch, IsChangedAmong, IsLatest, IsReached, IsReachedByOther}
+use Rattle.client.specs.declared.changes.Latest.{Latest}
 use Rattle.client.proofs.Breaking.{all-at}
 use Rattle.client.proofs.Keeping.{one-more}
 
@@ -22,11 +23,29 @@ at-end [] y = refl
 at-end (x ∷ xs) y = at-end xs y
 
 -- bytes state one thing
-one-statement : (bytes : List ℕ) (s t : Option BoundKey) → BytesState bytes s → BytesState bytes t → s ≡ t
+pub one-statement : (bytes : List ℕ) (s t : Option BoundKey) → BytesState bytes s → BytesState bytes t → s ≡ t
 one-statement bytes s t one two = sym one.2 ∙ ap (λ (r : Reply). stated r.end) (one_reply bytes one.0 two.0 one.1 two.1) ∙ two.2
 
 pub says-it : {bytes own : List ℕ} (t : Option BoundKey) → own ≡ bytes → SpellsOne bytes → ((read : Reply) → SpellsReply own read → t ≡ stated read.end) → BytesState bytes t
 says-it t same spelled says = (spelled.0, spelled.1, sym (says spelled.0 (subst (λ (b : List ℕ). SpellsReply b spelled.0) (sym same) spelled.1)))
+
+-- what the latest are does not depend on how it is known what they state
+pub restated : {replies : List IndexedReply} {index : List ℕ} {latest : Latest} (s : Option BoundKey) → IsLatest replies index latest → BytesState latest.bytes.value.items s → AreLatest replies index latest.epoch s latest.other_epoch
+restated {replies} {index} {latest} s is says =
+    subst (λ (t : Option BoundKey). AreLatest replies index latest.epoch t latest.other_epoch) (one-statement latest.bytes.value.items is.statement s is.states says) is.are
+
+-- the first with its index
+module _ (before : List IndexedReply) (x : IndexedReply) (none : HasNoSuch before x.index) (t : Option BoundKey) (says : BytesState x.bytes t) where
+  pub begins : AreLatest (before ++ x ∷ []) x.index x.epoch t 0
+  begins = record {
+    upper = one-more _ before x (others before none) (λ _. (omega arith, λ not. absurd (not says)));
+    reached = λ e low. record { place = length before; reply = x; at = at-end before x; index_is = refl; above = low; states = says };
+    other_reached = λ e low. absurd (omega (arith, low));
+  }
+    where
+      others : (xs : List IndexedReply) → HasNoSuch xs x.index → AllByRecursion (λ reply. reply.index ≡ x.index → (reply.epoch ≤ x.epoch) × (¬ BytesState reply.bytes t → reply.epoch ≤ 0)) xs
+      others [] all = tt
+      others (y ∷ xs) all = ((λ same. absurd (all.0 same)), others xs all.1)
 
 module _ {index : List ℕ} {done : List IndexedReply} {epoch : ℕ} {s : Option BoundKey} {other : ℕ} (are : AreLatest done index epoch s other) (x : IndexedReply) where
   longer : (t : Option BoundKey) (e : ℕ) → IsReached done index t e → IsReached (done ++ x ∷ []) index t e

@@ -3,6 +3,7 @@ pub mod Rooted
 pub mod Breaking
 pub mod Growing
 pub mod Keeping
+pub mod ByIndex
 pub mod ByNames
 pub mod Tested
 pub mod Groups

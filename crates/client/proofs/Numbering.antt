@@ -1,8 +1,9 @@
 -- What is stored under the next number comes last in the order of the numbers.
-use Rattle.std.proofs.Common.{◌≡◌, ℕ, zero, suc, ◌<◌, ◌≤◌, List, [], ◌∷◌, ◌++◌, length, filter, false, cond, nat_eq, eq-eqb, ne_eqb, refl, sym, ap, arith, inl, inr}
-use Rattle.std.specs.BTreeMap.{insert_entry}
+use Rattle.std.proofs.Common.{◌≡◌, ℕ, zero, suc, ◌<◌, ◌≤◌, List, [], ◌∷◌, ◌++◌, length, filter, false, cond, nat_eq, eq-eqb, ne_eqb, Some, None, IsSome, refl, sym, ap, subst, ◌∙◌, arith, inl, inr}
+use Rattle.std.specs.BTreeMap.{insert_entry, is_at}
 use Rattle.std.specs.List.{AllByRecursion}
-use Rattle.std.specs.Ordering.{match_ordering, nat_cmp, ordering_then}
+use Rattle.std.specs.Map.{lookup, remove_entry}
+use Rattle.std.specs.Ordering.{is_eq, match_ordering, nat_cmp, ordering_then}
 use Rattle.std.specs.declared.cmp.Ordering.{Ordering}
 use Rattle.std.specs.declared.cmp.Ordering.TheVariants.{Less, Equal, Greater}
 use Rattle.std.proofs.lemmas.Bool.{cases_lt}
@@ -79,6 +80,24 @@ module _ {K X : Type 0} (number : K → ℕ) (cmp : K → K → Ordering) (key :
       by Equal is next = absurd (omega (arith, one entry.0 is, after.0))
       by Greater is next = (omega (arith, after.0, below), next)
 
+  none-at : (entries : Entries) → After entries → lookup (is_at (cmp key)) entries ≡ None
+  none-at [] after = refl
+  none-at (entry ∷ entries) after = by (cmp key entry.0) refl (none-at entries after.1)
+    where
+      by : (order : Ordering) → cmp key entry.0 ≡ order → lookup (is_at (cmp key)) entries ≡ None → cond (is_eq (cmp key entry.0)) (Some entry.1) (lookup (is_at (cmp key)) entries) ≡ None
+      by Less is next = rw is next
+      by Equal is next = absurd (omega (arith, one entry.0 is, after.0))
+      by Greater is next = rw is next
+
+  none-taken : (entries : Entries) → After entries → remove_entry (is_at (cmp key)) entries ≡ entries
+  none-taken [] after = refl
+  none-taken (entry ∷ entries) after = by (cmp key entry.0) refl (none-taken entries after.1)
+    where
+      by : (order : Ordering) → cmp key entry.0 ≡ order → remove_entry (is_at (cmp key)) entries ≡ entries → cond (is_eq (cmp key entry.0)) entries (entry ∷ remove_entry (is_at (cmp key)) entries) ≡ entry ∷ entries
+      by Less is next = rw is (ap (λ (es : Entries). entry ∷ es) next)
+      by Equal is next = absurd (omega (arith, one entry.0 is, after.0))
+      by Greater is next = rw is (ap (λ (es : Entries). entry ∷ es) next)
+
   module _ (entries : Entries) (numbered : AreNumbered number entries) (last : number key ≡ length entries) where
     after-all : After entries
     after-all = rw last numbered.below
@@ -101,3 +120,23 @@ module _ {K X : Type 0} (number : K → ℕ) (cmp : K → K → Ordering) (key :
       pub comes-last : all_numbered number look (more entries) ≡ all_numbered number look entries ++ look (key, value) ∷ []
       comes-last =
           rw (length-more entries after-all, first-same (length entries) (omega arith), own-alone (length entries) entries last after-all) refl
+
+      pub comes-last-in : (after mid : Entries) → after ≡ mid → mid ≡ more entries → all_numbered number look after ≡ all_numbered number look entries ++ look (key, value) ∷ []
+      comes-last-in after mid same is = ap (all_numbered number look) (same ∙ is) ∙ comes-last
+
+    pub numbered-in : (after mid : Entries) → after ≡ mid → mid ≡ more entries → AreNumbered number after
+    numbered-in after mid same is = subst (AreNumbered number) (sym (same ∙ is)) still-numbered
+
+    pub numbered-still : (after mid : Entries) → after ≡ mid → mid ≡ entries → AreNumbered number after
+    numbered-still after mid same is = subst (AreNumbered number) (sym (same ∙ is)) numbered
+
+    -- so nothing is lost where it is taken out again
+    pub taken-out : remove_entry (is_at (cmp key)) entries ≡ entries
+    taken-out = none-taken entries after-all
+
+    -- nothing is stored at its place
+    pub not-stored : IsSome (lookup (is_at (cmp key)) entries) → ⊥
+    not-stored some = let none = none-at entries after-all in let has = rw none at some in absurd cc
+
+pub through : {A : Type 0} (x y z : A) → x ≡ y → y ≡ z → x ≡ z
+through x y z one two = one ∙ two

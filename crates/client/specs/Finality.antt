@@ -71,6 +71,10 @@ pub record IndexedReply : Type 0 where
 abbrev pub ByName : Type 0
 ByName = Map (List IndexedReply)
 
+-- a map under the bytes of its keys
+abbrev pub keyed : {K X : Type 0} → (K → List ℕ) → List (K × X) → Map X
+keyed bytes entries = map (λ entry. (bytes entry.0, entry.1)) entries
+
 abbrev pub all_of : Option (List IndexedReply) → List IndexedReply
 all_of None = []
 all_of (Some replies) = replies

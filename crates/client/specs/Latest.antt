@@ -1,10 +1,11 @@
 -- The latest of the replies with one index, as they are gone through.
-use Rattle.std.specs.Prelude.{◌≡◌, ℕ, ◌<◌, ◌≤◌, List, Option, Some, slice_get}
+use Rattle.std.specs.Prelude.{◌≡◌, ◌≢◌, ℕ, ◌<◌, ◌≤◌, List, Option, Some, None, slice_get}
 use Rattle.std.specs.List.{AllByRecursion}
+use Rattle.encoding.specs.Maps.{Map, at}
 use Rattle.encoding.specs.declared.bound_key.BoundKey.{BoundKey}
 use Rattle.proofs.specs.Accepts.{stated}
 use Rattle.proofs.specs.Replies.{Reply, SpellsReply}
-use Rattle.proofs.specs.Views.{key_stated}
+use Rattle.client.specs.Agreements.{SpellsOne}
 use Rattle.client.specs.Finality.{IndexedReply, IsChangedByReply}
 use Rattle.client.specs.declared.changes.Latest.{Latest}
 
@@ -38,8 +39,24 @@ pub record AreLatest (replies : List IndexedReply) (index : List ℕ) (epoch : �
   pub reached : (e : ℕ) → e < epoch → IsReached replies index statement e
   pub other_reached : (e : ℕ) → e < other → IsReachedByOther replies index statement e
 
-abbrev pub IsLatest : List IndexedReply → Latest → Type 0
-IsLatest replies latest = AreLatest replies latest.like.now.index latest.epoch (key_stated latest.statement) latest.other_epoch
+-- the latest of those with this index, with what they state
+pub record IsLatest (replies : List IndexedReply) (index : List ℕ) (latest : Latest) : Type 0 where
+  pub statement : Option BoundKey
+  pub states : BytesState latest.bytes.value.items statement
+  pub are : AreLatest replies index latest.epoch statement latest.other_epoch
+
+-- none of the replies has this index
+abbrev pub HasNoSuch : List IndexedReply → List ℕ → Type 0
+HasNoSuch replies index = AllByRecursion (λ reply. reply.index ≢ index) replies
+
+-- The latest of the replies with one index, and of those with each other index. Those with an index that is not among
+-- the others have the one.
+pub record AreByIndex (replies : List IndexedReply) (index : List ℕ) (own : Latest) (others : Map Latest) : Type 0 where
+  pub spelled : AllByRecursion (λ reply. SpellsOne reply.bytes) replies
+  pub first : IsLatest replies index own
+  pub apart : at others index ≡ None
+  pub rest : (other : List ℕ) (latest : Latest) → at others other ≡ Some latest → IsLatest replies other latest
+  pub whole : AllByRecursion (λ reply. at others reply.index ≡ None → reply.index ≡ index) replies
 
 -- one of the replies changes this one
 abbrev pub IsChangedAmong : List IndexedReply → IndexedReply → Type 0

@@ -2,7 +2,7 @@ ghost use Rattle.std.specs.Prelude.{◌≡◌, ◌++◌, ◌∷◌, [], map, Mat
 ghost use Rattle.std.specs.List.{AllByRecursion};
 ghost use Rattle.encoding.specs.Limits.{IsName};
 ghost use Rattle.proofs.specs.Accepts.{HasIndex};
-ghost use Rattle.client.specs.Finality.{look_of, looks_for, HasOneMore, HaveTheSame, IsIndexed};
+ghost use Rattle.client.specs.Finality.{look_of, looks_for, IsIndexed};
 
 use crate::by_name::{IndexedReply, RepliesByName, RepliesOfName};
 use crate::looks::Looks;
@@ -76,36 +76,7 @@ impl<H: NodeHash> KeptLooks<H> {
         ensures named { OnOk result (IsName name.now) }
     {
         let bytes = Rc::new(self.alloc, Vec::from_slice(self.alloc, reply)?)?;
-        push_both(
-            &mut self.looks,
-            &mut self.by_name,
-            name,
-            epoch,
-            index,
-            bytes,
-        )
+        let reply = IndexedReply::new(epoch, index, bytes);
+        self.looks.push(&mut self.by_name, name, reply)
     }
-}
-
-/// Keeps a look among all and among those for its name. An `Err` leaves both as they were.
-fn push_both(
-    looks: &mut Looks,
-    by_name: &mut RepliesByName,
-    name: &Name,
-    epoch: u64,
-    index: Index,
-    bytes: Rc<Vec<u8>>,
-) -> Result<(), AllocError>
-    ensures ok { OnOk result (looks.new ≡ looks.old ++ (record { name = name.now; epoch = epoch; reply = bytes.value.items }) ∷ []) }
-    ensures more { OnOk result (HasOneMore by_name.old name.now (record { epoch = epoch; index = index; bytes = bytes.value.items }) by_name.new) }
-    ensures err { OnErr result (looks.new ≡ looks.old) }
-    ensures same { OnErr result (HaveTheSame by_name.old by_name.new) }
-    ensures named { OnOk result (IsName name.now) }
-{
-    by_name.push(name, IndexedReply::new(epoch, index, bytes.clone()?))?;
-    if looks.push(name, epoch, bytes).is_err() {
-        by_name.drop_last(name);
-        return Err(AllocError);
-    }
-    Ok(())
 }

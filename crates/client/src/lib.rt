@@ -29,6 +29,7 @@ mod promises;
 mod reconciling;
 mod roots;
 
+pub use changes::state_a_change;
 pub use client::Client;
 pub use client_refusal::{Refusal, RootRefusal};
 pub use due::Due;

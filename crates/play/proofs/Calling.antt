@@ -37,9 +37,9 @@ use Rattle.book.specs.declared.reply.Reply.{Reply}
 use Rattle.book.specs.declared.reply.Reply.TheVariants as reply_of
 use Rattle.book.specs.Books.{Binding, Book, Page, pages}
 use Rattle.book.specs.Honest.{key_at, AreConsecutive, IsAnswer, IsDouble, IsHonestRun, IsSaid}
-use Rattle.book.specs.Shows.{Provider, SignedPage, roots, sealed_behind, sealed_pages, IsRootOf}
-use Rattle.book.proofs.Members.{first-or-later, mapped-there, none-there}
-use Rattle.book.proofs.Running.{said-at}
+use Rattle.book.specs.Shows.{Provider, SignedPage, roots, sealed_pages, IsRootOf}
+use Rattle.book.proofs.Members.{mapped-there}
+use Rattle.book.proofs.Running.{root-epoch, said-at}
 use Rattle.book.proofs.Stretches.{consecutive-there}
 use Rattle.auditor.specs.Chains.{Chains, chain_of}
 use Rattle.auditor.specs.Evidence.{IsEvidence}
@@ -90,15 +90,8 @@ spelled-read bytes reply spelled proof.PathMismatch reads = reads
 -- ---- roots
 
 module _ (provider : Provider) where
-  pub root-epoch : (epoch : ℕ) (before : List ℕ) (pages : List Page) (each : SignedPage) → Contains (sealed_behind provider epoch before pages) each → each.root.body.epoch ≡ each.page.epoch
-  root-epoch epoch before [] each is = absurd (none-there each is)
-  root-epoch epoch before (page ∷ more) each is = elim (first-or-later _ _ each is) [
-    | inl same ↦ subst (λ (x : SignedPage). x.root.body.epoch ≡ x.page.epoch) same refl
-    | inr later ↦ root-epoch page.epoch _ more each later
-  ]
-
   pub rooted-epoch : (book : Book) (page : Page) (root : SignedRoot) → IsRootOf provider book page root → root.body.epoch ≡ page.epoch
-  rooted-epoch book page root is = root-epoch 0 (replicate 32 0) (pages book) (record { page = page; root = root }) is
+  rooted-epoch book page root is = root-epoch provider 0 (replicate 32 0) (pages book) (record { page = page; root = root }) is
 
   pub in-roots : (book : Book) (page : Page) (root : SignedRoot) → IsRootOf provider book page root → Contains (roots provider book) root
   in-roots book page root is = mapped-there (λ (each : SignedPage). each.root) (sealed_pages provider book) (record { page = page; root = root }) is
@@ -449,23 +442,26 @@ module _ (provider : Provider) (accepted verified : List ℕ → List ℕ → Li
       (accepts-stated provider.hash accepted is.root.body look.name look.reply is.reply is.is))
 
   pub unchanged : (holder : Client) (name : List ℕ) → IsFollowed provider key after holder.chain → IsSoundClient provider.hash accepted verified holder
-      → AllByRecursion (λ look. WasFound commands replies look.reply) holder.looks
+      → AllByRecursion (λ look. WasFound commands replies look.reply) (looks_for name holder.looks)
       → NoneStandSo (IsChangedBy provider.hash) (looks_for name holder.looks)
   unchanged holder name f sound found k l look later here there so =
-      h.unchanged one.0.1.0 other.0.1.0 one.0.1.1 other.0.1.1 broken one.0.1.2 other.0.1.2
+      h.unchanged one.1.0 other.1.0 one.1.1 other.1.1 broken one.1.2 other.1.2
       (subst (λ (own : List ℕ). IsBrokenFinal provider.hash accepted verified own broken) f.keyed is-broken)
     where
+      IsOwn : Look → Type 0
+      IsOwn each = IsAcceptedLook provider.hash accepted holder.chain each × (bytes_eq each.name name ≡ true)
+
       IsFound : Look → Type 0
-      IsFound each = IsAcceptedLook provider.hash accepted holder.chain each × WasFound commands replies each.reply
+      IsFound each = IsOwn each × WasFound commands replies each.reply
 
-      own : AllByRecursion (λ each. IsFound each × (bytes_eq each.name name ≡ true)) (looks_for name holder.looks)
-      own = of-name IsFound name holder.looks (both-are _ _ holder.looks sound.looks found)
+      own : AllByRecursion IsFound (looks_for name holder.looks)
+      own = both-are IsOwn (λ each. WasFound commands replies each.reply) (looks_for name holder.looks) (of-name (IsAcceptedLook provider.hash accepted holder.chain) name holder.looks sound.looks) found
 
-      one : IsFound look × (bytes_eq look.name name ≡ true)
-      one = all-at (λ each. IsFound each × (bytes_eq each.name name ≡ true)) (looks_for name holder.looks) k look own here
+      one : IsFound look
+      one = all-at IsFound (looks_for name holder.looks) k look own here
 
-      other : IsFound later × (bytes_eq later.name name ≡ true)
-      other = all-at (λ each. IsFound each × (bytes_eq each.name name ≡ true)) (looks_for name holder.looks) l later own there
+      other : IsFound later
+      other = all-at IsFound (looks_for name holder.looks) l later own there
 
       first : IsAcceptedLook provider.hash accepted holder.chain look
       first = one.0.0
@@ -483,10 +479,10 @@ module _ (provider : Provider) (accepted verified : List ℕ → List ℕ → Li
         later = (let e = first.at.1 in let e' = second.at.1 in let low = so.0 in omega (arith, e, e', low));
         changes = record {
           statement = stated so.2.one.end;
-          passes = look-accepts holder.chain look first name ((bytes_eq-Decides look.name name).0 one.1) so.2.one so.2.spelled;
+          passes = look-accepts holder.chain look first name ((bytes_eq-Decides look.name name).0 one.0.1) so.2.one so.2.spelled;
           final = so.2.final;
           later_statement = stated so.2.other.end;
-          later_passes = look-accepts holder.chain later second name ((bytes_eq-Decides later.name name).0 other.1) so.2.other so.2.later_spelled;
+          later_passes = look-accepts holder.chain later second name ((bytes_eq-Decides later.name name).0 other.0.1) so.2.other so.2.later_spelled;
           changed = so.2.changed;
           index = so.1.index;
           has_index = so.1.has_index;

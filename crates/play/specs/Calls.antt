@@ -148,9 +148,9 @@ module _ (provider : Provider) (accepted verified : List ℕ → List ℕ → Li
         → IsFollowed provider key after watching.client.chain → IsNext watching root → IsShown before commands replies watching.name root.body.epoch text
         → Steps provider.hash accepted watching text result later
         → (page : Page) × IsRootOf provider after page root × StepsRight provider page watching result
-    -- if its looks are such replies, no final binding is changed among them
+    -- if its looks for a name are such replies, no final binding is changed among them
     pub unchanged : (holder : Client) (name : List ℕ) → IsFollowed provider key after holder.chain → IsSoundClient provider.hash accepted verified holder
-        → AllByRecursion (λ look. WasFound commands replies look.reply) holder.looks
+        → AllByRecursion (λ look. WasFound commands replies look.reply) (looks_for name holder.looks)
         → NoneStandSo (IsChangedBy provider.hash) (looks_for name holder.looks)
     -- an auditor that observes the roots from whichever on, each next one or one that came before, begins a
     -- chain, extends it, and knows those that came before

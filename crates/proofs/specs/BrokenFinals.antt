@@ -14,7 +14,7 @@ states_final (Some key) = is_final key.policy
 
 module _ (hash : List ℕ → List ℕ) (accepted : List ℕ → List ℕ → List ℕ → Type 0) where
   -- Two replies for the name, with one index: the first, accepted under this body, states a key with Final, and the
-  -- second, accepted under a later one, states anything else.
+  -- second, accepted under the other one, states anything else.
   pub record Changes (name : List ℕ) (body : Body) (text : List ℕ) (later : Body) (later_text : List ℕ) : Type 0 where
     pub statement : Option BoundKey
     pub passes : Accepts hash accepted body name text statement

@@ -1,5 +1,5 @@
 ghost use Rattle.std.specs.Prelude.{◌≡◌, IfSome, MatchOption};
-ghost use Rattle.rootchain.specs.Chains.{IsAt, IsChain};
+ghost use Rattle.rootchain.specs.Chains.{IsAt};
 ghost use Rattle.rootchain.specs.declared.signed_root.SignedRoot.{SignedRoot as Root};
 ghost use Rattle.proofs.specs.BrokenFinals.{IsBrokenFinal};
 ghost use Rattle.client.specs.Agreements.{SpellsOne};
@@ -24,13 +24,15 @@ impl<H: NodeHash, V: VufCheck, S: Verifier> Client<H, V, S> {
         ensures evidence { IfSome result (IsBrokenFinal H.digest_of V.accepted S.verified self.now.chain.key) }
     {
         let replies = self.looks.of(name)?;
-        let (reply, later) = first_change(replies.all())?;
-        Some(tell(&self.chain, name, reply, later))
+        let (reply, later) = first_change(replies)?;
+        // Its contract says that this is a chain, whose roots verify.
+        let _ = self.chain.head();
+        Some(broken_final(&self.chain, name, reply, later))
     }
 }
 
 /// A change of what a reply states, as evidence.
-fn tell<H: NodeHash, S: Verifier>(
+fn broken_final<H: NodeHash, S: Verifier>(
     chain: &Chain<H, S>,
     name: &Name,
     reply: &IndexedReply,
@@ -45,10 +47,7 @@ fn tell<H: NodeHash, S: Verifier>(
     ensures proof { result.proof ≡ reply.now.bytes }
     ensures later_rooted { IsAt chain.now later.now.epoch result.later_root }
     ensures later_proof { result.later_proof ≡ later.now.bytes }
-    ensures chain { IsChain H.digest_of S.verified chain.now }
 {
-    // Its contract says that this is a chain, whose roots verify.
-    let _head = chain.head();
     BrokenFinal {
         name: name.copied(),
         root: root_at(chain, reply.epoch()),
