@@ -12,6 +12,7 @@ BEFORE, if it is set, is the top of another clone, in which directoryd and measu
 import bisect
 import collections
 import hashlib
+import math
 import os
 import random
 import resource
@@ -100,10 +101,10 @@ SERVE_KEYS = {"sign-key": "01", "vuf-key": "02", "salt-key": "00", "token": "04"
 
 # The roots of the chains that are observed, and the runs of each. In a run: the roots that then extend
 # the chain, as many that are known, and how often each piece of evidence is judged. The siblings of the
-# proof of a broken promise.
+# proofs of a broken promise and of a final binding that was changed.
 AUDIT_RUNS = {1_000: 10, 10_000: 10, 100_000: 10}
 AUDIT_MORE, JUDGEMENTS, AUDIT_SIBLINGS = 20_000, 10_000, 20
-EVIDENCE = ("fork", "link", "skip", "broken-promise")
+EVIDENCE = ("fork", "link", "skip", "broken-promise", "broken-final")
 
 # The names that a client looks up, the siblings of their replies, the bytes of such a reply with a key of
 # 32 bytes, and the roots of the client's chain. For the
@@ -112,6 +113,9 @@ EVIDENCE = ("fork", "link", "skip", "broken-promise")
 LOOK_NAMES, LOOK_SIBLINGS, LOOK_ROOTS = 1_000, 20, 1_100
 LOOK_REPLY = 249 + 32 * LOOK_SIBLINGS
 LOOK_RUNS = {1: (1, 20), 10: (2, 10), 100: (10, 5), 1_000: (20, 3)}
+# The looks of one name: how often a run asks what they show of its final bindings, and the runs; and how many
+# indices they have in turn, where 0 is one for each look.
+FINALITY_RUNS, FINALITY_INDICES = {1_000: (100, 5), 10_000: (10, 3), 100_000: (2, 3)}, (1, 100, 0)
 # The lists of 64 roots that a client takes when it has so many lists, and the runs.
 UPDATE_LISTS, UPDATE_RUNS = 100, {16: 10, 160: 10, 1_600: 10}
 # The lists that a client has before others come in pieces, the bytes of a piece (more than a list has), and the runs.
@@ -1179,10 +1183,10 @@ class Audits:
 
     def run(self):
         words = [self.roots, AUDIT_MORE, AUDIT_SIBLINGS, JUDGEMENTS, DIGESTS // 10]
-        _, run_steps = steps(15, "audit", *words)
+        _, run_steps = steps(7 + 2 * len(EVIDENCE), "audit", *words)
         body, signature, chain, taken, known, *cases, body_after, signature_after = run_steps
         numbers = [step.number for step in (chain, taken, known, *cases[1::2])]
-        if numbers != [self.roots, AUDIT_MORE, AUDIT_MORE] + 4 * [JUDGEMENTS]:
+        if numbers != [self.roots, AUDIT_MORE, AUDIT_MORE] + len(EVIDENCE) * [JUDGEMENTS]:
             sys.exit(f"audit: {numbers} roots and judgements")
         self.body += [body.seconds, body_after.seconds]
         self.signature += [signature.seconds, signature_after.seconds]
@@ -1216,6 +1220,8 @@ def audit(_folder):
     head = ["kind", "judged/s", "least", "median", "greatest", "digests, us", "ratio"]
     rows = [chains[-1].evidence_row(kind) for kind in EVIDENCE]
     table("evidence judged, microseconds", head, rows)
+    promise, final = (min(chains[-1].judged[kind]) for kind in EVIDENCE[-2:])
+    print(f"\na broken-final takes {final / promise:.2f} times as long as a broken-promise")
 
 
 class Turns:
@@ -1295,10 +1301,35 @@ def watch_row():
     return turns.cells()
 
 
+def finality_rows(indices):
+    """The rows of clients whose k looks of one name have so many indices in turn, or one each for 0. The growth is
+    that of the time divided by k log k, from the row before."""
+    before = None
+    for looks, (times, runs_made) in FINALITY_RUNS.items():
+        taken = [], []
+        for _ in range(runs_made):
+            words = [LOOK_SIBLINGS, looks, indices or looks, times]
+            _, (none, _, change) = steps(3, "finality", *words)
+            if [none.number, change.number] != [0, times]:
+                sys.exit(f"finality: {none.number} and {change.number} changes, and 0 and {times} was wanted")
+            for kept, step in zip(taken, (none, change)):
+                kept.append(step.seconds / times)
+        shares = [min(kept) / (looks * math.log2(looks)) for kept in taken]
+        row = [f"{looks:,}", f"{indices or looks:,}"]
+        for kept, share, share_before in zip(taken, shares, before or shares):
+            row += [*Spread(kept).cells(1e3, 2), f"{min(kept) * 1e9 / looks:.0f}", f"{share / share_before:.2f}"]
+        yield row
+        before = shares
+
+
 def client(_folder):
     rows = [look_row(epochs) for epochs in LOOK_RUNS]
     title = "a look, and the reading and check of its reply, microseconds; bytes kept beside the reply's; finality, ns a look"
     table(title, ["looks kept", *TURN_HEAD, "bytes", "finality"], rows)
+    each = ["least", "median", "greatest", "ns a look", "growth"]
+    head = ["looks of one name", "indices", *each, "last changes", *each[1:]]
+    title = "finality, where no look changes a final binding, and where the last does; milliseconds"
+    table(title, head, [row for indices in FINALITY_INDICES for row in finality_rows(indices)])
     rows = [update_row(before) for before in UPDATE_RUNS]
     spread = ["least", "median", "greatest", "ratio"]
     head = ["roots", "new/s", *spread, "known/s", *spread, "body, ns", "signature, ns"]

@@ -1,4 +1,5 @@
 use crate::digests::{INTERIOR_BYTES, LEAF_BYTES, measure_length, measure_lengths};
+use crate::finals::broken_final;
 use crate::held::{Held, keyed};
 use crate::pages::Pages;
 use crate::roots::{
@@ -7,7 +8,7 @@ use crate::roots::{
 };
 use crate::run::Run;
 use auditor::{Auditor, Evidence, Observed, judge};
-use encoding::Hash32;
+use encoding::{Hash32, Name};
 use nodehash::Sha256Hash;
 use proofs::BrokenPromise;
 use rootchain::{Body, Promise, RootEvidence, SignedPromise};
@@ -130,22 +131,22 @@ fn broken_promise(pages: &Pages, held: &Held, root: Hash32) -> BrokenPromise {
     }
 }
 
-/// The lengths of the texts whose digests it takes to judge a broken promise: its own, the root's, those
-/// of the value and the index, the commitment, the leaf, and the nodes above it.
-fn lengths_of(run: &Run, promise: &Promise, siblings: usize) -> Vec<usize> {
-    let name = promise.name.bytes().len();
-    let text = promise.write().bytes().len();
-    let mut lengths = run.filled(INTERIOR_BYTES, siblings);
+/// The lengths of the texts whose digests it takes to check so many roots and a reply for this name under each: the
+/// root's, those of the value, the index, the commitment and the leaf, and of the nodes above it.
+fn lengths_of(run: &Run, name: &Name, replies: usize, siblings: usize) -> Vec<usize> {
+    let name = name.bytes().len();
+    let mut lengths = run.filled(INTERIOR_BYTES, siblings.saturating_mul(replies));
     let others = [
-        KEYED_BYTES.saturating_add(text),
         SIGNED_BYTES,
         KEYED_BYTES.saturating_add(name),
         32,
         name.saturating_add(38 + 32),
         LEAF_BYTES,
     ];
-    for length in others {
-        run.push(&mut lengths, length);
+    for _ in 0..replies {
+        for length in others {
+            run.push(&mut lengths, length);
+        }
     }
     lengths
 }
@@ -180,11 +181,24 @@ fn measure_promise(run: &Run, pages: &Pages, siblings: usize, times: usize) {
     match (pages.held.first(), pages.bodies.first()) {
         (Some(held), Some(body)) => {
             let broken = broken_promise(pages, held, body.root);
-            let lengths = lengths_of(run, &broken.promise.promise, siblings);
+            let mut lengths = lengths_of(run, &held.name, 1, siblings);
+            let text = broken.promise.promise.write().bytes().len();
+            run.push(&mut lengths, KEYED_BYTES.saturating_add(text));
             measure_lengths(run, &lengths, times);
             judge_all(run, &Evidence::Broken(broken), times);
         }
         _ => run.fail(),
+    }
+}
+
+/// The same steps of a final binding that was changed.
+fn measure_final(run: &Run, siblings: usize, times: usize) {
+    match broken_final(run, siblings) {
+        Some(broken) => {
+            measure_lengths(run, &lengths_of(run, &broken.name, 2, siblings), times);
+            judge_all(run, &Evidence::Final(broken), times);
+        }
+        None => run.fail(),
     }
 }
 
@@ -218,5 +232,6 @@ pub(crate) fn measure(run: &Run, numbers: &[usize]) {
         Some(pages) => measure_promise(run, &pages, siblings, times),
         None => run.fail(),
     }
+    measure_final(run, siblings, times);
     measure_bodies(run, digests);
 }

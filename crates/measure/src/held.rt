@@ -8,7 +8,7 @@ use encoding::{BoundKey, Hash32, Index, KeyData, Name, Small};
 use nodehash::Sha256Hash;
 use prefixtree::{Item, Tree, placed};
 use proofs::End;
-use vrfiface::{Vuf, index_of};
+use vrfiface::{KeyedVuf, Vuf, index_of};
 
 /// A name of 16 bytes, and what the provider holds for it.
 #[derive(Drop)]
@@ -60,8 +60,13 @@ pub(crate) fn keyed(bytes: &[u8; 32]) -> BoundKey {
 impl Held {
     /// What the provider holds for the name of this number.
     pub(crate) fn new(number: u64) -> Held {
+        Held::under(&provider_vuf(), number)
+    }
+
+    /// The same under this verifiable function.
+    pub(crate) fn under(vuf: &KeyedVuf, number: u64) -> Held {
         let name = named(&name_of(number));
-        let value = provider_vuf().value(&name);
+        let value = vuf.value(&name);
         Held {
             index: index_of(&mut Sha256Hash::new(), value.bytes()),
             name,

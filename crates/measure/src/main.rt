@@ -11,6 +11,7 @@ mod changes;
 mod digests;
 mod directory;
 mod feeding;
+mod finals;
 mod held;
 mod keeping;
 mod looking;
@@ -35,11 +36,11 @@ const USAGE: &str = "usage: measure digests BYTES COUNT | texts COUNT ROUNDS \
     | chains ROOTS SHARED ROUNDS | epochs NAMES CHANGES ROUNDS LOOK_UPS LOOK_UP_ROUNDS DIGESTS \
     | journal NAMES DIGESTS | hub NAMES FRAMES PIECE ROUNDS | feed FRAMES TIMES \
     | audit ROOTS MORE SIBLINGS TIMES DIGESTS | updates BEFORE LISTS DIGESTS PIECE \
-    | looks NAMES SIBLINGS ROOTS EPOCHS ROUNDS | watch SIBLINGS EPOCHS ROUNDS \
-    | clients SIBLINGS NAMES SHARED EPOCHS ROUNDS | all";
+    | looks NAMES SIBLINGS ROOTS EPOCHS ROUNDS | finality SIBLINGS LOOKS INDICES TIMES \
+    | watch SIBLINGS EPOCHS ROUNDS | clients SIBLINGS NAMES SHARED EPOCHS ROUNDS | all";
 
 /// Each program, on small numbers.
-const ALL: [(&str, &[usize]); 17] = [
+const ALL: [(&str, &[usize]); 18] = [
     ("digests", &[64, 3]),
     ("texts", &[9, 1]),
     ("tree", &[5, 2, 1]),
@@ -53,6 +54,7 @@ const ALL: [(&str, &[usize]); 17] = [
     ("feed", &[3, 2]),
     ("audit", &[5, 3, 2, 2, 1]),
     ("looks", &[3, 12, 4, 2, 2]),
+    ("finality", &[12, 3, 2, 2]),
     ("updates", &[1, 2, 1, 0]),
     ("updates", &[1, 2, 1, 64]),
     ("watch", &[12, 2, 2]),
@@ -82,6 +84,7 @@ fn program_of_parties(run: &Run, name: &str, numbers: &[usize]) {
         "feed" => feeding::measure(run, numbers),
         "audit" => auditing::measure(run, numbers),
         "looks" => looking::measure(run, numbers),
+        "finality" => finals::measure(run, numbers),
         "updates" => updating::measure(run, numbers),
         "watch" => watching::measure(run, numbers),
         "clients" => reconciling::measure(run, numbers),

@@ -46,6 +46,23 @@ pub(crate) fn update(run: &Run, client: &mut Following, list: &[u8]) {
     }
 }
 
+/// The client keeps the reply to a look-up of a name under a root.
+pub(crate) fn keep_look(
+    run: &Run,
+    client: &mut Following,
+    name: &Name,
+    body: &Body,
+    reply: &ProofText,
+) {
+    let (mut hash, vuf) = (Sha256Hash::new(), provider_vuf());
+    if client
+        .look(&mut hash, &vuf, name, body.epoch, reply.bytes())
+        .is_err()
+    {
+        run.fail();
+    }
+}
+
 impl Pages {
     /// So many names, whose replies have so many siblings, at most 256, and so many roots.
     pub(crate) fn new(run: &Run, names: usize, siblings: usize, roots: usize) -> Option<Pages> {
@@ -111,19 +128,6 @@ impl Pages {
         answers
     }
 
-    /// A client looks a name up under a root. Returns the bytes of the reply that it keeps.
-    fn keep_look(&self, run: &Run, client: &mut Following, held: &Held, body: &Body) -> u64 {
-        let (mut hash, vuf) = (Sha256Hash::new(), provider_vuf());
-        let reply = self.reply(held, body);
-        if client
-            .look(&mut hash, &vuf, &held.name, body.epoch, reply.bytes())
-            .is_err()
-        {
-            run.fail();
-        }
-        reply.bytes().len() as u64
-    }
-
     /// A client looks the names from one number to below another up under each of the first roots, so many,
     /// root by root. Returns the bytes of the replies that it keeps.
     pub(crate) fn keep_looks(
@@ -137,7 +141,9 @@ impl Pages {
         let mut bytes: u64 = 0;
         for body in run.part(&self.bodies, 0, places) {
             for one in held {
-                bytes = bytes.saturating_add(self.keep_look(run, client, one, body));
+                let reply = self.reply(one, body);
+                keep_look(run, client, &one.name, body, &reply);
+                bytes = bytes.saturating_add(reply.bytes().len() as u64);
             }
         }
         bytes

@@ -65,7 +65,7 @@ pub(crate) fn bodies(run: &Run, root: Hash32, count: usize) -> Vec<Body> {
 }
 
 /// The list of the signed roots of these bodies, at most as many as a list may have.
-fn list_of(run: &Run, bodies: &[Body]) -> Vec<u8> {
+pub(crate) fn list_of(run: &Run, bodies: &[Body]) -> Vec<u8> {
     let mut roots = run.list(bodies.len());
     for body in bodies {
         run.push(&mut roots, signed(*body));
