@@ -9,6 +9,7 @@ A provider has a call `frame`, which returns the next frame, or None, for the by
 """
 
 import contextlib
+import json
 from dataclasses import dataclass, replace
 from itertools import pairwise
 from typing import NamedTuple
@@ -17,6 +18,7 @@ from formats import (
     BAD_LINK,
     BEFORE_START,
     BINDING,
+    BROKEN_FINAL,
     KNOWN,
     MAX_KEY,
     MAX_NAME,
@@ -27,6 +29,7 @@ from formats import (
     REFUSED,
     ROOT,
     ROOTS,
+    BrokenFinal,
     FeedRefusal,
     KeyedVuf,
     ReadRefusal,
@@ -38,6 +41,7 @@ from formats import (
     SignedRoot,
     Statement,
     evidence_json,
+    is_final,
     linked,
     lines_of,
     read_response,
@@ -103,20 +107,28 @@ class Mark(NamedTuple):
     epoch: int
 
 
+class Seen(NamedTuple):
+    """A reply for a name that was accepted under the root of an epoch."""
+
+    epoch: int
+    reply: bytes
+
+
 @dataclass(frozen=True)
 class Memory:
-    """Promises, which of them are of the owner's own changes, a mark for each name that was watched, and the lines of
-    alarms and of evidence that were told."""
+    """Promises, which of them are of the owner's own changes, a mark for each name that was watched, the first reply that
+    stated a key with Final for each name that has one, and the lines of alarms and of evidence that were told."""
 
     promises: list
     changes: list
     marks: dict
+    finals: dict
     alarms: list
     evidence: list
 
     @staticmethod
     def read(lines):
-        memory = Memory([], [], {}, [], [])
+        memory = Memory([], [], {}, {}, [], [])
         for line in lines:
             memory.add(line, *line.split(" "))
         return memory
@@ -131,6 +143,9 @@ class Memory:
                 # The older form has one epoch.
                 name, *epochs = words
                 self.marks[bytes.fromhex(name)] = Mark(int(epochs[0]), int(epochs[-1]))
+            case "final":
+                name, epoch, reply = words
+                self.finals.setdefault(bytes.fromhex(name), Seen(int(epoch), bytes.fromhex(reply)))
             case "alarm":
                 self.alarms.append(line)
             case _:
@@ -140,7 +155,13 @@ class Memory:
         word = {True: "change", False: "promise"}
         promises = [f"{word[signed in self.changes]} {signed.write().hex()}" for signed in self.promises]
         marks = [f"watched {name.hex()} {since} {epoch}" for name, (since, epoch) in self.marks.items()]
-        return list(dict.fromkeys([*promises, *marks, *self.alarms, *self.evidence]))
+        finals = [f"final {name.hex()} {epoch} {reply.hex()}" for name, (epoch, reply) in self.finals.items()]
+        return list(dict.fromkeys([*promises, *marks, *finals, *self.alarms, *self.evidence]))
+
+    def changed_finals(self):
+        """The names of which the evidence shows that a final binding was changed."""
+        of_names = (json.loads(line) for line in self.evidence)
+        return {counted_front(bytes.fromhex(each["first"])) for each in of_names if each["kind"] == BROKEN_FINAL}
 
     def alarms_of(self, name):
         return [line for line in self.alarms if line.split(" ")[1] == name.hex()]
@@ -154,6 +175,11 @@ class Memory:
         One whose monitor was held up at its first root has a mark with nothing watched."""
         mark = self.marks.get(signed.promise.name)
         return mark is None or mark.epoch > signed.promise.epoch
+
+
+def counted_front(data):
+    """The bytes that stand behind their count at the front."""
+    return data[2 : 2 + int.from_bytes(data[:2], "big")]
 
 
 def mark_of(monitors, earlier):
@@ -409,6 +435,8 @@ class Asked(Followed):
         super().__init__(provider)
         self.saved, self.found, self.path, self.after = roots or [], Memory.read(kept), path, after
         self.changes, self.settled = [], None
+        # What is known of final bindings, and of which names a change of one was told.
+        self.finals, self.changed = dict(self.found.finals), self.found.changed_finals()
 
     def run(self, script, words=()):
         """Asks the lines of a script, or the words of the command line, of which the script is then the only line."""
@@ -528,6 +556,9 @@ class Asked(Followed):
             return self.refuse(REFUSED_THINGS[kind], refusal)
         if is_told:
             self.text.append(line)
+        if request[0] == "lookup":
+            self.note(request[2], body)
+            self.note_looks(request[2])
         if request[0] in BINDING:
             self.hand_out(value, body)
 
@@ -539,6 +570,34 @@ class Asked(Followed):
                 monitor.expect(signed.promise.statement(), body)
             except Refusal as refusal:
                 self.refuse("promise", refusal, f"watching {monitor.name.hex()}: ")
+
+    # Final bindings
+
+    def note(self, name, body):
+        """Notes a reply that was accepted for a name. The first that states a key with Final is kept. One that shows with
+        it that the binding was changed is told as evidence, unless a change of the name was told before."""
+        seen = Seen(Reply.read(body).body.epoch, body)
+        if name in self.changed:
+            return
+        if name not in self.finals:
+            if is_final(Reply.read(body).statement()):
+                self.finals[name] = seen
+            return
+        one, other = sorted((self.finals[name], seen))
+        roots = [self.client.chain.at(each.epoch) for each in (one, other)]
+        broken = BrokenFinal(name, roots[0], one.reply, roots[1], other.reply)
+        if broken.holds(sha256, KeyedVuf(PROVIDER), PROVIDER):
+            self.tell_change(broken)
+
+    def note_looks(self, name):
+        """Tells what the looks of this run show of a name, unless a change of it was told."""
+        if name not in self.changed and (broken := self.client.finality(name)):
+            self.tell_change(broken)
+
+    def tell_change(self, broken):
+        self.changed.add(broken.name)
+        self.tell_evidence(broken)
+        self.explain(f"final binding of {broken.name.hex()}", "it was changed", 3)
 
     def test_promises(self):
         """Tests the promises that are due. One of a name that was watched waits for its monitor."""
@@ -572,6 +631,7 @@ class Asked(Followed):
         elif due != KEPT:
             self.tell_evidence(due)
             self.explain(f"promise for {name.hex()}", "it was not kept")
+        self.note(name, got[2])
         return due == KEPT
 
     # The monitors
@@ -624,6 +684,7 @@ class Asked(Followed):
             except Refusal as refusal:
                 return self.refuse("proof", refusal, f"watching {monitor.name.hex()} at epoch {epoch}: ")
             self.tell_step(monitor.name, epoch, step)
+            self.note(monitor.name, got[2])
 
     # The end
 
@@ -639,7 +700,7 @@ class Asked(Followed):
         settled = [] if self.settled is None else found.alarms_of(self.settled)
         alarms = [line for line in [*found.alarms, *self.alarms] if line not in settled]
         memory = Memory(
-            found.promises, [*found.changes, *self.changes], {**found.marks, **marks}, alarms, [*found.evidence, *self.evidence])
+            found.promises, [*found.changes, *self.changes], {**found.marks, **marks}, self.finals, alarms, [*found.evidence, *self.evidence])
         if self.client is None:
             return memory
         # Those that are still to be tested, and the changes that are still to be watched.

@@ -202,10 +202,18 @@ def owner_line(rng, epoch):
     ])
 
 
+def final_line(rng, epoch):
+    """What somebody does who has a final key, or looks at one."""
+    return rng.choice([
+        "register2 61 6b31 final", f"close {epoch}", f"close {epoch}", "lookup 61 0", "lookup 61 0", f"lookup 61 {rng.choice([2, 3, epoch])}",
+        "watch2 61 6b31 final", "head",
+    ])
+
+
 def drawn_runs(rng):
     """Some runs over one state: commands of a few names, or of one owner, and a closing now and then. Alarms are
     settled between them."""
-    runs, epoch, line = [], 1, rng.choice([drawn_line, owner_line, owner_line])
+    runs, epoch, line = [], 1, rng.choice([drawn_line, owner_line, owner_line, final_line])
     for _ in range(rng.randrange(1, 6)):
         lines = []
         for _ in range(rng.randrange(1, 7)):
@@ -290,6 +298,13 @@ def key_is_robbed(provider, _request, reply):
     return reply
 
 
+def keys_are_robbed(provider, _request, reply):
+    """Those of two names."""
+    for name in (b"a", b"b"):
+        rob(provider, name)
+    return reply
+
+
 def binding_becomes(key, policy):
     """The name has this key and policy from the next epoch on, whatever it has."""
 
@@ -309,6 +324,39 @@ def promised_key_is_opened(provider, _request, reply):
 def let_wait_as_open(directory, name):
     """What waits for a name is open, whatever was promised."""
     directory.waiting[name] = directory.waiting[name]._replace(policy=OPEN)
+
+
+def name_goes(provider, _request, reply):
+    """The next page has no name."""
+    directory = provider.hub.directory
+    directory.pages[-1] = directory.last()._replace(bindings={}, tree=Tree(directory.digest, directory.last().root.body.nonce))
+    return reply
+
+
+def names_move(provider, _request, _reply):
+    """The page that a closing adds has another key of the verifiable function."""
+    move_names(provider.hub.directory)
+    return frame(ROOT, provider.hub.directory.head().write())
+
+
+def move_names(directory):
+    """On the last page each name has another index."""
+    page = directory.pages.pop()
+    commitments = {name: page.tree.items[directory.index_of(name)] for name in page.bindings}
+    directory.vuf = KeyedVuf(OTHER_KEY)
+    tree = Tree(directory.digest, page.root.body.nonce, {directory.index_of(name): each for name, each in commitments.items()})
+    directory.pages.append(directory.page_of(replace(page.root.body, vuf_key=OTHER_KEY), page.bindings, tree))
+
+
+def other_final_key_between(provider, request, reply):
+    """The promised key waits for the epoch after the next one, and another final key for that."""
+    directory = provider.hub.directory
+    promised = directory.waiting.copy()
+    directory.let_wait(b"a", EVIL, None, FINAL)
+    close(provider)
+    directory.waiting |= promised
+    close(provider)
+    return reply
 
 
 def key_is_changed_and_put_back(provider, request, _reply):
@@ -345,9 +393,14 @@ def memory_runs_out_for(epoch):
     return lambda provider, request, reply: response_frame(REFUSED, 14) if words_of(request)[0] == epoch else reply
 
 
-def proof_is_altered_at(epoch):
-    """The first proof of an epoch is altered."""
-    return lambda provider, request, reply: flipped(reply, len(reply) - 1) if is_first_of(epoch, provider, request) else reply
+def proof_is_altered_at(epoch, distance=1):
+    """The first proof of an epoch is altered, in the byte that is so far from its end."""
+    return lambda provider, request, reply: flipped(reply, len(reply) - distance) if is_first_of(epoch, provider, request) else reply
+
+
+def key_is_altered_at(epoch):
+    """The first proof of an epoch has another key than the leaf. Two bytes follow it, as the proof has no siblings."""
+    return proof_is_altered_at(epoch, 3)
 
 
 def promise_is_of_epoch_3(provider, _request, reply):
@@ -386,6 +439,11 @@ def epoch_is_hidden(provider, _request, reply):
 def look_up_is_refused_at(epoch):
     """No look-up of an epoch finds it."""
     return lambda provider, request, reply: response_frame(REFUSED, 10) if words_of(request)[0] == epoch else reply
+
+
+def look_up_is_of(epoch):
+    """Each look-up gets the proof of this epoch."""
+    return lambda provider, _request, _reply: response_frame(PROOF, provider.hub.directory.lookup(b"a", epoch))
 
 
 def directory_goes_back(epochs):
@@ -517,6 +575,94 @@ def final_promise_and_root():
     return evidence_json(BrokenPromise(promise, directory.close(2), directory.lookup(b"a", 2).write()))
 
 
+def final_directory(*acts):
+    """A directory whose name has a final key in epoch 2. Each act comes before the end of one more epoch."""
+    directory = keyed_directory(1, ZERO32, SIGNING_KEY, VUF_KEY, SALT_KEY)
+    directory.register2(b"a", b"k1", FINAL)
+    directory.close(2)
+    for act in acts:
+        act(directory)
+        directory.close(directory.last().epoch + 1)
+    return directory
+
+
+def change_in(directory, before=None, first=2, later=3, name=b"a"):
+    """The evidence of a final binding that was changed, by the replies for two epochs. The first may be of a directory as it
+    was before."""
+    replies = [each.lookup(name, epoch).write() for each, epoch in ((before or directory, first), (directory, later))]
+    return evidence_json(BrokenFinal(name, directory.page(first).root, replies[0], directory.page(later).root, replies[1]))
+
+
+def becomes(key, policy):
+    return lambda directory: directory.let_wait(b"a", key, None, policy)
+
+
+def stays(_directory):
+    """Nothing waits."""
+
+
+def without_names(directory):
+    directory.pages[-1] = directory.last()._replace(bindings={}, tree=Tree(directory.digest, ZERO32))
+
+
+def others_final():
+    """A directory that changes another's final key to one of its own."""
+    directory = keyed_directory(1, ZERO32, SIGNING_KEY, VUF_KEY, SALT_KEY)
+    directory.register2(b"a", EVIL, FINAL)
+    directory.close(2)
+    directory.let_wait(b"a", b"k1", None, FINAL)
+    directory.close(3)
+    return directory
+
+
+def two_finals():
+    """A directory that changes the final keys of two names."""
+    directory, names = keyed_directory(1, ZERO32, SIGNING_KEY, VUF_KEY, SALT_KEY), (b"a", b"b")
+    for name in names:
+        directory.register2(name, b"k1", FINAL)
+    directory.close(2)
+    for name in names:
+        directory.let_wait(name, EVIL, None, None)
+    directory.close(3)
+    return directory
+
+
+def moved_final():
+    """A directory whose name has another index, and a final key, in epoch 2, and then another key."""
+    directory = final_directory()
+    move_names(directory)
+    directory.let_wait(b"a", EVIL, None, None)
+    directory.close(3)
+    return directory
+
+
+def robbed_there():
+    """A directory whose name has a final key in epoch 2, another index in epoch 3, and there another key in epoch 4."""
+    directory = final_directory()
+    directory.close(3)
+    move_names(directory)
+    directory.let_wait(b"a", EVIL, None, None)
+    directory.close(4)
+    return directory
+
+
+def final_between():
+    """The directory of `other_final_key_between`, and the promise that it broke."""
+    directory = keyed_directory(1, ZERO32, SIGNING_KEY, VUF_KEY, SALT_KEY)
+    promise = directory.register2(b"a", b"k1", FINAL)
+    promised = directory.waiting.copy()
+    directory.let_wait(b"a", EVIL, None, FINAL)
+    directory.close(2)
+    directory.waiting |= promised
+    directory.close(3)
+    return directory, promise
+
+
+def broken_between():
+    directory, promise = final_between()
+    return evidence_json(BrokenPromise(promise, directory.page(2).root, directory.lookup(b"a", 2).write()))
+
+
 def kept_epochs(first, last):
     """What is told of a name that is watched in these epochs."""
     return [f"kept 61 {epoch}" for epoch in range(first, last + 1)]
@@ -536,6 +682,8 @@ OTHER_ROOTS = Ending(["client refuses reply 25"], 1, [REPLY_25])
 ROOT_3 = "client refuses root 3: the epoch is not above that of the head of the chain"
 ROOT_2 = "client refuses root 2: the signature does not verify"
 ROOT_21 = "client refuses root 21: the root contradicts the chain"
+PROOF_7 = "client refuses proof 7: the siblings do not lead from the root to the end"
+PROMISE_26 = "client refuses promise 26: the name has another index"
 NO_MEMORY, NO_EPOCH = "refused 14: out of memory", "refused 10: there is no such epoch"
 BEGINS = "state: begins at epoch 1"
 ALARM, EARLIER_ALARM = "alarm 61 3 6576", "watching 61 at epoch 3: alarm of an earlier run"
@@ -543,6 +691,16 @@ FORKED = evidence_json(RootEvidence(FORK, root_2(b"k1"), root_2(EVIL)))
 LINKED = evidence_json(RootEvidence(LINK, root_2(b"k1"), roots_of(EVIL)[1]))
 AFTER_1027 = "no root is taken after epoch 1027"
 EARLIER_EVIDENCE = "state: FILE.kept: evidence of an earlier run"
+FINAL_CHANGED = "final binding of 61: it was changed"
+ROBBED_FINAL = change_in(final_directory(becomes(EVIL, None)))
+OTHERS_FINAL = change_in(others_final())
+GONE_FINAL = change_in(final_directory(without_names), final_directory())
+LATER_FINAL = change_in(final_directory(stays, becomes(EVIL, FINAL)), later=4)
+MOVED_FINAL = change_in(moved_final())
+ROBBED_THERE = change_in(robbed_there(), first=3, later=4)
+TWO_FINALS = [change_in(two_finals(), name=name) for name in (b"a", b"b")]
+BEGUN_TWO_FINALS = run_of_lines("register2 61 6b31 final", "register2 62 6b31 final", "close 2")
+LOOK_AT_TWO = "lookup 61 0", "lookup 62 0"
 
 # Of a name: what the directory does, the runs over one state, and how the last of them ends.
 STORED_LIES = {
@@ -1086,27 +1244,27 @@ STORED_LIES = {
     "another key in the place of a final one": (
         lies((2, None, key_is_robbed)),
         [BEGUN_FINAL, WATCH_FINAL],
-        Ending(["root 3 after 2", ALARM], 3, []),
+        Ending(["root 3 after 2", ALARM, ROBBED_FINAL], 3, [FINAL_CHANGED]),
     ),
     "another key in the place of a final one, and a run later": (
         lies((2, None, key_is_robbed)),
         [BEGUN_FINAL, WATCH_FINAL, run_of_words("watch2 61 6b31 final")],
-        Ending([ALARM, "watched 61 3"], 3, [EARLIER_ALARM]),
+        Ending([ROBBED_FINAL, ALARM, "watched 61 3"], 3, [EARLIER_EVIDENCE, EARLIER_ALARM]),
     ),
     "another final key in the place of a final one": (
         lies((2, None, binding_becomes(EVIL, FINAL))),
         [BEGUN_FINAL, WATCH_FINAL],
-        Ending(["root 3 after 2", "alarm 61 3 6576 final"], 3, []),
+        Ending(["root 3 after 2", "alarm 61 3 6576 final", change_in(final_directory(becomes(EVIL, FINAL)))], 3, [FINAL_CHANGED]),
     ),
     "a final key that is shown as open": (
         lies((2, None, binding_becomes(b"k1", OPEN))),
         [BEGUN_FINAL, WATCH_FINAL],
-        Ending(["root 3 after 2", "alarm 61 3 6b31 open"], 3, []),
+        Ending(["root 3 after 2", "alarm 61 3 6b31 open", change_in(final_directory(becomes(b"k1", OPEN)))], 3, [FINAL_CHANGED]),
     ),
     "a final key that is shown without a policy": (
         lies((2, None, binding_becomes(b"k1", None))),
         [BEGUN_FINAL, WATCH_FINAL],
-        Ending(["root 3 after 2", "alarm 61 3 6b31"], 3, []),
+        Ending(["root 3 after 2", "alarm 61 3 6b31", change_in(final_directory(becomes(b"k1", None)))], 3, [FINAL_CHANGED]),
     ),
     "a final key that was promised, and is shown as open": (
         lies((1, "register2", promised_key_is_opened)),
@@ -1117,6 +1275,170 @@ STORED_LIES = {
         lies((1, "register2", promised_key_is_opened)),
         [run_of_lines("register2 61 6b31 final", "close 2"), SETTLE],
         Ending([final_promise_and_root(), "settled 61 0"], 3, [EARLIER_EVIDENCE]),
+    ),
+    # 14. The first reply that stated a final key is remembered. One that shows with it that the binding was changed is
+    # told as evidence, behind what it prints: of a look-up, of a step of a monitor, of the test of a promise.
+    "a final key that is looked up": (
+        lies((2, None, key_is_robbed)),
+        [run_of_lines("register2 61 6b31 final", "close 2", "lookup 61 0"), run_of_lines("close 3", "lookup 61 0")],
+        Ending(["root 3 after 2", "present 3 6576", ROBBED_FINAL], 3, [FINAL_CHANGED]),
+    ),
+    "a final key of somebody else's": (
+        lies((2, None, key_is_robbed)),
+        [run_of_lines("register2 61 6b31 final", "close 2"), run_of_words("lookup 61 2"), run_of_lines("close 3", "lookup 61 3")],
+        Ending(["root 3 after 2", "present 3 6576", ROBBED_FINAL], 3, [FINAL_CHANGED]),
+    ),
+    "a final key that was changed in one run": (
+        lies((1, "close", binding_becomes(EVIL, None))),
+        [run_of_lines("register2 61 6b31 final", "close 2", "close 3", "lookup 61 2", "lookup 61 3")],
+        Ending(["promise 1", "root 2 after 1", "root 3 after 2", "present 2 6b31 final", "present 3 6576", ROBBED_FINAL], 3, [BEGINS, FINAL_CHANGED]),
+    ),
+    "an older reply that a final key changed": (
+        lies((1, None, binding_becomes(EVIL, FINAL)), (1, "close", binding_becomes(b"k1", FINAL))),
+        [run_of_lines("close 2", "close 3", "lookup 61 3", "lookup 61 2")],
+        Ending(["root 2 after 1", "root 3 after 2", "present 3 6b31 final", "present 2 6576 final", OTHERS_FINAL], 3, [BEGINS, FINAL_CHANGED]),
+    ),
+    "an older reply of an open key": (
+        lies((1, None, binding_becomes(EVIL, OPEN)), (1, "close", binding_becomes(b"k1", FINAL))),
+        [run_of_lines("close 2", "close 3", "lookup 61 3", "lookup 61 2")],
+        Ending(["root 2 after 1", "root 3 after 2", "present 3 6b31 final", "present 2 6576 open"], 0, [BEGINS]),
+    ),
+    "a final key that stays": (
+        lies(),
+        [BEGUN_FINAL, WATCH_FINAL, run_of_lines("close 4", "lookup 61 0", "watch2 61 6b31 final", "lookup 61 2")],
+        Ending(["root 4 after 3", "present 4 6b31 final", "kept 61 4", "present 2 6b31 final"], 0, []),
+    ),
+    "a final name that goes": (
+        lies((2, None, name_goes)),
+        [BEGUN_FINAL, WATCH_FINAL],
+        Ending(["root 3 after 2", "alarm 61 3 absent", GONE_FINAL], 3, [FINAL_CHANGED]),
+    ),
+    "a final name that goes, and a look-up": (
+        lies((2, None, name_goes)),
+        [BEGUN_FINAL, run_of_lines("close 3", "lookup 61 0")],
+        Ending(["root 3 after 2", "absent 3", GONE_FINAL], 3, [FINAL_CHANGED]),
+    ),
+    "a final key that a promise's test finds changed": (
+        lies((1, "register2", other_final_key_between), (1, "lookup", memory_runs_out_for(2))),
+        [run_of_lines("register2 61 6b31 final", "lookup 61 0"), run_of_words("head")],
+        Ending([broken_between(), change_in(final_between()[0]), "root 3 after 2"], 3, ["promise for 61: it was not kept", FINAL_CHANGED]),
+    ),
+    "a changed final key, and more epochs": (
+        lies((2, None, key_is_robbed)),
+        [BEGUN_FINAL, WATCH_FINAL, run_of_lines("close 4", "close 5", "lookup 61 0", "watch 61 6576")],
+        Ending(
+            [ROBBED_FINAL, "root 4 after 3", "root 5 after 4", "present 5 6576", ALARM, "kept 61 4", "kept 61 5"], 3, [EARLIER_EVIDENCE, EARLIER_ALARM]),
+    ),
+    "a final key that is changed twice": (
+        lies((2, None, binding_becomes(EVIL, FINAL)), (3, None, binding_becomes(b"k1", FINAL))),
+        [BEGUN_FINAL, WATCH_FINAL, run_of_lines("close 4", "lookup 61 0", "lookup 61 3")],
+        Ending([change_in(final_directory(becomes(EVIL, FINAL))), "root 4 after 3", "present 4 6b31 final", "present 3 6576 final"], 3, [EARLIER_EVIDENCE]),
+    ),
+    "two changes of a final key in one run": (
+        lies((1, "close", binding_becomes(EVIL, FINAL))),
+        [run_of_lines("register2 61 6b31 final", "close 2", "close 3", "close 4", "lookup 61 3", "lookup 61 4", "lookup 61 3")],
+        Ending(
+            [
+                "promise 1", "root 2 after 1", "root 3 after 2", "root 4 after 3",
+                "present 3 6576 final", change_in(final_directory(becomes(EVIL, FINAL))), "present 4 6576 final", "present 3 6576 final",
+            ], 3, [BEGINS, FINAL_CHANGED]),
+    ),
+    "two final keys that are changed": (
+        lies((2, None, keys_are_robbed)),
+        [BEGUN_TWO_FINALS, run_of_lines("close 3", *LOOK_AT_TWO, *LOOK_AT_TWO)],
+        Ending(
+            ["root 3 after 2", "present 3 6576", TWO_FINALS[0], "present 3 6576", TWO_FINALS[1], *["present 3 6576"] * 2],
+            3, [FINAL_CHANGED, "final binding of 62: it was changed"]),
+    ),
+    "two final keys that are changed, and a run later": (
+        lies((2, None, keys_are_robbed)),
+        [BEGUN_TWO_FINALS, run_of_lines("close 3", "lookup 62 0"), run_of_lines(*LOOK_AT_TWO)],
+        Ending([TWO_FINALS[1], "present 3 6576", TWO_FINALS[0], "present 3 6576"], 3, [EARLIER_EVIDENCE, FINAL_CHANGED]),
+    ),
+    # A reply that is refused is neither kept nor compared.
+    "a final key whose proof is altered": (
+        lies((1, None, binding_becomes(b"k1", FINAL)), (1, "lookup", key_is_altered_at(2)), (2, None, key_is_robbed)),
+        [run_of_lines("close 2", "lookup 61 2"), run_of_lines("close 3", "lookup 61 3", "lookup 61 2")],
+        Ending(["root 3 after 2", "present 3 6576", "present 2 6b31 final", ROBBED_FINAL], 3, [FINAL_CHANGED]),
+    ),
+    "a final key whose proof is altered, and its own proof later": (
+        lies((1, None, binding_becomes(b"k1", FINAL)), (1, "lookup", key_is_altered_at(2)), (2, None, key_is_robbed)),
+        [run_of_lines("close 2", "lookup 61 2"), run_of_lines("close 3", "lookup 61 3"), run_of_words("lookup 61 2"), run_of_words("lookup 61 0")],
+        Ending(["present 3 6576", ROBBED_FINAL], 3, [FINAL_CHANGED]),
+    ),
+    "a final key that stays, and a proof that is altered": (
+        lies((2, "lookup", key_is_altered_at(3))),
+        [BEGUN_FINAL, run_of_lines("close 3", "lookup 61 3")],
+        Ending(["root 3 after 2", "client refuses proof 7"], 1, [PROOF_7]),
+    ),
+    "a changed final key whose proof is altered, and then its own proof": (
+        lies((2, None, key_is_robbed), (2, "lookup", key_is_altered_at(3))),
+        [BEGUN_FINAL, run_of_lines("close 3", "lookup 61 3", "lookup 61 3")],
+        Ending(["root 3 after 2", "client refuses proof 7", "present 3 6576", ROBBED_FINAL], 3, [PROOF_7, FINAL_CHANGED]),
+    ),
+    "a changed final key whose proof a monitor refuses": (
+        lies((2, None, key_is_robbed), (2, "lookup", key_is_altered_at(3))),
+        [BEGUN_FINAL, WATCH_FINAL],
+        Ending(["root 3 after 2", "client refuses proof 7"], 1, [f"watching 61 at epoch 3: {PROOF_7}"]),
+    ),
+    "a changed final key whose proof a monitor refuses, and a run later": (
+        lies((2, None, key_is_robbed), (2, "lookup", key_is_altered_at(3))),
+        [BEGUN_FINAL, WATCH_FINAL, run_of_words("watch2 61 6b31 final")],
+        Ending([ALARM, ROBBED_FINAL], 3, [FINAL_CHANGED]),
+    ),
+    "a final key whose proof a monitor refuses": (
+        lies((1, None, binding_becomes(b"k1", FINAL)), (1, "lookup", key_is_altered_at(2)), (2, None, key_is_robbed)),
+        [run_of_lines("close 2", "watch2 61 6b31 final"), run_of_lines("close 3", "watch2 61 6b31 final")],
+        Ending(["root 3 after 2", "kept 61 2", ALARM, ROBBED_FINAL], 3, [FINAL_CHANGED]),
+    ),
+    "a final key whose proof a promise's test refuses": (
+        lies((1, "lookup", key_is_altered_at(2)), (2, None, key_is_robbed)),
+        [run_of_lines("register2 61 6b31 final", "close 2"), run_of_lines("close 3", "lookup 61 3")],
+        Ending(["root 3 after 2", "present 3 6576", ROBBED_FINAL], 3, [FINAL_CHANGED]),
+    ),
+    "a changed final key in the reply to another question": (
+        lies((2, None, key_is_robbed), (2, "lookup", look_up_is_of(3))),
+        [BEGUN_FINAL, run_of_lines("close 3", "lookup 61 2")],
+        Ending(["root 3 after 2", "client refuses reply 25"], 1, [REPLY_25]),
+    ),
+    # Replies with two indices show no change. The reply to a promise that is refused for its index counts as any other.
+    "another key in the place of a final one, at another index": (
+        lies((2, None, key_is_robbed), (2, "close", names_move)),
+        [BEGUN_FINAL, run_of_lines("close 3", "lookup 61 0", "watch2 61 6b31 final")],
+        Ending(["root 3 after 2", "present 3 6576", ALARM], 3, []),
+    ),
+    "a final key at another index than was promised": (
+        lies((1, "close", names_move), (2, None, key_is_robbed)),
+        [run_of_lines("register2 61 6b31 final", "close 2"), run_of_lines("close 3", "lookup 61 3")],
+        Ending(
+            ["client refuses promise 26", "root 3 after 2", "client refuses promise 26", "present 3 6576", MOVED_FINAL],
+            3, [PROMISE_26, PROMISE_26, FINAL_CHANGED]),
+    ),
+    # Replies are compared with the first one, and looks of one run with each other, whatever their order.
+    "an older final key than the first that was seen": (
+        lies((1, None, binding_becomes(b"k1", FINAL)), (2, None, binding_becomes(EVIL, FINAL))),
+        [run_of_lines("close 2", "close 3"), run_of_lines("close 4", "lookup 61 4"), run_of_words("lookup 61 2")],
+        Ending(["present 2 6b31 final", LATER_FINAL], 3, [FINAL_CHANGED]),
+    ),
+    "a final key that was changed and put back before it was first seen": (
+        lies(*[(run, None, binding_becomes(*bound)) for run, bound in enumerate([(b"k1", FINAL), (EVIL, None), (b"k1", FINAL)], 1)]),
+        [*map(run_of_lines, ("close 2", "close 3")), run_of_lines("close 4", "lookup 61 4"), run_of_lines("lookup 61 2", "lookup 61 3")],
+        Ending(["present 2 6b31 final", "present 3 6576", ROBBED_FINAL], 3, [FINAL_CHANGED]),
+    ),
+    "the same, and its look-ups in two runs": (
+        lies(*[(run, None, binding_becomes(*bound)) for run, bound in enumerate([(b"k1", FINAL), (EVIL, None), (b"k1", FINAL)], 1)]),
+        [*map(run_of_lines, ("close 2", "close 3")), run_of_lines("close 4", "lookup 61 4"), run_of_words("lookup 61 2"), run_of_words("lookup 61 3")],
+        Ending(["present 3 6576"], 0, []),
+    ),
+    "a final key that is seen after the one that took its place": (
+        lies((1, None, binding_becomes(b"k1", FINAL)), (2, None, binding_becomes(EVIL, None))),
+        [run_of_lines("close 2"), run_of_lines("close 3", "lookup 61 3", "lookup 61 2", "lookup 61 2")],
+        Ending(["root 3 after 2", "present 3 6576", "present 2 6b31 final", ROBBED_FINAL, "present 2 6b31 final"], 3, [FINAL_CHANGED]),
+    ),
+    "a final key that gets another index, and is changed there": (
+        lies((1, None, binding_becomes(b"k1", FINAL)), (2, "close", names_move), (3, None, key_is_robbed)),
+        [run_of_lines("close 2", "lookup 61 0"), run_of_lines("close 3"), run_of_lines("close 4", "lookup 61 3", "lookup 61 4")],
+        Ending(["root 4 after 3", "present 3 6b31 final", "present 4 6576", ROBBED_THERE], 3, [FINAL_CHANGED]),
     ),
 }
 

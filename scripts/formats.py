@@ -1306,10 +1306,14 @@ class BrokenFinal:
             later = accept(digest, vuf, self.later_root.body, self.name, self.later_proof)
         except ReplyRefusal:
             return False
-        stated = accepted.statement()
-        if accepted.index != later.index or stated is None or stated.policy != FINAL:
+        if accepted.index != later.index or not is_final(accepted.statement()):
             return False
-        return later.statement() != stated
+        return later.statement() != accepted.statement()
+
+
+def is_final(statement):
+    """Whether a key is stated that is never to change."""
+    return statement is not None and statement.policy == FINAL
 
 
 def judge(digest, vuf, key, evidence):

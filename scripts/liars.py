@@ -13,7 +13,9 @@ from dataclasses import replace
 
 from formats import (
     BINDING,
+    FINAL,
     MAX_ROOTS,
+    OPEN,
     POLICIES,
     PROMISE,
     REFUSED,
@@ -306,6 +308,22 @@ def rob(provider, name):
         directory.let_wait(name, EVIL, None, None)
 
 
+def finals_changed(place, seed):
+    """From this reply on, a final binding becomes another one now and then."""
+    rng = random.Random(seed)
+
+    def lie(provider, _request, reply):
+        directory = provider.hub.directory
+        bound = directory.last().bindings.get(b"a")
+        is_pinned = bound is not None and bound.policy == FINAL and b"a" not in directory.waiting
+        if provider.count >= place and is_pinned and rng.randrange(2) == 0:
+            key, policy = rng.choice([(EVIL, None), (EVIL, FINAL), (b"k1", OPEN), (b"k1", None)])
+            directory.let_wait(b"a", key, None, policy)
+        return reply
+
+    return lie
+
+
 def closed_between(place, seed):
     """From this reply on, epochs end before and behind a reply to a look-up of the latest epoch."""
     rng = random.Random(seed)
@@ -488,7 +506,8 @@ def both(one, other):
 
 LIES = [
     nothing, altered, altered, altered, cut, bad_length, replayed, forked, forgetful,
-    promised_before, promised_twice, of_another_policy, older_head, older_head, older_among, roots_altered, roots_altered, closed_between, gone_back, robbed, held_up, out_of_memory,
+    promised_before, promised_twice, of_another_policy, older_head, older_head, older_among, roots_altered, roots_altered, closed_between, gone_back, robbed, held_up, out_of_memory, finals_changed, finals_changed,
     *[both(robbed, other) for other in (altered, older_head, older_among, roots_altered, closed_between, gone_back, held_up, out_of_memory)],
     *[both(held_up, other) for other in (promised_before, promised_twice, forgetful, forked, older_among)],
+    *[both(finals_changed, other) for other in (altered, closed_between, held_up, out_of_memory)],
 ]

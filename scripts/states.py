@@ -461,10 +461,11 @@ def modes(program):
 
 class Kept(NamedTuple):
     """The lines of a state of which a run adds nothing: roots of the epochs 1 to 3, and of epoch 2 a mark and a promise,
-    with policies an alarm too."""
+    with policies an alarm too; or that of a final key alone. And the lines that look-ups would leave."""
 
     roots: list
     kept: list
+    finals: list
 
     def line(self, word):
         """The line of FILE.kept that begins with this word."""
@@ -474,7 +475,24 @@ class Kept(NamedTuple):
 
 KEPT_RUNS = b"register 61 6b31\nclose 2\nwatch 61 6b31\n", b"change 61 6b32\n", b"close 3\n"
 POLICY_RUNS = b"register2 61 6b31 open\nclose 2\nwatch2 61 6b31 final\n", b"change2 61 6b31 final\n", b"close 3\n"
+FINAL_RUNS = b"register2 61 6b31 final\nclose 2\n", b"close 3\n"
+KEPT_WORDS = {KEPT_RUNS: ["change", "watched"], POLICY_RUNS: ["alarm", "change", "watched"], FINAL_RUNS: ["final"]}
 OPEN_ALARM = "alarm 61 2 6b31 open"
+
+
+def final_lines(directory):
+    """The lines of FILE.kept for the replies of epochs 2 and 3 that state a final key."""
+    replies = {epoch: directory.lookup(b"a", epoch) for epoch in (2, 3)}
+    return [f"final 61 {epoch} {reply.write().hex()}" for epoch, reply in replies.items() if is_final(reply.statement())]
+
+
+def finals_after(runs):
+    """Those of a directory of which these runs asked."""
+    provider = Provider()
+    for script in runs:
+        provider.begin()
+        Asked(provider).run(script)
+    return final_lines(provider.hub.directory)
 
 
 def kept_state(program, address, folder, runs=KEPT_RUNS):
@@ -483,9 +501,8 @@ def kept_state(program, address, folder, runs=KEPT_RUNS):
     for script in runs:
         done(program, state, address, script)
     roots, kept = files_of(state)
-    wanted = ["change", "watched"] if runs == KEPT_RUNS else ["alarm", "change", "watched"]
-    assert len(roots) == 3 and sorted(line.split(" ")[0] for line in kept) == wanted, (roots, kept)
-    return Kept(roots, kept)
+    assert len(roots) == 3 and sorted(line.split(" ")[0] for line in kept) == KEPT_WORDS[runs], (roots, kept)
+    return Kept(roots, kept, finals_after(runs))
 
 
 def text_of(lines):
@@ -503,12 +520,15 @@ HEAD_3 = "root 3 after 2\n"
 
 
 class Cut(NamedTuple):
-    """Bytes of the two files whose last lines were cut short, what is said of them, and what FILE.kept has then."""
+    """Bytes of the two files whose last lines were cut short, what is said of them, and what FILE.kept has after a run, which
+    prints something."""
 
     roots: bytes
     kept: bytes
     said: list
     kept_then: bytes
+    script: bytes = b"head\n"
+    printed: str = HEAD_3
 
 
 def cut_roots(begun):
@@ -525,33 +545,54 @@ def cut_kept(begun):
     """Each line is the last one in turn. Where its beginning is an item too, as that of an alarm before its policy, it is
     dropped all the same."""
     for last in begun.kept:
-        others = [line for line in begun.kept if line != last]
-        # A promise without a mark is tested.
-        then = [line for line in others if not (last.startswith("watched ") and line.startswith("change "))]
+        then = others = [line for line in begun.kept if line != last]
+        if last.startswith("watched "):
+            # A promise without a mark is tested, and its reply may state a final key.
+            then = [line for line in others if not line.startswith("change ")] + begun.finals
         for left in range(1, len(last) + 1):
             kept = text_of(others) + last[:left].encode()
             yield Cut(text_of(begun.roots), kept, [f".kept: {left} bytes cut off"], text_of(then))
 
 
+def cut_finals(begun):
+    """Where the line of a final key was dropped, the next look-up leaves one again."""
+    line, later = begun.finals
+    for left in (1, 9, len(line) // 2, len(line) - 1, len(line)):
+        for epoch, then in (2, line), (3, later):
+            printed = f"present {epoch} 6b31 final\n"
+            yield Cut(
+                text_of(begun.roots), line[:left].encode(), [f".kept: {left} bytes cut off"], text_of([then]),
+                f"lookup 61 {epoch}\n".encode(), printed)
+
+
 def cut_lines(program):
     """A last line that was cut short is dropped."""
-    for runs, cases in (KEPT_RUNS, [cut_roots, cut_kept]), (POLICY_RUNS, [cut_kept]):
+    for runs, cases in (KEPT_RUNS, [cut_roots, cut_kept]), (POLICY_RUNS, [cut_kept]), (FINAL_RUNS, [cut_kept, cut_finals]):
         with directory(program) as address, tempfile.TemporaryDirectory() as folder:
             begun = kept_state(program, address, folder, runs)
             if runs == POLICY_RUNS:
                 yield different("an alarm with a policy", OPEN_ALARM, begun.line("alarm"))
+            if runs == FINAL_RUNS:
+                yield different("a final key", begun.finals[:1], begun.kept)
 
             def check(case, address=address, folder=folder, whole=text_of(begun.roots)):
                 number, cut = case
                 state = f"{folder}/{number}"
                 put(state, cut.roots, cut.kept)
                 words = "".join(f"state: {state}{line}\n" for line in cut.said)
-                got = done(program, state, address, b"head\n"), bytes_of(state)
-                return different(f"{cut.roots[-20:]} and {cut.kept[-20:]}", ((HEAD_3, words, 0), [whole, cut.kept_then]), got)
+                got = done(program, state, address, cut.script), sorted_kept(bytes_of(state))
+                wanted = (cut.printed, words, 0), sorted_kept([whole, cut.kept_then])
+                return different(f"{cut.roots[-20:]} and {cut.kept[-20:]}", wanted, got)
 
             with ThreadPoolExecutor(BESIDE) as pool:
                 yield from pool.map(check, enumerate(cut for each in cases for cut in each(begun)))
             yield from cut_first_line(program, address, folder, begun)
+
+
+def sorted_kept(files):
+    """The bytes of FILE, and of FILE.kept the lines, which a run writes in any order."""
+    roots, kept = files
+    return roots, kept and sorted(kept.split(b"\n"))
 
 
 def cut_first_line(program, address, folder, begun):
@@ -594,6 +635,49 @@ def bad_items(program):
                 # FILE may be there, and empty.
                 got[1][0] = got[1][0] or None
             yield different(what, (("", words, 1), before), got)
+
+
+def bad_finals(program):
+    """A line is no item whose reply does not state a final key for its name under FILE's root of its epoch, or if FILE has
+    no such root. Of two for one name the first counts."""
+    with tempfile.TemporaryDirectory() as folder:
+        provider = Provider()
+        begun, script = f"{folder}/begun", b"register2 61 6b31 final\nregister2 62 6b31 open\nclose 2\nclose 3\nlookup 61 2\nlookup 62 0\n"
+        provider.begin()
+        ran(program, provider, script, begun)
+        roots, kept = files_of(begun)
+        replies = {(name, epoch): provider.hub.directory.lookup(name, epoch).write().hex() for name in (b"a", b"b", b"c") for epoch in (2, 3)}
+        line, later = final_lines(provider.hub.directory)
+        yield different("what is kept of a final key", [line], kept)
+        cases = [(roots, [later, bad]) for bad in bad_final_lines(line, replies)] + [(some, [line]) for some in (roots[:1], roots[2:])]
+        for count, (some, lines) in enumerate(cases):
+            state = f"{folder}/{count}"
+            put(state, text_of(some), text_of(lines))
+            before = bytes_of(state)
+            provider.begin()
+            words = [f"state: {state}.kept: {AS_WRITTEN}", f"line {len(lines)}: bad item"]
+            got = ran(program, provider, b"head\n", state), bytes_of(state)
+            yield different(f"the line {lines[-1][:30]}, {count}", (([], words, 1), before), got)
+        put(f"{folder}/two", text_of(roots), text_of([line, later]))
+        provider.begin()
+        got = ran(program, provider, b"head\n", f"{folder}/two"), files_of(f"{folder}/two")[1]
+        yield different("two lines of a name", (([HEAD_3.strip()], [], 0), [line]), got)
+
+
+def bad_final_lines(line, replies):
+    """Lines made of a good one that are no items."""
+    reply = line.split(" ")[3]
+    altered = [flipped(bytes.fromhex(reply), at).hex() for at in range(len(reply) // 2)]
+    return [
+        "final", "final 61", "final 61 2", "final 61 2 ", f"final 61 2 {reply} ", f"final 61 2 {reply} 2", f"final 61  {reply}", f"final  2 {reply}",
+        f"final 6 2 {reply}", f"final {'61' * 256} 2 {reply}", f"final 61 x {reply}", f"final 61 02 {reply}", f"final 61 18446744073709551616 {reply}",
+        f"Final 61 2 {reply}", f"final 61 2 {reply.upper()}", line[:-1], line[:-2], f"{line}00", changed_digit(line), f"final 61 2 {'00' * 10701}",
+        # Of another epoch, or another name, or not of a final key.
+        f"final 61 3 {reply}", f"final 61 1 {reply}", f"final 61 4 {reply}", f"final 61 0 {reply}", f"final 62 2 {reply}",
+        f"final 61 2 {replies[b'a', 3]}", f"final 62 2 {replies[b'b', 2]}", f"final 63 2 {replies[b'c', 2]}",
+        # With one byte altered.
+        *[f"final 61 2 {each}" for each in altered],
+    ]
 
 
 def bad_roots(begun, foreign):
@@ -893,6 +977,7 @@ def main():
             "modes": lambda: modes(program),
             "cut lines": lambda: cut_lines(program),
             "bad items": lambda: bad_items(program),
+            "bad final lines": lambda: bad_finals(program),
             "beginnings": lambda: beginnings(program),
             "old states": lambda: old_states(program, words.seed),
             "left over": lambda: left_over(program),

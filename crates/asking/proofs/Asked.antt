@@ -19,11 +19,11 @@ use Rattle.asking.specs.declared.said.Said.{Said}
 use Rattle.asking.specs.Asking.{GetsReply, GoesOnAbove, Hands, HandsAll, HearsReply, IsChange, Notes, SpeaksOf}
 use Rattle.asking.specs.Checking.{HearsFrame}
 use Rattle.asking.specs.Exchanges.{HoldsFrame}
+use Rattle.asking.specs.FinalBindings.{Finals, NotesHeard}
 use Rattle.asking.specs.Scenes.{scene, Scene}
 use Rattle.asking.specs.Reports.{Report, Tells, report_of, silent, told_after, unless_fine}
 use Rattle.asking.proofs.Going.{told_onto}
-use Rattle.asking.proofs.Handed.{hands_none, told_silent}
-use Rattle.asking.proofs.Telling.{worse_none}
+use Rattle.asking.proofs.Handed.{hands_none, told_alone, told_silent}
 
 -- a list that is not empty has a last element
 last-of : {X : Type 0} (xs : List X) → 0 < length xs → (x : X) × (slice_get xs (length xs - 1) ≡ Some x)
@@ -70,10 +70,6 @@ first-of other (Err why) = other
 pub same_frame : (bytes : List ℕ) (one other : Frame) → HoldsFrame bytes one → HoldsFrame bytes other → one ≡ other
 same_frame bytes one other (left, is) (left', is') = ap (λ r. first-of one r) (sym is ∙ is')
 
--- it is told behind nothing
-told_alone : (told : Report) → told_after silent told ≡ told
-told_alone told = ap (λ (n : ℕ). let t : Report = record { lines = told.lines; status = n } in t) (worse_none told.status)
-
 some_status : (status : ℕ) → status ≢ 0 → nat_lt 0 status ≡ true
 some_status zero not = absurd (not refl)
 some_status (suc n) not = grind (arith, nat_tests)
@@ -84,43 +80,57 @@ unless_refused told not = ap (λ (b : Bool). if b then told else silent) (some_s
 
 module _ (hash : List ℕ → List ℕ) (accepted verified : List ℕ → List ℕ → List ℕ → Type 0) where
   -- a promise for a change was kept and handed out, and what the monitors refuse was told behind it
-  pub hands_kept : {A E : Type 0} (result : Result A E) (held : ℕ) (asked : RequestContent) (frame : Frame) (client after : Client) (kept : List SignedPromise) (given back : List Monitor) (told : Report) (said middle said' : Said)
-      → IsPut asked → length client.promises < length kept → after.promises ≡ kept → HearsFrame hash accepted verified held client asked frame told after → Tells said told middle
+  pub hands_kept : {A E : Type 0} (result : Result A E) (held : ℕ) (asked : RequestContent) (frame : Frame) (client after : Client) (kept : List SignedPromise) (given back : List Monitor) (told shown : Report) (finals finals' : Finals) (said middle said' : Said)
+      → IsPut asked → length client.promises < length kept → after.promises ≡ kept → HearsFrame hash accepted verified held client asked frame told after
+      → NotesHeard hash accepted after asked frame told.status finals shown finals' → Tells said (told_after told shown) middle
       → OnOk result ((signed : SignedPromise) → slice_get kept (length kept - 1) ≡ Some signed → (handed : Report) × HandsAll hash accepted verified signed frame.body given silent handed back × Tells middle handed said')
-      → OnOk result ((told : Report) × (handed : Report) × HearsFrame hash accepted verified held client asked frame told after
-      × Hands hash accepted verified asked frame.body client.promises after.promises given handed back × (report_of said' ≡ told_after (told_after (report_of said) told) handed))
-  hands_kept (Ok done) held asked frame client after kept given back told said middle said' (verb, name, key, put) more same hears tells hands =
+      → OnOk result ((told : Report) × (shown : Report) × (handed : Report) × HearsFrame hash accepted verified held client asked frame told after
+      × NotesHeard hash accepted after asked frame told.status finals shown finals'
+      × Hands hash accepted verified asked frame.body client.promises after.promises given handed back × (report_of said' ≡ told_after (told_after (report_of said) (told_after told shown)) handed))
+  hands_kept (Ok done) held asked frame client after kept given back told shown finals finals' said middle said' (verb, name, key, put) more same hears noted tells hands =
       let last = last-of kept (omega (arith, more)) in
       let (handed, all, tells') = hands last.0 last.1 in
       let of_last : Hands hash accepted verified (Put verb name key) frame.body client.promises kept given handed back = inr (more, (last.0, last.1, all)) in
       let of_all = subst (λ (promises : List SignedPromise). Hands hash accepted verified (Put verb name key) frame.body client.promises promises given handed back) (sym same) of_last in (
         told,
+        shown,
         handed,
         hears,
+        noted,
         subst (λ (r : RequestContent). Hands hash accepted verified r frame.body client.promises after.promises given handed back) (sym put) of_all,
-        told_onto middle said' handed tells' ∙ ap (λ (r : Report). told_after r handed) (told_onto said middle told tells),
+        told_onto middle said' handed tells' ∙ ap (λ (r : Report). told_after r handed) (told_onto said middle (told_after told shown) tells),
       )
-  hands_kept (Err fault) held asked frame client after kept given back told said middle said' put more same hears tells hands = tt
+  hands_kept (Err fault) held asked frame client after kept given back told shown finals finals' said middle said' put more same hears noted tells hands = tt
 
   -- memory ran out before it was handed out
-  pub heard_untold : {A E : Type 0} (P : Type 0) (result : Result A E) (held : ℕ) (asked : RequestContent) (frame : Frame) (client after last : Client) (told : Report) (said middle said' : Said)
-      → HearsFrame hash accepted verified held client asked frame told after → last ≡ after → Tells said told middle → OnErr result (report_of said' ≡ report_of middle)
-      → OnErr result (P ⊎ ((x : Report) × HearsFrame hash accepted verified held client asked frame x last × (report_of said' ≡ told_after (report_of said) x)))
-  heard_untold P (Ok done) held asked frame client after last told said middle said' hears same tells untold = tt
-  heard_untold P (Err why) held asked frame client after last told said middle said' hears same tells untold =
-      inr (told, subst (λ (c : Client). HearsFrame hash accepted verified held client asked frame told c) (sym same) hears, untold ∙ told_onto said middle told tells)
+  pub heard_untold : {A E : Type 0} (P : Type 0) (result : Result A E) (held : ℕ) (asked : RequestContent) (frame : Frame) (client after last : Client) (told shown : Report) (finals finals' : Finals) (said middle said' : Said)
+      → HearsFrame hash accepted verified held client asked frame told after → NotesHeard hash accepted after asked frame told.status finals shown finals' → last ≡ after → Tells said (told_after told shown) middle → OnErr result (report_of said' ≡ report_of middle)
+      → OnErr result (P ⊎ ((x : Report) × (y : Report) × HearsFrame hash accepted verified held client asked frame x last × NotesHeard hash accepted last asked frame x.status finals y finals' × (report_of said' ≡ told_after (report_of said) (told_after x y))))
+  heard_untold P (Ok done) held asked frame client after last told shown finals finals' said middle said' hears noted same tells untold = tt
+  heard_untold P (Err why) held asked frame client after last told shown finals finals' said middle said' hears noted same tells untold =
+      inr (
+        told,
+        shown,
+        subst (λ (c : Client). HearsFrame hash accepted verified held client asked frame told c) (sym same) hears,
+        subst (λ (c : Client). NotesHeard hash accepted c asked frame told.status finals shown finals') (sym same) noted,
+        untold ∙ told_onto said middle (told_after told shown) tells,
+      )
 
   -- none was handed out
-  pub heard_only : (held : ℕ) (asked : RequestContent) (frame : Frame) (client after : Client) (monitors : List Monitor) (told : Report) (said said' : Said)
-      → (¬ IsChange asked) ⊎ (length after.promises ≤ length client.promises) → HearsFrame hash accepted verified held client asked frame told after → Tells said told said'
-      → (told : Report) × (handed : Report) × HearsFrame hash accepted verified held client asked frame told after
-      × Hands hash accepted verified asked frame.body client.promises after.promises monitors handed monitors × (report_of said' ≡ told_after (told_after (report_of said) told) handed)
-  heard_only held asked frame client after monitors told said said' none hears tells = (
+  pub heard_only : (held : ℕ) (asked : RequestContent) (frame : Frame) (client after : Client) (monitors : List Monitor) (told shown : Report) (finals finals' : Finals) (said said' : Said)
+      → (¬ IsChange asked) ⊎ (length after.promises ≤ length client.promises) → HearsFrame hash accepted verified held client asked frame told after
+      → NotesHeard hash accepted after asked frame told.status finals shown finals' → Tells said (told_after told shown) said'
+      → (told : Report) × (shown : Report) × (handed : Report) × HearsFrame hash accepted verified held client asked frame told after
+      × NotesHeard hash accepted after asked frame told.status finals shown finals'
+      × Hands hash accepted verified asked frame.body client.promises after.promises monitors handed monitors × (report_of said' ≡ told_after (told_after (report_of said) (told_after told shown)) handed)
+  heard_only held asked frame client after monitors told shown finals finals' said said' none hears noted tells = (
     told,
+    shown,
     silent,
     hears,
+    noted,
     hands_none hash accepted verified asked frame.body client.promises after.promises monitors none,
-    told_onto said said' told tells ∙ sym (told_silent (told_after (report_of said) told)),
+    told_onto said said' (told_after told shown) tells ∙ sym (told_silent (told_after (report_of said) (told_after told shown))),
   )
 
   -- a frame came back for what was asked when the chain had a head of an epoch
@@ -137,20 +147,21 @@ module _ (hash : List ℕ → List ℕ) (accepted verified : List ℕ → List �
   }
 
   -- a reply was heard, step by step
-  pub hears_all : {A E H V S T : Type 0} (exchanged : T → RequestContent → Frame → T → Type 0) (result : Result A E) (first heard last : Asker H V S) (said told_to said' : Said) (stream end : T) (asked : RequestContent) (frame : Frame) (held : ℕ) (told handed : Report)
+  pub hears_all : {A E H V S T : Type 0} (exchanged : T → RequestContent → Frame → T → Type 0) (result : Result A E) (first heard last : Asker H V S) (said told_to said' : Said) (stream end : T) (asked : RequestContent) (frame : Frame) (held : ℕ) (told shown handed : Report)
       → HearsFrame hash accepted verified held first.client asked frame told heard.client
+      → NotesHeard hash accepted heard.client asked frame told.status first.finals shown heard.finals
       → Hands hash accepted verified asked frame.body first.client.promises heard.client.promises first.monitors.items handed heard.monitors.items
-      → report_of told_to ≡ told_after (told_after (report_of said) told) handed
+      → report_of told_to ≡ told_after (told_after (report_of said) (told_after told shown)) handed
       → Notes asked first.client.promises heard.client.promises first.changes.items last.changes.items → heard.marks ≡ first.marks
       → OnOk result (GoesOnAbove hash accepted verified exchanged heard.marks.items held (scene heard told_to stream) (scene last said' end))
       → OnOk result (HearsReply hash accepted verified exchanged first.marks.items held asked frame first.changes.items last.changes.items (scene first said stream) (scene last said' end))
-  hears_all exchanged (Ok done) first heard last said told_to said' stream end asked frame held told handed hears hands tells notes marks goes = record {
+  hears_all exchanged (Ok done) first heard last said told_to said' stream end asked frame held told shown handed hears noted hands tells notes marks goes = record {
     heard = scene heard told_to stream;
-    hears = record { told = told; hears = hears; handed = handed; hands = hands; tells = tells; stream = refl };
+    hears = record { told = told; hears = hears; shown = shown; notes = noted; handed = handed; hands = hands; tells = tells; stream = refl };
     notes = notes;
     goes = subst (λ (m : Vec Mark Global). GoesOnAbove hash accepted verified exchanged m.items held (scene heard told_to stream) (scene last said' end)) marks goes;
   }
-  hears_all exchanged (Err fault) first heard last said told_to said' stream end asked frame held told handed hears hands tells notes marks goes = tt
+  hears_all exchanged (Err fault) first heard last said told_to said' stream end asked frame held told shown handed hears noted hands tells notes marks goes = tt
 
   -- the latest root was refused, which is told
   pub finds_refused : {A E : Type 0} (result : Result A E) (held : ℕ) (client after : Client) (frame : Frame) (told : Report) (empty now said said' : Said) → report_of empty ≡ silent → now.status ≢ 0

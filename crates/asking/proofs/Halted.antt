@@ -15,6 +15,7 @@ use Rattle.asking.specs.declared.ask_fault.AskFault.TheVariants.{NoReply, OutOfM
 use Rattle.asking.specs.declared.said.Said.{Said}
 use Rattle.asking.specs.Asking.{GoesSomeAbove, Hands, HearsSome, Notes}
 use Rattle.asking.specs.Checking.{HearsFrame}
+use Rattle.asking.specs.FinalBindings.{NotesHeard}
 use Rattle.asking.specs.Joining.{BeginsAt, BeginsSomeAt, WatchesSome, IsJoined, IsUnwatched}
 use Rattle.asking.specs.Reports.{Report, report_of, told_after}
 use Rattle.asking.specs.Scenes.{HaltsAfter, Scene, scene}
@@ -24,7 +25,7 @@ use Rattle.asking.proofs.Joined.{scene_of}
 
 -- no reply came, and nothing changed
 pub halts_here : {H V S T : Type 0} (asker : Asker H V S) (said : Said) (stream : T) (IsReached : Scene T → Type 0) (fault : AskFault) → IsReached (scene asker said stream) → HaltsAfter IsReached fault asker said
-halts_here asker said stream IsReached fault is = (scene asker said stream, is, (refl, λ none. (refl, refl)))
+halts_here asker said stream IsReached fault is = (scene asker said stream, is, (refl, λ none. (refl, refl, refl)))
 
 no-memory : OutOfMemory ≢ NoReply
 no-memory same = search (rules, same)
@@ -46,40 +47,42 @@ module _ {H V S T : Type 0} (hash : List ℕ → List ℕ) (accepted verified : 
     -- a frame was heard, and perhaps told
     pub halts_hearing : (fault : AskFault) (last : Asker H V S) (said' : Said) → fault ≢ NoReply → fault ≡ OutOfMemory
         → (last.changes.items ≡ first.changes.items) ⊎ Notes asked first.client.promises last.client.promises first.changes.items last.changes.items
-        → ((report_of said' ≡ report_of said) × (last.changes.items ≡ first.changes.items)) ⊎ ((told : Report) × HearsFrame hash accepted verified held first.client asked frame told last.client × (report_of said' ≡ told_after (report_of said) told))
+        → ((report_of said' ≡ report_of said) × (last.changes.items ≡ first.changes.items)) ⊎ ((told : Report) × (shown : Report) × HearsFrame hash accepted verified held first.client asked frame told last.client
+        × NotesHeard hash accepted last.client asked frame told.status first.finals shown last.finals × (report_of said' ≡ told_after (report_of said) (told_after told shown)))
         → HaltsAfter (HearsSome hash accepted verified exchanged fault first.marks.items held asked frame first.changes.items last.changes.items (scene first said stream)) fault last said'
     halts_hearing fault last said' not out noted (inl (same, none)) = (scene first said stream, inl (none, refl), (same, λ none. absurd (not none)))
-    halts_hearing fault last said' not out noted (inr (told, hears, tells)) =
-        let reached : Scene T = record { client = last.client; monitors = first.monitors.items; told = report_of said'; stream = stream } in
+    halts_hearing fault last said' not out noted (inr (told, shown, hears, notes_it, tells)) =
+        let reached : Scene T = record { client = last.client; monitors = first.monitors.items; finals = last.finals; told = report_of said'; stream = stream } in
         let notes : (last.changes.items ≡ first.changes.items) ⊎ ((fault ≡ OutOfMemory) × Notes asked first.client.promises last.client.promises first.changes.items last.changes.items) = elim noted [
           | inl none ↦ inl none
           | inr more ↦ inr (out, more)
         ] in
-        (reached, inr (inl (notes, told, hears, tells, refl, refl)), (refl, λ none. absurd (not none)))
+        (reached, inr (inl (notes, told, hears, (shown, notes_it, tells), refl, refl)), (refl, λ none. absurd (not none)))
 
     -- it was, and monitors and promises went on
-    pub halts_going : {A : Type 0} (result : Result A AskFault) (heard last : Asker H V S) (told_to said' : Said) (told handed : Report)
+    pub halts_going : {A : Type 0} (result : Result A AskFault) (heard last : Asker H V S) (told_to said' : Said) (told shown handed : Report)
         → HearsFrame hash accepted verified held first.client asked frame told heard.client
+        → NotesHeard hash accepted heard.client asked frame told.status first.finals shown heard.finals
         → Hands hash accepted verified asked frame.body first.client.promises heard.client.promises first.monitors.items handed heard.monitors.items
-        → report_of told_to ≡ told_after (told_after (report_of said) told) handed
+        → report_of told_to ≡ told_after (told_after (report_of said) (told_after told shown)) handed
         → Notes asked first.client.promises heard.client.promises first.changes.items last.changes.items → heard.marks ≡ first.marks
         → IfErr result (λ fault. HaltsAfter (GoesSomeAbove hash accepted verified exchanged heard.marks.items held (scene heard told_to stream)) fault last said')
         → IfErr result (λ fault. HaltsAfter (HearsSome hash accepted verified exchanged fault first.marks.items held asked frame first.changes.items last.changes.items (scene first said stream)) fault last said')
-    halts_going (Ok done) heard last told_to said' told handed hears hands tells notes same halts = tt
-    halts_going (Err fault) heard last told_to said' told handed hears hands tells notes same (reached, goes, halts) =
+    halts_going (Ok done) heard last told_to said' told shown handed hears noted hands tells notes same halts = tt
+    halts_going (Err fault) heard last told_to said' told shown handed hears noted hands tells notes same (reached, goes, halts) =
         let there : Scene T = scene heard told_to stream in
         let above = subst (λ (m : Vec Mark Global). GoesSomeAbove hash accepted verified exchanged m.items held there reached) same goes in
-        (reached, inr (inr (there, record { told = told; hears = hears; handed = handed; hands = hands; tells = tells; stream = refl }, notes, above)), halts)
+        (reached, inr (inr (there, record { told = told; hears = hears; shown = shown; notes = noted; handed = handed; hands = hands; tells = tells; stream = refl }, notes, above)), halts)
 
   module _ (key : List ℕ) (promised : List SignedPromise) (name : List ℕ) (given : Option BoundKey) (asker : Asker H V S) (said : Said) (stream : T) (first : SignedRoot) where
     -- a monitor was added, and took some steps
-    pub halts_stepping : {A : Type 0} (marks : List Mark) (result : Result A AskFault) (added last : Asker H V S) (said' : Said) (monitor : Monitor) (place : ℕ) → added.client ≡ asker.client
+    pub halts_stepping : {A : Type 0} (marks : List Mark) (result : Result A AskFault) (added last : Asker H V S) (said' : Said) (monitor : Monitor) (place : ℕ) → added.client ≡ asker.client → added.finals ≡ asker.finals
         → added.monitors.items ≡ asker.monitors.items ++ monitor ∷ [] → place ≡ length asker.monitors.items → IsJoined hash accepted verified marks key promised asker.client.chain first name given monitor
         → IfErr result (λ fault. HaltsAfter (StepsSome hash accepted exchanged (scene added said stream) place) fault last said')
         → IfErr result (λ fault. HaltsAfter (BeginsSomeAt hash accepted verified exchanged marks key promised name given first (scene asker said stream)) fault last said')
-    halts_stepping marks (Ok done) added last said' monitor place client monitors at begun halts = tt
-    halts_stepping marks (Err fault) added last said' monitor place client monitors at begun (reached, steps, halts) =
-        let same = scene_of added.client asker.client added.monitors.items (asker.monitors.items ++ monitor ∷ []) (report_of said) (report_of said) stream client monitors refl in
+    halts_stepping marks (Ok done) added last said' monitor place client finals monitors at begun halts = tt
+    halts_stepping marks (Err fault) added last said' monitor place client finals monitors at begun (reached, steps, halts) =
+        let same = scene_of added.client asker.client added.monitors.items (asker.monitors.items ++ monitor ∷ []) added.finals asker.finals (report_of said) (report_of said) stream client monitors finals refl in
         let here = subst (λ (n : ℕ). StepsSome hash accepted exchanged (scene added said stream) n reached) at steps in
         (reached, inr (monitor, begun, subst (λ (s : Scene T). StepsSome hash accepted exchanged s (length asker.monitors.items) reached) same here), halts)
 

@@ -9,6 +9,8 @@ use Rattle.wire.specs.Requests.{RequestContent, Put, Query, Turn}
 use Rattle.asking.specs.declared.said.Said.{Said}
 use Rattle.asking.specs.Asking.{handed_told, Hands, HandsAll, HandsTo, IsChange}
 use Rattle.asking.specs.Reports.{Report, Tells, report_of, silent, told_after, worse}
+use Rattle.asking.proofs.Going.{told_onto}
+use Rattle.asking.proofs.Telling.{worse_none}
 use Rattle.play.proofs.Moved.{AreMoved, moved-begin, moved-step}
 
 worse-zero : (status : ℕ) → worse status 0 ≡ status
@@ -23,6 +25,22 @@ told_silent before = ap (λ (xs : List ℕ). let t : Report = record { lines = x
 pub report_silent : (said : Said) → said.text.items ≡ [] → said.status ≡ 0 → report_of said ≡ silent
 report_silent said text status = ap (λ (xs : List ℕ). let t : Report = record { lines = xs; status = said.status } in t) text
     ∙ ap (λ (n : ℕ). let t : Report = record { lines = []; status = n } in t) status
+
+-- it is told behind nothing
+pub told_alone : (told : Report) → told_after silent told ≡ told
+told_alone told = ap (λ (n : ℕ). let t : Report = record { lines = told.lines; status = n } in t) (worse_none told.status)
+
+-- two reports of one that had said nothing, which was then joined
+pub told_both : (empty now noted said said' : Said) (told shown : Report) → report_of empty ≡ silent → Tells empty told now → Tells now shown noted → Tells said (report_of noted) said'
+    → report_of said' ≡ told_after (report_of said) (told_after told shown)
+told_both empty now noted said said' told shown quiet first second joined =
+    let one : report_of now ≡ told = told_onto empty now told first ∙ ap (λ (r : Report). told_after r told) quiet ∙ told_alone told in
+    let both : report_of noted ≡ told_after told shown = told_onto now noted shown second ∙ ap (λ (r : Report). told_after r shown) one in
+    told_onto said said' (report_of noted) joined ∙ ap (λ (r : Report). told_after (report_of said) r) both
+
+-- nothing is said
+pub tells_silent : (said : Said) → Tells said silent said
+tells_silent said = (sym (append-nil said.text.items), sym (worse-zero said.status))
 
 abbrev pub Anything : Monitor → Monitor → Type 0
 Anything before after = Unit {0}

@@ -20,6 +20,7 @@ use Rattle.wire.specs.Requests.{RequestContent}
 use Rattle.asking.specs.declared.asker.Asker.{Asker}
 use Rattle.memory.specs.declared.mark.Mark.{Mark}
 use Rattle.asking.specs.declared.said.Said.{Said}
+use Rattle.asking.specs.FinalBindings.{Finals}
 use Rattle.asking.specs.Joining.{noted_for, AllHand, BeginsAt, WatchesNew, IsFirstAfter, IsJoined, IsLatest, IsLeftToWatch, IsUnwatched, StartsFrom, watched_told}
 use Rattle.asking.specs.declared.joining.ToWatch.{ToWatch}
 use Rattle.asking.specs.declared.joining.ToWatch.TheVariants.{FromRoot, Nothing}
@@ -81,35 +82,38 @@ module _ (hash : List ℕ → List ℕ) (accepted verified : List ℕ → List �
   hands_behind [] more before middle after same behind = subst (λ (m : Monitor). AllHand hash accepted verified more m after) same behind
   hands_behind (signed ∷ promises) more before middle after (why, next, hands, rest) behind = (why, next, hands, hands_behind promises more next middle after rest behind)
 
-pub scene_of : {T : Type 0} (client client' : Client) (monitors monitors' : List Monitor) (told told' : Report) (stream : T) → client ≡ client' → monitors ≡ monitors' → told ≡ told'
-    → ◌≡◌ {A = Scene T} (record { client = client; monitors = monitors; told = told; stream = stream }) (record { client = client'; monitors = monitors'; told = told'; stream = stream })
-scene_of {T} client client' monitors monitors' told told' stream one other third =
-    ap (λ (x : Client). let s : Scene T = record { client = x; monitors = monitors; told = told; stream = stream } in s) one
-    ∙ ap (λ (x : List Monitor). let s : Scene T = record { client = client'; monitors = x; told = told; stream = stream } in s) other
-    ∙ ap (λ (x : Report). let s : Scene T = record { client = client'; monitors = monitors'; told = x; stream = stream } in s) third
+pub scene_of : {T : Type 0} (client client' : Client) (monitors monitors' : List Monitor) (finals finals' : Finals) (told told' : Report) (stream : T)
+    → client ≡ client' → monitors ≡ monitors' → finals ≡ finals' → told ≡ told'
+    → ◌≡◌ {A = Scene T} (record { client = client; monitors = monitors; finals = finals; told = told; stream = stream })
+    (record { client = client'; monitors = monitors'; finals = finals'; told = told'; stream = stream })
+scene_of {T} client client' monitors monitors' finals finals' told told' stream one other third fourth =
+    ap (λ (x : Client). let s : Scene T = record { client = x; monitors = monitors; finals = finals; told = told; stream = stream } in s) one
+    ∙ ap (λ (x : List Monitor). let s : Scene T = record { client = client'; monitors = x; finals = finals; told = told; stream = stream } in s) other
+    ∙ ap (λ (x : Finals). let s : Scene T = record { client = client'; monitors = monitors'; finals = x; told = told; stream = stream } in s) third
+    ∙ ap (λ (x : Report). let s : Scene T = record { client = client'; monitors = monitors'; finals = finals'; told = x; stream = stream } in s) fourth
 
 module _ {H V S T : Type 0} (hash : List ℕ → List ℕ) (accepted verified : List ℕ → List ℕ → List ℕ → Type 0) (exchanged : T → RequestContent → Frame → T → Type 0) where
   module _ (key : List ℕ) (promised : List SignedPromise) (name : List ℕ) (given : Option BoundKey) (asker : Asker H V S) (said : Said) (stream : T) (first : SignedRoot) where
     -- a monitor was added, and stepped
-    pub joins : {A E : Type 0} (marks : List Mark) (result : Result A E) (added last : Asker H V S) (said' : Said) (stream' : T) (monitor : Monitor) (place : ℕ) → added.client ≡ asker.client
+    pub joins : {A E : Type 0} (marks : List Mark) (result : Result A E) (added last : Asker H V S) (said' : Said) (stream' : T) (monitor : Monitor) (place : ℕ) → added.client ≡ asker.client → added.finals ≡ asker.finals
         → added.monitors.items ≡ asker.monitors.items ++ monitor ∷ [] → place ≡ length asker.monitors.items → IsJoined hash accepted verified marks key promised asker.client.chain first name given monitor
         → OnOk result ((count : ℕ) × StepsThrough hash accepted exchanged count (scene added said stream) place (scene last said' stream'))
         → OnOk result (BeginsAt hash accepted verified exchanged marks key promised name given first (scene asker said stream) (scene last said' stream'))
-    joins marks (Ok done) added last said' stream' monitor place client monitors at begun (count, steps) =
-        let same = scene_of added.client asker.client added.monitors.items (asker.monitors.items ++ monitor ∷ []) (report_of said) (report_of said) stream client monitors refl in
+    joins marks (Ok done) added last said' stream' monitor place client finals monitors at begun (count, steps) =
+        let same = scene_of added.client asker.client added.monitors.items (asker.monitors.items ++ monitor ∷ []) added.finals asker.finals (report_of said) (report_of said) stream client monitors finals refl in
         let here = subst (λ (n : ℕ). StepsThrough hash accepted exchanged count (scene added said stream) n (scene last said' stream')) at steps in
         inl (monitor, begun, (count, subst (λ (s : Scene T). StepsThrough hash accepted exchanged count s (length asker.monitors.items) (scene last said' stream')) same here))
-    joins marks (Err fault) added last said' stream' monitor place client monitors at begun steps = tt
+    joins marks (Err fault) added last said' stream' monitor place client finals monitors at begun steps = tt
 
     -- a root was refused
-    pub joins_not : (marks : List Mark) (last : Asker H V S) (said' : Said) (why : Refusal) → last.client ≡ asker.client → last.monitors.items ≡ asker.monitors.items
+    pub joins_not : (marks : List Mark) (last : Asker H V S) (said' : Said) (why : Refusal) → last.client ≡ asker.client → last.monitors.items ≡ asker.monitors.items → last.finals ≡ asker.finals
         → why ≢ Memory → StartsFrom hash verified asker.client.chain key first (Err why) → Tells said (client_refuses (codes "client refuses root") why) said'
         → BeginsAt hash accepted verified exchanged marks key promised name given first (scene asker said stream) (scene last said' stream)
-    joins_not marks last said' why client monitors known starts tells = inr (
+    joins_not marks last said' why client monitors finals known starts tells = inr (
       why,
       known,
       starts,
-      scene_of last.client asker.client last.monitors.items asker.monitors.items (report_of said') (told_after (report_of said) (client_refuses (codes "client refuses root") why)) stream client monitors
+      scene_of last.client asker.client last.monitors.items asker.monitors.items last.finals asker.finals (report_of said') (told_after (report_of said) (client_refuses (codes "client refuses root") why)) stream client monitors finals
           (told_onto said said' (client_refuses (codes "client refuses root") why) tells),
     )
 
@@ -130,6 +134,6 @@ module _ {H V S T : Type 0} (hash : List ℕ → List ℕ) (accepted verified : 
       (
         epoch,
         marked,
-        scene_of asker.client asker.client asker.monitors.items asker.monitors.items (report_of said') (told_after (report_of said) (watched_told name epoch)) stream refl refl (told_onto said said' (watched_told name epoch) tells),
+        scene_of asker.client asker.client asker.monitors.items asker.monitors.items asker.finals asker.finals (report_of said') (told_after (report_of said) (watched_told name epoch)) stream refl refl refl (told_onto said said' (watched_told name epoch) tells),
       ),
     )

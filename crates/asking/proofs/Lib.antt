@@ -3,6 +3,8 @@ pub mod Asked
 pub mod Catching
 pub mod Caught
 pub mod ChainRoots
+pub mod FinalsNoted
+pub mod FinalsShown
 pub mod Going
 pub mod Halted
 pub mod Handed

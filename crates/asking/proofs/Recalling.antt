@@ -51,7 +51,7 @@ module _ {H V S T : Type 0} (hash : List ℕ → List ℕ) (accepted verified : 
     recalled-is : (asker : Asker H V S) (said middle : Said) (stream : T) (again : Report) → Tells said again middle
         → ◌≡◌ {A = Scene T} (scene asker middle stream) (record (scene asker said stream) { told = told_after (report_of said) again })
     recalled-is asker said middle stream again tells =
-        scene_of asker.client asker.client asker.monitors.items asker.monitors.items (report_of middle) (told_after (report_of said) again) stream refl refl (told_onto said middle again tells)
+        scene_of asker.client asker.client asker.monitors.items asker.monitors.items asker.finals asker.finals (report_of middle) (told_after (report_of said) again) stream refl refl refl (told_onto said middle again tells)
 
     pub begins_recalled : {A E : Type 0} (result : Result A E) (asker last : Asker H V S) (said middle said' : Said) (stream stream' : T) → (again : Report) × TellsAlarms name known again × Tells said again middle
         → OnOk result (WatchesNew hash accepted verified exchanged marks key promised name given (scene asker middle stream) (scene last said' stream'))

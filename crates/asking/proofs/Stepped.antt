@@ -9,12 +9,14 @@ use Rattle.wire.specs.Requests.{RequestContent, Query}
 use Rattle.asking.specs.declared.asker.Asker.{Asker}
 use Rattle.asking.specs.declared.ask_fault.AskFault.{AskFault}
 use Rattle.asking.specs.declared.said.Said.{Said}
-use Rattle.asking.specs.Reports.{Tells, report_of}
+use Rattle.asking.specs.FinalBindings.{NotesReply}
+use Rattle.asking.specs.Reports.{Report, Tells, report_of, silent, told_after}
 use Rattle.memory.specs.declared.mark.Mark.{Mark}
 use Rattle.asking.specs.Scenes.{GivesBody, HaltsAfter, Scene, scene}
 use Rattle.asking.specs.Visiting.{TestsAll, TestsSome}
 use Rattle.asking.specs.Watching.{AllStep, GoesOn, GoesSome, SomeStep, StepsOnce, StepsSome, StepsThrough, WatchesAt, WatchesBy}
 use Rattle.asking.proofs.Going.{told_onto}
+use Rattle.asking.proofs.Handed.{told_silent}
 
 same-some : {X : Type 0} (x y : X) (o : Option X) → o ≡ Some x → o ≡ Some y → x ≡ y
 same-some x y o one other = search (rules, sym one ∙ other)
@@ -46,18 +48,21 @@ module _ {H V S T : Type 0} (hash : List ℕ → List ℕ) (accepted : List ℕ 
           told = given.0;
           watched = monitor;
           shows = inl (given.1, refl, refl);
-          tells = told_onto said said' given.0 given.2;
+          shown = silent;
+          notes = inl (given.1, refl, refl);
+          tells = told_onto said said' given.0 given.2 ∙ ap (λ (r : Report). told_after (report_of said) r) (sym (told_silent given.0));
           monitors = set_to_itself asker.monitors.items place monitor at;
           client = refl;
         }))
 
     -- the frame was one, and the monitor watched by it, or refused it
-    pub steps_some : (said' said'' : Said) (body : List ℕ) (went : Bool) (monitors' : List Monitor) → slice_get asker.monitors.items place ≡ Some monitor
+    pub steps_some : (empty now said' said'' : Said) (body : List ℕ) (went : Bool) (monitors' : List Monitor) (last : Asker H V S) (shown : Report) → last.client ≡ asker.client → last.monitors.items ≡ monitors'
+        → NotesReply hash accepted asker.client.chain spelled body asker.finals shown last.finals → ((told : Report) → Tells empty told now → report_of said'' ≡ told_after (report_of said') (told_after told shown)) → slice_get asker.monitors.items place ≡ Some monitor
         → IsNextEpoch monitor (Some epoch) → spelled ≡ monitor.name → exchanged stream (Query (Lookup spelled epoch)) frame later
-        → GivesBody (Query (Lookup spelled epoch)) frame said (Some body) said' → WatchesAt hash accepted asker.monitors.items place epoch body said' went said'' monitors'
-        → StepsOnce hash accepted exchanged (scene asker said stream) place went (record { client = asker.client; monitors = monitors'; told = report_of said''; stream = later })
-    steps_some said' said'' body went monitors' at next named exchange gives (inl (none, not, still, same)) = absurd (none-some monitor (slice_get asker.monitors.items place) none at)
-    steps_some said' said'' body went monitors' at next named exchange gives (inr (found, watched, there, (told, watches, tells), set)) =
+        → GivesBody (Query (Lookup spelled epoch)) frame said (Some body) said' → WatchesAt hash accepted asker.monitors.items place epoch body empty went now monitors'
+        → StepsOnce hash accepted exchanged (scene asker said stream) place went (scene last said'' later)
+    steps_some empty now said' said'' body went monitors' last shown same_client watchers noted joined at next named exchange gives (inl (none, not, still, same)) = absurd (none-some monitor (slice_get asker.monitors.items place) none at)
+    steps_some empty now said' said'' body went monitors' last shown same_client watchers noted joined at next named exchange gives (inr (found, watched, there, (told, watches, tells), set)) =
         let given = subst (λ (n : List ℕ). GivesBody (Query (Lookup n epoch)) frame said (Some body) said') named gives in
         let same : found ≡ monitor = same-some found monitor (slice_get asker.monitors.items place) there at in
         let by_this = subst (λ (one : Monitor). WatchesBy hash accepted one epoch body went told watched) same watches in
@@ -71,9 +76,15 @@ module _ {H V S T : Type 0} (hash : List ℕ → List ℕ) (accepted : List ℕ 
           told = told;
           watched = watched;
           shows = inr (given.0, subst (λ (b : List ℕ). WatchesBy hash accepted monitor epoch b went told watched) given.1 by_this);
-          tells = told_onto said said'' told (subst (λ (s : Said). Tells s told said'') given.2 tells);
-          monitors = set;
-          client = refl;
+          shown = shown;
+          notes = inr (
+            given.0,
+            subst (λ (n : List ℕ). NotesReply hash accepted asker.client.chain n frame.body asker.finals shown last.finals) named
+                (subst (λ (b : List ℕ). NotesReply hash accepted asker.client.chain spelled b asker.finals shown last.finals) given.1 noted),
+          );
+          tells = joined told tells ∙ ap (λ (s : Said). told_after (report_of s) (told_after told shown)) given.2;
+          monitors = watchers ∙ set;
+          client = same_client;
         }))
 
 module _ {T : Type 0} (hash : List ℕ → List ℕ) (accepted : List ℕ → List ℕ → List ℕ → Type 0) (exchanged : T → RequestContent → Frame → T → Type 0) where

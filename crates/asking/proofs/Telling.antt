@@ -7,7 +7,7 @@ use Rattle.asking.specs.declared.said.Said.{Said}
 use Rattle.asking.specs.Refused.{client_refuses, evidence_told, refuses_text}
 use Rattle.asking.specs.Reports.{Report, Tells, refused, report_of, worse}
 
-worse-worse : (one two three : ℕ) → worse (worse one two) three ≡ worse one (worse two three)
+pub worse-worse : (one two three : ℕ) → worse (worse one two) three ≡ worse one (worse two three)
 worse-worse one two three = grind arith
 
 -- the number of a refusal behind its evidence

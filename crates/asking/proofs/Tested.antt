@@ -1,10 +1,11 @@
 -- Promises that were tested.
-use Rattle.std.proofs.Common.{◌≡◌, ℕ, suc, Bool, false, if◌then◌else◌, List, Option, Some, None, Global, Vec, refl, subst, inl, inr}
+use Rattle.std.proofs.Common.{◌≡◌, ◌∙◌, ℕ, suc, Bool, false, if◌then◌else◌, List, Option, Some, None, Global, Vec, ap, refl, subst, sym, inl, inr}
 use Rattle.std.specs.Prelude.{slice_get}
 use Rattle.commands.specs.Operations.{Lookup}
 use Rattle.rootchain.specs.declared.signed_promise.SignedPromise.{SignedPromise}
 use Rattle.client.specs.Clients.{Client}
 use Rattle.client.specs.Dues.{Dues, IsDueEpoch}
+use Rattle.monitor.specs.Monitors.{Monitor}
 use Rattle.wire.specs.Frames.{Frame}
 use Rattle.wire.specs.Requests.{RequestContent, Query}
 use Rattle.asking.specs.declared.asker.Asker.{Asker}
@@ -12,9 +13,11 @@ use Rattle.memory.specs.declared.mark.Mark.{Mark}
 use Rattle.asking.specs.declared.said.Said.{Said}
 use Rattle.asking.specs.Scenes.{GivesBody, Scene, scene}
 use Rattle.asking.specs.Testing.{due_told, TellsDue}
-use Rattle.asking.specs.Reports.{Tells, report_of}
+use Rattle.asking.specs.FinalBindings.{NotesReply}
+use Rattle.asking.specs.Reports.{Report, Tells, report_of, silent, told_after}
 use Rattle.asking.specs.Visiting.{AwaitsMonitor, TestsName, Visits}
 use Rattle.asking.proofs.Going.{told_onto}
+use Rattle.asking.proofs.Handed.{told_silent}
 
 module _ {H V S T : Type 0} (hash : List ℕ → List ℕ) (accepted : List ℕ → List ℕ → List ℕ → Type 0) (exchanged : T → RequestContent → Frame → T → Type 0) where
   module _ (asker : Asker H V S) (said : Said) (stream : T) (name : List ℕ) (epoch : ℕ) (frame : Frame) (later : T) where
@@ -29,25 +32,34 @@ module _ {H V S T : Type 0} (hash : List ℕ → List ℕ) (accepted : List ℕ 
           exchange = exchange;
           told = given.0;
           shows = inl (given.1, refl, refl);
-          tells = told_onto said said' given.0 given.2;
+          shown = silent;
+          notes = inl (given.1, refl, refl);
+          tells = told_onto said said' given.0 given.2 ∙ ap (λ (r : Report). told_after (report_of said) r) (sym (told_silent given.0));
           monitors = refl;
         })
 
     -- the frame was one, and this is what comes of the test
-    pub tests_some : (said' said'' : Said) (body : List ℕ) (kept : Bool) (client' : Client) → IsDueEpoch asker.client name (Some epoch)
+    pub tests_some : (empty now said' said'' : Said) (body : List ℕ) (kept : Bool) (client' : Client) (last : Asker H V S) (shown : Report) → last.client ≡ client' → last.monitors ≡ asker.monitors
+        → NotesReply hash accepted client'.chain name body asker.finals shown last.finals → ((told : Report) → Tells empty told now → report_of said'' ≡ told_after (report_of said') (told_after told shown)) → IsDueEpoch asker.client name (Some epoch)
         → exchanged stream (Query (Lookup name epoch)) frame later → GivesBody (Query (Lookup name epoch)) frame said (Some body) said'
-        → TellsDue hash accepted asker.client name body said' kept said'' client'
-        → TestsName hash accepted exchanged (scene asker said stream) name kept (record { client = client'; monitors = asker.monitors.items; told = report_of said''; stream = later })
-    tests_some said' said'' body kept client' due exchange given (found, dues, was, tells) =
+        → TellsDue hash accepted asker.client name body empty kept now client'
+        → TestsName hash accepted exchanged (scene asker said stream) name kept (scene last said'' later)
+    tests_some empty now said' said'' body kept client' last shown same watchers noted joined due exchange given (found, dues, was, tells) =
         inr (record {
           epoch = epoch;
           due = due;
           frame = frame;
           exchange = exchange;
           told = due_told found;
-          shows = inr (given.0, (found, subst (λ (b : List ℕ). Dues hash accepted asker.client name b found client') given.1 dues, was, refl));
-          tells = told_onto said said'' (due_told found) (subst (λ (s : Said). Tells s (due_told found) said'') given.2 tells);
-          monitors = refl;
+          shows = inr (given.0, (found, subst (λ (c : Client). Dues hash accepted asker.client name frame.body found c) (sym same) (subst (λ (b : List ℕ). Dues hash accepted asker.client name b found client') given.1 dues), was, refl));
+          shown = shown;
+          notes = inr (
+            given.0,
+            subst (λ (c : Client). NotesReply hash accepted c.chain name frame.body asker.finals shown last.finals) (sym same)
+                (subst (λ (b : List ℕ). NotesReply hash accepted client'.chain name b asker.finals shown last.finals) given.1 noted),
+          );
+          tells = joined (due_told found) tells ∙ ap (λ (s : Said). told_after (report_of s) (told_after (due_told found) shown)) given.2;
+          monitors = ap (λ (all : Vec Monitor Global). all.items) watchers;
         })
 
 module _ {T : Type 0} (hash : List ℕ → List ℕ) (accepted : List ℕ → List ℕ → List ℕ → Type 0) (exchanged : T → RequestContent → Frame → T → Type 0) where

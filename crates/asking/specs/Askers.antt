@@ -4,6 +4,7 @@ use Rattle.rootchain.specs.declared.signed_promise.SignedPromise.{SignedPromise}
 use Rattle.client.specs.Clients.{Client}
 use Rattle.memory.specs.Memories.{Memory}
 use Rattle.monitor.specs.Monitors.{Monitor}
+use Rattle.asking.specs.FinalBindings.{Finals}
 use Rattle.asking.specs.declared.asker.Asker.{Asker}
 use Rattle.memory.specs.declared.mark.Mark.{Mark}
 
@@ -36,3 +37,7 @@ asker_earlier asker = asker.earlier.items
 -- what it was promised for those of this run
 abbrev pub asker_changes : {H V S : Type 0} → Asker H V S → List SignedPromise
 asker_changes asker = asker.changes.items
+
+-- what it knows of final bindings
+abbrev pub asker_finals : {H V S : Type 0} → Asker H V S → Finals
+asker_finals asker = asker.finals

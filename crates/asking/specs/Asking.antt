@@ -22,6 +22,7 @@ use Rattle.asking.specs.Answering.{IsAnswerAt}
 use Rattle.asking.specs.Catching.{CatchesSome, CatchesUp, StopsBelow}
 use Rattle.asking.specs.Checking.{HearsFrame}
 use Rattle.asking.specs.Exchanges.{HoldsFrame}
+use Rattle.asking.specs.FinalBindings.{NotesHeard}
 use Rattle.asking.specs.Scenes.{Scene}
 use Rattle.asking.specs.declared.reply.Reply.{Reply}
 use Rattle.client.specs.Clients.{Client}
@@ -112,13 +113,15 @@ module _ (hash : List ℕ → List ℕ) (accepted verified : List ℕ → List �
   Hands asked promise before after monitors told monitors' = (told ≡ silent) × (monitors' ≡ monitors)
 
   module _ {T : Type 0} (exchanged : T → RequestContent → Frame → T → Type 0) where
-    -- what the client makes of a frame, and what the monitors are given of it and refuse
+    -- what the client makes of a frame, what it shows of final bindings, and what the monitors are given of it and refuse
     pub record HearsOne (held : ℕ) (asked : RequestContent) (frame : Frame) (before after : Scene T) : Type 0 where
       pub told : Report
       pub hears : HearsFrame hash accepted verified held before.client asked frame told after.client
+      pub shown : Report
+      pub notes : NotesHeard hash accepted after.client asked frame told.status before.finals shown after.finals
       pub handed : Report
       pub hands : Hands asked frame.body before.client.promises after.client.promises before.monitors handed after.monitors
-      pub tells : after.told ≡ told_after (told_after before.told told) handed
+      pub tells : after.told ≡ told_after (told_after before.told (told_after told shown)) handed
       pub stream : after.stream ≡ before.stream
 
     -- if the chain has epochs above this one, the monitors watch, and the promises are tested
@@ -145,7 +148,7 @@ module _ (hash : List ℕ → List ℕ) (accepted verified : List ℕ → List �
       pub told : Report
       pub hears : HearsFrame hash accepted verified held before.client (Query Head) frame told after.client
       pub tells : after.told ≡ told_after before.told (unless_fine told)
-      pub same : (after.monitors ≡ before.monitors) × (after.stream ≡ before.stream)
+      pub same : (after.monitors ≡ before.monitors) × (after.stream ≡ before.stream) × (after.finals ≡ before.finals)
 
     -- the latest root is asked for, the chain gets as far as that, and it is heard
     pub record FindsHead (token : List ℕ) (before after : Scene T) : Type 0 where
@@ -163,7 +166,7 @@ module _ (hash : List ℕ → List ℕ) (accepted verified : List ℕ → List �
     -- that memory ran out
     abbrev pub HearsOnly : AskFault → ℕ → RequestContent → Frame → List SignedPromise → List SignedPromise → Scene T → Scene T → Type 0
     HearsOnly fault held asked frame noted noted' before after = ((noted' ≡ noted) ⊎ ((fault ≡ OutOfMemory) × Notes asked before.client.promises after.client.promises noted noted')) × (told : Report) × HearsFrame hash accepted verified held before.client asked frame told after.client
-        × (after.told ≡ told_after before.told told) × (after.monitors ≡ before.monitors) × (after.stream ≡ before.stream)
+        × ((shown : Report) × NotesHeard hash accepted after.client asked frame told.status before.finals shown after.finals × (after.told ≡ told_after before.told (told_after told shown))) × (after.monitors ≡ before.monitors) × (after.stream ≡ before.stream)
 
     -- the chain has epochs above this one, and monitors and promises are at some point
     abbrev pub GoesSomeAbove : List Mark → ℕ → Scene T → Scene T → Type 0

@@ -95,9 +95,9 @@ module _ (hash : List ℕ → List ℕ) (verified : List ℕ → List ℕ → Li
         ((head : SignedRoot) × IsHead before.client.chain head × (head.body.epoch ≡ 2 ^ 64 - 1) × (after ≡ before))
         ⊎ ((frame : Frame) × (stream : T) × AsksRoots before frame stream × (frame.body ≡ no_roots) × (after ≡ record before { stream = stream }))
     TakesList before true after = (frame : Frame) × AsksRoots before frame after.stream
-        × AllUpdate frame.body before.client before.monitors after.client after.monitors × (after.told ≡ before.told) × IsAbove before.client after.client
+        × AllUpdate frame.body before.client before.monitors after.client after.monitors × (after.told ≡ before.told) × IsAbove before.client after.client × (after.finals ≡ before.finals)
 
     -- the roots above the head are asked for, and a frame comes that stops it, which is told behind what was
     abbrev pub StopsList : Scene T → Scene T → Type 0
     StopsList before after = (head : SignedRoot) × IsHead before.client.chain head × (frame : Frame) × exchanged before.stream (asks_roots head) frame after.stream
-        × (told : Report) × StopsFollowing (asks_roots head) before.client before.monitors frame told after.client after.monitors × (after.told ≡ told_after before.told told)
+        × (told : Report) × StopsFollowing (asks_roots head) before.client before.monitors frame told after.client after.monitors × (after.told ≡ told_after before.told told) × (after.finals ≡ before.finals)

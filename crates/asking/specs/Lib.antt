@@ -4,8 +4,10 @@ pub mod Asking
 pub mod Catching
 pub mod Checking
 pub mod Exchanges
+pub mod FinalBindings
 pub mod Following
 pub mod Joining
+pub mod Noting
 pub mod Recalled
 pub mod Refused
 pub mod Scenes

@@ -17,18 +17,20 @@ use Rattle.asking.specs.declared.ask_fault.AskFault.{AskFault}
 use Rattle.asking.specs.declared.ask_fault.AskFault.TheVariants.{NoReply}
 use Rattle.asking.specs.declared.said.Said.{Said}
 use Rattle.asking.specs.Answering.{IsAnswerTo}
+use Rattle.asking.specs.FinalBindings.{Finals}
 use Rattle.asking.specs.Refused.{client_refuses, other_reply, refuses_text}
 use Rattle.asking.specs.Reports.{Report, Tells, refused, report_of, told_after}
 
--- the client and the monitors, what was told so far, and the stream to the directory
+-- the client and the monitors, what is known of final bindings, what was told so far, and the stream to the directory
 pub record Scene (T : Type 0) : Type 0 where
   pub client : Client
   pub monitors : List Monitor
+  pub finals : Finals
   pub told : Report
   pub stream : T
 
 abbrev pub scene : {H V S T : Type 0} → Asker H V S → Said → T → Scene T
-scene asker said stream = record { client = asker.client; monitors = asker.monitors.items; told = report_of said; stream = stream }
+scene asker said stream = record { client = asker.client; monitors = asker.monitors.items; finals = asker.finals; told = report_of said; stream = stream }
 
 -- a frame that is a response, and answers what was asked
 abbrev pub FrameAnswers : RequestContent → Frame → Type 0
@@ -76,11 +78,11 @@ abbrev pub StopsAtHead : {T : Type 0} → (List ℕ → List ℕ → List ℕ �
 StopsAtHead verified exchanged key before told after told' =
     (frame : Frame) × exchanged before (Query Head) frame after × ((now : Report) × StartsNone verified key frame now × (told' ≡ told_after told now))
 
--- A fault comes that nothing tells: all that was told so far was told in this scene. If no reply came, the
--- client and the monitors are also those of the scene; memory may run out between a change of theirs and what
--- is told of it.
+-- A fault comes that nothing tells: all that was told so far was told in this scene. If no reply came, the client,
+-- the monitors and what is known of final bindings are also those of the scene; memory may run out between a change of
+-- theirs and what is told of it.
 abbrev pub HaltsIn : {H V S T : Type 0} → AskFault → Scene T → Asker H V S → Said → Type 0
-HaltsIn fault reached asker said = (report_of said ≡ reached.told) × (fault ≡ NoReply → (asker.client ≡ reached.client) × (asker.monitors.items ≡ reached.monitors))
+HaltsIn fault reached asker said = (report_of said ≡ reached.told) × (fault ≡ NoReply → (asker.client ≡ reached.client) × (asker.monitors.items ≡ reached.monitors) × (asker.finals ≡ reached.finals))
 
 -- it comes in a scene to which completed steps lead
 abbrev pub HaltsAfter : {H V S T : Type 0} → (Scene T → Type 0) → AskFault → Asker H V S → Said → Type 0

@@ -11,6 +11,7 @@ use Rattle.wire.specs.Frames.{Frame}
 use Rattle.wire.specs.Requests.{RequestContent, Query}
 use Rattle.memory.specs.declared.mark.Mark.{Mark}
 use Rattle.asking.specs.Scenes.{Scene, FrameAnswers, IsUnanswered}
+use Rattle.asking.specs.Noting.{NotesAnswer}
 use Rattle.asking.specs.Testing.{due_told, was_kept}
 use Rattle.asking.specs.Reports.{Report, told_after}
 
@@ -40,7 +41,9 @@ module _ (hash : List ℕ → List ℕ) (accepted : List ℕ → List ℕ → Li
       pub exchange : exchanged before.stream (Query (Lookup name epoch)) frame after.stream
       pub told : Report
       pub shows : ShowsDue before.client name (Query (Lookup name epoch)) frame kept told after.client
-      pub tells : after.told ≡ told_after before.told told
+      pub shown : Report
+      pub notes : NotesAnswer hash accepted after.client.chain name (Query (Lookup name epoch)) frame told before.finals shown after.finals
+      pub tells : after.told ≡ told_after before.told (told_after told shown)
       pub monitors : after.monitors ≡ before.monitors
 
     -- whether the promise for a name is found kept: nothing is asked where none is due

@@ -14,6 +14,7 @@ use Rattle.wire.specs.Requests.{RequestContent, Query}
 use Rattle.memory.specs.declared.mark.Mark.{Mark}
 use Rattle.asking.specs.declared.said.Said.{Said}
 use Rattle.asking.specs.declared.said.TheConstants.{CAUGHT}
+use Rattle.asking.specs.Noting.{NotesAnswer}
 use Rattle.asking.specs.Refused.{client_refuses}
 use Rattle.asking.specs.Scenes.{Scene, FrameAnswers, IsUnanswered}
 use Rattle.asking.specs.Reports.{Report, Tells, told_after}
@@ -57,7 +58,9 @@ module _ (hash : List ℕ → List ℕ) (accepted : List ℕ → List ℕ → Li
       pub told : Report
       pub watched : Monitor
       pub shows : ShowsEpoch monitor epoch (Query (Lookup monitor.name epoch)) frame went told watched
-      pub tells : after.told ≡ told_after before.told told
+      pub shown : Report
+      pub notes : NotesAnswer hash accepted before.client.chain monitor.name (Query (Lookup monitor.name epoch)) frame told before.finals shown after.finals
+      pub tells : after.told ≡ told_after before.told (told_after told shown)
       pub monitors : after.monitors ≡ slice_set before.monitors place watched
       pub client : after.client ≡ before.client
 

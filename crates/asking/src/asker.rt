@@ -3,8 +3,9 @@ ghost use Rattle.rootchain.specs.Chains.{IsHead};
 ghost use Rattle.rootchain.specs.declared.signed_root.SignedRoot.{SignedRoot};
 ghost use Rattle.client.specs.Starting.{Starts};
 ghost use Rattle.memory.specs.Memories.{nothing};
-ghost use Rattle.asking.specs.Askers.{asker_changes, asker_client, asker_earlier, asker_key, asker_known, asker_marks, asker_monitors, asker_token};
+ghost use Rattle.asking.specs.Askers.{asker_changes, asker_client, asker_earlier, asker_finals, asker_key, asker_known, asker_marks, asker_monitors, asker_token};
 ghost use Rattle.asking.specs.Exchanges.{ExchangesFrames};
+ghost use Rattle.asking.specs.FinalBindings.{no_finals};
 ghost use Rattle.asking.specs.Reports.{report_of};
 ghost use Rattle.asking.specs.Scenes.{StartsAtHead, StopsAtHead};
 ghost use Rattle.asking.specs.declared.ask_fault.AskFault.TheVariants.{Stopped};
@@ -12,7 +13,7 @@ ghost use Rattle.asking.specs.declared.ask_fault.AskFault.TheVariants.{Stopped};
 use crate::answering::body_of;
 use crate::checking::tell_client;
 use crate::exchange::{exchange, frame_in};
-use crate::{AskFault, Said};
+use crate::{AskFault, Finals, Said};
 use client::{Client, Refusal};
 use encoding::Hash32;
 use memory::{Mark, Memory};
@@ -54,6 +55,8 @@ where
     pub earlier: Vec<SignedPromise>,
     /// What it was promised for those of this run.
     pub changes: Vec<SignedPromise>,
+    /// What it knows of final bindings, from earlier runs and from this one.
+    pub finals: Finals,
 }
 
 impl<H, V, S> Asker<H, V, S>
@@ -76,7 +79,7 @@ where
     ) -> Result<Self, Refusal>
         ensures ok { IfOk result (λ asker. Starts S.verified key root.now (Ok (asker_client asker))) }
         ensures keys { IfOk result (λ asker. (asker_key asker ≡ key) × (asker_token asker ≡ token)) }
-        ensures none { IfOk result (λ asker. (asker_monitors asker ≡ []) × (asker_marks asker ≡ []) × (asker_earlier asker ≡ []) × (asker_changes asker ≡ []) × (asker_known asker ≡ nothing)) }
+        ensures none { IfOk result (λ asker. (asker_monitors asker ≡ []) × (asker_marks asker ≡ []) × (asker_earlier asker ≡ []) × (asker_changes asker ≡ []) × (asker_known asker ≡ nothing) × (asker_finals asker ≡ no_finals)) }
         ensures err { IfErr result (λ why. Starts S.verified key root.now (Err why)) }
     {
         match Client::start(alloc, &checks.verifier, key, root) {
@@ -91,6 +94,7 @@ where
                 marks: Vec::new(alloc),
                 earlier: Vec::new(alloc),
                 changes: Vec::new(alloc),
+                finals: Finals::new(alloc),
             }),
             Err(why) => Err(why),
         }
@@ -111,7 +115,7 @@ where
     ) -> Result<Self, AskFault>
         ensures starts { IfOk result (λ asker. StartsAtHead S.verified (ExchangesFrames T.contents T.remaining) key stream.old (asker_client asker) stream.new) }
         ensures keys { IfOk result (λ asker. (asker_key asker ≡ key) × (asker_token asker ≡ token)) }
-        ensures none { IfOk result (λ asker. (asker_monitors asker ≡ []) × (asker_marks asker ≡ []) × (asker_earlier asker ≡ []) × (asker_changes asker ≡ []) × (asker_known asker ≡ nothing)) }
+        ensures none { IfOk result (λ asker. (asker_monitors asker ≡ []) × (asker_marks asker ≡ []) × (asker_earlier asker ≡ []) × (asker_changes asker ≡ []) × (asker_known asker ≡ nothing) × (asker_finals asker ≡ no_finals)) }
         ensures said { IfOk result (λ asker. said.new ≡ said.old) }
         ensures stops { IfErr result (λ fault. fault ≡ Stopped → StopsAtHead S.verified (ExchangesFrames T.contents T.remaining) key stream.old (report_of said.old) stream.new (report_of said.new)) }
         ensures halts { IfErr result (λ fault. fault ≢ Stopped → report_of said.new ≡ report_of said.old) }

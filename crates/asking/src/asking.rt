@@ -1,17 +1,19 @@
 // A question over a stream: what the client makes of its reply, and what follows from it.
-ghost use Rattle.std.specs.Prelude.{◌≡◌, ◌≢◌, ◌⊎◌, ◌↔◌, Err, IfErr, IfOk, IsTrue, OnErr, OnOk};
+ghost use Rattle.std.specs.Prelude.{◌≡◌, ◌≢◌, ◌⊎◌, ◌↔◌, Err, IfErr, IfOk, IsTrue, OnErr, OnOk, Option};
 ghost use Rattle.commands.specs.Operations.{Head};
 ghost use Rattle.wire.specs.Frames.{Frame};
 ghost use Rattle.wire.specs.FrameViews.{frame_seen};
 ghost use Rattle.wire.specs.Requests.{Query};
 ghost use Rattle.wire.specs.Responses.{response_seen};
 ghost use Rattle.play.specs.Scripts.{ask_seen, with_token};
-ghost use Rattle.asking.specs.Askers.{asker_changes, asker_client, asker_marks, asker_monitors, asker_token};
+ghost use Rattle.asking.specs.Askers.{asker_changes, asker_client, asker_finals, asker_marks, asker_monitors, asker_token};
 ghost use Rattle.asking.specs.Asking.{response_epoch, GoesOnAbove, GoesSomeAbove, Hands, HearsReply, HearsSome, IsChange, Notes, Sends, SpeaksOf};
 ghost use Rattle.asking.specs.Checking.{HearsFrame};
 ghost use Rattle.asking.specs.Exchanges.{ExchangesFrames, HoldsFrame, IsOneFrame};
+ghost use Rattle.asking.specs.FinalBindings.{change_told, with_change, LooksShow, NotesHeard, NotesLooked};
+ghost use Rattle.auditor.specs.declared.evidence.Evidence.{Evidence};
 ghost use Rattle.asking.specs.Scenes.{scene, HaltsAfter, Remains, StaysWhole};
-ghost use Rattle.asking.specs.Reports.{report_of, told_after, unless_fine, Report};
+ghost use Rattle.asking.specs.Reports.{report_of, told_after, unless_fine, Report, Tells};
 ghost use Rattle.asking.specs.declared.ask_fault.AskFault.TheVariants.{OutOfMemory, Stopped};
 
 use crate::answering::answers_at;
@@ -19,6 +21,8 @@ use crate::checking::hear;
 use crate::exchange::{exchange, frame_in};
 use crate::wanted::last_epoch;
 use crate::{AskFault, Asker, Reply, Said};
+use auditor::Evidence;
+use encoding::Name;
 use nodehash::NodeHash;
 use play::Ask;
 use sigiface::Verifier;
@@ -123,6 +127,7 @@ where
         ensures finds { (frame : Frame) → HoldsFrame reply.now.bytes.items frame → OnOk result ((told : Report) × HearsFrame H.digest_of V.accepted S.verified reply.now.held (asker_client self.old) (Query Head) frame told (asker_client self.new)
             × (report_of said.new ≡ told_after (report_of said.old) (unless_fine told))) }
         ensures monitors { asker_monitors self.new ≡ asker_monitors self.old }
+        ensures finals { asker_finals self.new ≡ asker_finals self.old }
         ensures stays { StaysWhole self.old self.new }
         ensures err { IfErr result (λ fault. fault ≢ Stopped) }
         ensures untold { OnErr result (report_of said.new ≡ report_of said.old) }
@@ -141,6 +146,7 @@ where
     ) -> Result<(), AllocError>
         ensures finds { OnOk result ((told : Report) × HearsFrame H.digest_of V.accepted S.verified held (self.old).client (Query Head) (frame_seen frame.now) told (self.new).client × (report_of said.new ≡ told_after (report_of said.old) (unless_fine told))) }
         ensures monitors { (self.new).monitors ≡ (self.old).monitors }
+        ensures finals { (self.new).finals ≡ (self.old).finals }
         ensures stays { StaysWhole self.old self.new }
         ensures untold { OnErr result (report_of said.new ≡ report_of said.old) }
     {
@@ -170,22 +176,112 @@ where
         frame: &FrameView<'_>,
         said: &mut Said,
     ) -> Result<(), AllocError>
-        ensures hears { OnOk result ((told : Report) × (handed : Report) × HearsFrame H.digest_of V.accepted S.verified held (self.old).client (ask_seen ask.now) (frame_seen frame.now) told (self.new).client
+        ensures hears { OnOk result ((told : Report) × (shown : Report) × (handed : Report) × HearsFrame H.digest_of V.accepted S.verified held (self.old).client (ask_seen ask.now) (frame_seen frame.now) told (self.new).client
+            × NotesHeard H.digest_of V.accepted (self.new).client (ask_seen ask.now) (frame_seen frame.now) told.status (self.old).finals shown (self.new).finals
             × Hands H.digest_of V.accepted S.verified (ask_seen ask.now) (frame_seen frame.now).body (self.old).client.promises (self.new).client.promises (self.old).monitors.items handed (self.new).monitors.items
-            × (report_of said.new ≡ told_after (told_after (report_of said.old) told) handed)) }
+            × (report_of said.new ≡ told_after (told_after (report_of said.old) (told_after told shown)) handed)) }
         ensures notes { OnOk result (Notes (ask_seen ask.now) (self.old).client.promises (self.new).client.promises (self.old).changes.items (self.new).changes.items) }
         ensures noted { ((self.new).changes.items ≡ (self.old).changes.items) ⊎ Notes (ask_seen ask.now) (self.old).client.promises (self.new).client.promises (self.old).changes.items (self.new).changes.items }
         ensures stays { Remains self.old self.new }
         ensures told { OnErr result (((report_of said.new ≡ report_of said.old) × ((self.new).changes.items ≡ (self.old).changes.items))
-            ⊎ ((told : Report) × HearsFrame H.digest_of V.accepted S.verified held (self.old).client (ask_seen ask.now) (frame_seen frame.now) told (self.new).client × (report_of said.new ≡ told_after (report_of said.old) told))) }
+            ⊎ ((told : Report) × (shown : Report) × HearsFrame H.digest_of V.accepted S.verified held (self.old).client (ask_seen ask.now) (frame_seen frame.now) told (self.new).client
+            × NotesHeard H.digest_of V.accepted (self.new).client (ask_seen ask.now) (frame_seen frame.now) told.status (self.old).finals shown (self.new).finals × (report_of said.new ≡ told_after (report_of said.old) (told_after told shown)))) }
     {
         let kept = self.client.promises().len();
-        let checks = &mut self.checks;
-        hear(self.alloc, &mut self.client, checks, held, ask, frame, said)?;
+        self.hear_noting(held, ask, frame, said)?;
         if !is_change(ask) || self.client.promises().len() <= kept {
             return Ok(());
         }
         self.hand_out(frame.body, said)
+    }
+
+    /// Tells what the client makes of a frame that came back, and behind it what that shows of a final binding, whole or
+    /// not at all.
+    fn hear_noting(
+        &mut self,
+        held: u64,
+        ask: &Ask,
+        frame: &FrameView<'_>,
+        said: &mut Said,
+    ) -> Result<(), AllocError>
+        ensures hears { OnOk result ((told : Report) × (shown : Report) × HearsFrame H.digest_of V.accepted S.verified held (self.old).client (ask_seen ask.now) (frame_seen frame.now) told (self.new).client
+            × NotesHeard H.digest_of V.accepted (self.new).client (ask_seen ask.now) (frame_seen frame.now) told.status (self.old).finals shown (self.new).finals × Tells said.old (told_after told shown) said.new) }
+        ensures monitors { (self.new).monitors ≡ (self.old).monitors }
+        ensures stays { StaysWhole self.old self.new }
+        ensures untold { OnErr result (report_of said.new ≡ report_of said.old) }
+    {
+        let mut now = Said::new(self.alloc);
+        let checks = &mut self.checks;
+        hear(
+            self.alloc,
+            &mut self.client,
+            checks,
+            held,
+            ask,
+            frame,
+            &mut now,
+        )?;
+        self.note_heard(ask, frame, &mut now)?;
+        said.join(now)
+    }
+
+    /// Notes a frame that came back, if the client accepted it as a reply to a look-up. What was told of it has the status so
+    /// far.
+    fn note_heard(
+        &mut self,
+        ask: &Ask,
+        frame: &FrameView<'_>,
+        said: &mut Said,
+    ) -> Result<(), AllocError>
+        ensures notes { OnOk result ((shown : Report) × NotesHeard H.digest_of V.accepted (self.old).client (ask_seen ask.now) (frame_seen frame.now) (said.old).status (self.old).finals shown (self.new).finals × Tells said.old shown said.new) }
+        ensures client { (self.new).client ≡ (self.old).client }
+        ensures monitors { (self.new).monitors ≡ (self.old).monitors }
+        ensures stays { StaysWhole self.old self.new }
+    {
+        match ask {
+            Ask::Lookup { name, .. } => self.note_looked(name, frame.body, said),
+            Ask::Put { .. } => Ok(()),
+            Ask::Promise { .. } => Ok(()),
+            Ask::History { .. } => Ok(()),
+            Ask::Head => Ok(()),
+            Ask::Turn { .. } => Ok(()),
+        }
+    }
+
+    /// Notes bytes that came back for a look-up of a name, unless they were refused.
+    fn note_looked(&mut self, name: &[u8], reply: &[u8], said: &mut Said) -> Result<(), AllocError>
+        ensures notes { OnOk result ((shown : Report) × NotesLooked H.digest_of V.accepted (self.old).client name.now reply.now (said.old).status (self.old).finals shown (self.new).finals × Tells said.old shown said.new) }
+        ensures client { (self.new).client ≡ (self.old).client }
+        ensures monitors { (self.new).monitors ≡ (self.old).monitors }
+        ensures stays { StaysWhole self.old self.new }
+    {
+        if said.status != 0 {
+            return Ok(());
+        }
+        let Ok(name) = Name::new(name) else {
+            return Ok(());
+        };
+        let had_none = self.finals.has_none(&name);
+        self.note(&name, reply, said)?;
+        // The kept reply shows all that two looks in the order of their epochs do.
+        if !self.finals.may_show_more(had_none, &name, reply) {
+            return Ok(());
+        }
+        self.tell_looks(name, said)
+    }
+
+    /// Tells what the looks of the client for a name show of a final binding.
+    fn tell_looks(&mut self, name: Name, said: &mut Said) -> Result<(), AllocError>
+        ensures tells { OnOk result ((made : Option Evidence) × LooksShow H.digest_of (self.old).client name made × ((self.new).finals ≡ with_change name made (self.old).finals) × Tells said.old (change_told made) said.new) }
+        ensures client { (self.new).client ≡ (self.old).client }
+        ensures monitors { (self.new).monitors ≡ (self.old).monitors }
+        ensures stays { StaysWhole self.old self.new }
+    {
+        let Some(broken) = self.client.finality(&name) else {
+            return Ok(());
+        };
+        self.finals
+            .tell(self.alloc, name, &Evidence::Final(broken), said)
     }
 
     /// If there are epochs above this one, the monitors watch those that are new, and the promises that are due

@@ -101,6 +101,7 @@ where
     fn take(&mut self, list: &[u8], said: &mut Said) -> Result<(), AskFault>
         ensures updates { OnOk result (AllUpdate H.digest_of S.verified list.now (self.old).client (self.old).monitors.items (self.new).client (self.new).monitors.items) }
         ensures said { OnOk result (said.new ≡ said.old) }
+        ensures finals { (self.new).finals ≡ (self.old).finals }
         ensures stays { StaysWhole self.old self.new }
         ensures refused { result ≡ Err Stopped → TellsRootRefusal (λ why. AnyRefuses H.digest_of S.verified list.now (self.old).client (self.old).monitors.items why (self.new).client (self.new).monitors.items) said.old said.new }
         ensures halts { IfErr result (λ fault. fault ≢ Stopped → (report_of said.new ≡ report_of said.old) × (fault ≢ NoReply)) }

@@ -137,6 +137,7 @@ where
         ensures begun { IfOk result (λ monitor. IsJoined H.digest_of V.accepted S.verified (self.old).marks.items (self.old).key (own_for (self.old).marks.items name.now (self.old).earlier.items (self.old).changes.items) (self.old).client.chain first.now name.now (option_map (λ key. key.now) key.entry) monitor) }
         ensures refused { IfErr result (λ why. why ≢ Memory → StartsFrom H.digest_of S.verified (self.old).client.chain (self.old).key first.now (Err why)) }
         ensures same { ((self.new).client ≡ (self.old).client) × ((self.new).monitors ≡ (self.old).monitors) × StaysWhole self.old self.new }
+        ensures finals { (self.new).finals ≡ (self.old).finals }
     {
         let own = client_from(self.alloc, &mut self.checks, &self.client, self.key, first)?;
         let (marks, earlier, changes) = (&self.marks, &self.earlier, &self.changes);

@@ -26,6 +26,7 @@ mod asker;
 mod asking;
 mod checking;
 mod exchange;
+mod finals;
 mod following;
 mod joining;
 mod laws;
@@ -39,6 +40,7 @@ mod watching;
 pub use ask_fault::AskFault;
 pub use asker::Asker;
 pub use checking::hear;
+pub use finals::{Finals, is_final_in};
 pub use following::MAX_LISTS;
 pub use laws::{
     lists_are_few, refusals_have_their_numbers, sent_roots_are_wanted, told_alarms_are_items,

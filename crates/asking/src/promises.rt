@@ -153,8 +153,12 @@ where
         let Some(found) = self.look_up(stream, name, epoch, said)? else {
             return Ok(false);
         };
+        let mut now = Said::new(self.alloc);
         let checks = &mut self.checks;
-        Ok(tell_due(self.alloc, &mut self.client, checks, name, &found, said)?)
+        let kept = tell_due(self.alloc, &mut self.client, checks, name, &found, &mut now)?;
+        self.note(name, &found, &mut now)?;
+        said.join(now)?;
+        Ok(kept)
     }
 }
 

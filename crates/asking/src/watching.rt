@@ -8,6 +8,7 @@ ghost use Rattle.rootchain.specs.declared.signed_promise.SignedPromise.{SignedPr
 ghost use Rattle.asking.specs.Askers.{asker_marks};
 ghost use Rattle.asking.specs.Asking.{handed_told, HandsAll, HandsTo, NotesLast};
 ghost use Rattle.asking.specs.Exchanges.{ExchangesFrames};
+ghost use Rattle.asking.specs.FinalBindings.{NotesReply};
 ghost use Rattle.asking.specs.Refused.{client_refuses};
 ghost use Rattle.asking.specs.Scenes.{scene, GivesBody, HaltsAfter, HaltsIn, Remains, StaysWhole};
 ghost use Rattle.asking.specs.Reports.{report_of, silent, Report, Tells};
@@ -74,6 +75,7 @@ where
     /// and gives it to each monitor of its name. What they refuse is told, whole or not at all.
     pub(crate) fn hand_out(&mut self, promise: &[u8], said: &mut Said) -> Result<(), AllocError>
         ensures client { (self.new).client ≡ (self.old).client }
+        ensures finals { (self.new).finals ≡ (self.old).finals }
         ensures hands { OnOk result ((signed : SignedPromise) → slice_get (self.old).client.promises (length (self.old).client.promises - 1) ≡ Some signed
             → (told : Report) × HandsAll H.digest_of V.accepted S.verified signed promise.now (self.old).monitors.items silent told (self.new).monitors.items × Tells said.old told said.new) }
         ensures untold { OnErr result (report_of said.new ≡ report_of said.old) }
@@ -136,8 +138,29 @@ where
         let Some(found) = self.look_up(stream, &name, epoch, said)? else {
             return Ok(false);
         };
+        let mut now = Said::new(self.alloc);
         let (monitors, checks) = (&mut self.monitors, &mut self.checks);
-        Ok(watch_at(self.alloc, monitors, place, checks, epoch, &found, said)?)
+        let went = watch_at(self.alloc, monitors, place, checks, epoch, &found, &mut now)?;
+        self.note(&name, &found, &mut now)?;
+        said.join(now)?;
+        Ok(went)
+    }
+
+    /// Notes bytes that came back for a name. What they show of a final binding is told.
+    pub(crate) fn note(
+        &mut self,
+        name: &Name,
+        reply: &[u8],
+        said: &mut Said,
+    ) -> Result<(), AllocError>
+        ensures notes { OnOk result ((told : Report) × NotesReply H.digest_of V.accepted (self.old).client.chain name.now reply.now (self.old).finals told (self.new).finals × Tells said.old told said.new) }
+        ensures err { OnErr result ((self.new).finals ≡ (self.old).finals) }
+        ensures client { (self.new).client ≡ (self.old).client }
+        ensures monitors { (self.new).monitors ≡ (self.old).monitors }
+        ensures stays { StaysWhole self.old self.new }
+    {
+        let (finals, checks) = (&mut self.finals, &mut self.checks);
+        finals.note(self.alloc, self.client.chain(), checks, name, reply, said)
     }
 
     /// Looks a name up at an epoch. Returns the body of the reply if it is an answer; else tells why it is none.

@@ -1,11 +1,11 @@
 -- Lists that take an element.
-use Rattle.std.proofs.Common.{◌≡◌, ◌≢◌, ℕ, suc, Bool, true, false, ◌<◌, List, [], ◌∷◌, ◌++◌, length, map, get_or, set, take, drop, All, Contains, refl, sym, ap, subst, ◌∙◌, inl}
+use Rattle.std.proofs.Common.{◌≡◌, ◌≢◌, ℕ, suc, Bool, true, false, ◌<◌, List, [], ◌∷◌, ◌++◌, length, map, get_or, set, take, drop, All, Any, Contains, refl, sym, ap, subst, ◌∙◌, inl}
 use Rattle.std.specs.Bool.{MatchBool}
 use Rattle.std.specs.List.{AllByRecursion}
 use Rattle.std.proofs.lemmas.List.{get_or_default, get_or-map, get_or-set_same, map-id, map-set, set-get_or, set_split}
 use Rattle.std.proofs.lemmas.List.Elements.{All-head, All-tail}
 use Rattle.memory.specs.Lists.{HasNoRepeat, Puts}
-use Rattle.memory.specs.Taking.{later}
+use Rattle.memory.specs.Taking.{former, later}
 
 pub set_differs : {A : Type 0} (xs : List A) (place : ℕ) (kept new : A) → place < length xs → get_or xs place kept ≡ kept → kept ≢ new → set xs place new ≢ xs
 set_differs {A} xs place kept new within at differs is =
@@ -55,6 +55,12 @@ pub puts-contained : {A : Type 0} (new : A) (xs : List A) → Contains xs new �
 puts-contained {A} new xs (place, within, at) =
     let puts = puts-at (λ (x : A). x) later new xs place new within at refl in
     subst (Puts (λ (x : A). x) later new xs) (set_same xs place new new at refl) puts
+
+-- one that has the key stays where the earlier of two counts
+pub puts-former : {A K : Type 0} (key : A → K) (new : A) (xs : List A) → Any (λ (kept : A). key kept ≡ key new) xs → Puts key former new xs xs
+puts-former key new xs (place, kept, within, at, same) =
+    let split = split_at xs place kept within at in
+    inl (take place xs, kept, drop (suc place) xs, split, same, split)
 
 pub none-contained : {A : Type 0} (xs : List A) (new : A) → ¬ Contains xs new → All (λ (kept : A). kept ≢ new) xs
 none-contained {A} xs new none = λ k d within is. none (k, within, get_or_default xs k new d within ∙ is)

@@ -5,12 +5,13 @@ use Rattle.std.proofs.lemmas.List.{map-append, map-id}
 use Rattle.std.proofs.lemmas.List.Elements.{recursion_from_All}
 use Rattle.textio.specs.Lines.{lines_of}
 use Rattle.memory.specs.Lists.{HasNoRepeat, Puts}
-use Rattle.memory.specs.Memories.{Memory, name_of, nothing, signed_of, HoldsEachOnce}
-use Rattle.memory.specs.Taking.{either, later, Takes}
+use Rattle.memory.specs.Memories.{Memory, final_name, name_of, nothing, signed_of, HoldsEachOnce}
+use Rattle.memory.specs.Taking.{either, former, later, Takes}
 use Rattle.memory.specs.Texts.{Recalls, Spells}
 use Rattle.memory.specs.declared.alarm.Alarm.{Alarm as AlarmMade}
+use Rattle.memory.specs.declared.final_seen.FinalSeen.{FinalSeen}
 use Rattle.memory.specs.declared.item.Item.{Item}
-use Rattle.memory.specs.declared.item.Item.TheVariants.{Promised, Watched, Alarm, Evidence}
+use Rattle.memory.specs.declared.item.Item.TheVariants.{Promised, Watched, Final, Alarm, Evidence}
 use Rattle.memory.specs.declared.mark.Mark.{Mark}
 use Rattle.memory.specs.declared.promised.Promised.{Promised as PromisedMade}
 use Rattle.memory.specs.declared.read_fault.ReadFault.{ReadFault}
@@ -86,6 +87,8 @@ takes_one (Promised promised) before one other once (p, is) (q, be) =
     is ∙ ap (λ (xs : List PromisedMade). record before { promises = xs }) (puts_one signed_of either promised before.promises one.promises other.promises once.promised p q) ∙ sym be
 takes_one (Watched mark) before one other once (p, is) (q, be) =
     is ∙ ap (λ (xs : List Mark). record before { marks = xs }) (puts_one name_of later mark before.marks one.marks other.marks once.watched p q) ∙ sym be
+takes_one (Final seen) before one other once (p, is) (q, be) =
+    is ∙ ap (λ (xs : List FinalSeen). record before { finals = xs }) (puts_one final_name former seen before.finals one.finals other.finals once.pinned p q) ∙ sym be
 takes_one (Alarm alarm) before one other once (p, is) (q, be) =
     is ∙ ap (λ (xs : List AlarmMade). record before { alarms = xs }) (puts_one (λ (x : AlarmMade). x) later alarm before.alarms one.alarms other.alarms (as_keys before.alarms once.alarmed) p q) ∙ sym be
 takes_one (Evidence line) before one other once (p, is) (q, be) =
@@ -94,16 +97,19 @@ takes_one (Evidence line) before one other once (p, is) (q, be) =
 pub takes-once : (item : Item) (before after : Memory) → HoldsEachOnce before → Takes item before after → HoldsEachOnce after
 takes-once (Promised promised) before after once (p, is) =
     let now = puts-once signed_of either promised (λ kept same. refl) before.promises after.promises once.promised p in
-    subst HoldsEachOnce (sym is) (record { promised = now; watched = once.watched; alarmed = once.alarmed; shown = once.shown })
+    subst HoldsEachOnce (sym is) (record { promised = now; watched = once.watched; pinned = once.pinned; alarmed = once.alarmed; shown = once.shown })
 takes-once (Watched mark) before after once (p, is) =
     let now = puts-once name_of later mark (λ kept same. sym same) before.marks after.marks once.watched p in
-    subst HoldsEachOnce (sym is) (record { promised = once.promised; watched = now; alarmed = once.alarmed; shown = once.shown })
+    subst HoldsEachOnce (sym is) (record { promised = once.promised; watched = now; pinned = once.pinned; alarmed = once.alarmed; shown = once.shown })
+takes-once (Final seen) before after once (p, is) =
+    let now = puts-once final_name former seen (λ kept same. refl) before.finals after.finals once.pinned p in
+    subst HoldsEachOnce (sym is) (record { promised = once.promised; watched = once.watched; pinned = now; alarmed = once.alarmed; shown = once.shown })
 takes-once (Alarm alarm) before after once (p, is) =
     let now = puts-once (λ (x : AlarmMade). x) later alarm (λ kept same. sym same) before.alarms after.alarms (as_keys before.alarms once.alarmed) p in
-    subst HoldsEachOnce (sym is) (record { promised = once.promised; watched = once.watched; alarmed = as_list after.alarms now; shown = once.shown })
+    subst HoldsEachOnce (sym is) (record { promised = once.promised; watched = once.watched; pinned = once.pinned; alarmed = as_list after.alarms now; shown = once.shown })
 takes-once (Evidence line) before after once (p, is) =
     let now = puts-once (λ (x : List ℕ). x) later line (λ kept same. sym same) before.evidence after.evidence (as_keys before.evidence once.shown) p in
-    subst HoldsEachOnce (sym is) (record { promised = once.promised; watched = once.watched; alarmed = once.alarmed; shown = as_list after.evidence now })
+    subst HoldsEachOnce (sym is) (record { promised = once.promised; watched = once.watched; pinned = once.pinned; alarmed = once.alarmed; shown = as_list after.evidence now })
 
 recalls_one : (number : ℕ) (lines : List (List ℕ)) (before : Memory) (one other : Result Memory ReadFault) → HoldsEachOnce before
     → Recalls number lines before one → Recalls number lines before other → one ≡ other
@@ -118,4 +124,4 @@ recalls_one number ((byte ∷ line) ∷ lines) before one other once (inr (none,
 recalls_one number ((byte ∷ line) ∷ lines) before one other once (inr (none, p)) (inr (never, q)) = p ∙ sym q
 
 pub one_memory : (text : List ℕ) (one other : Result Memory ReadFault) → Spells text one → Spells text other → one ≡ other
-one_memory text one other p q = recalls_one 1 (lines_of text) nothing one other (record { promised = tt; watched = tt; alarmed = tt; shown = tt }) p q
+one_memory text one other p q = recalls_one 1 (lines_of text) nothing one other (record { promised = tt; watched = tt; pinned = tt; alarmed = tt; shown = tt }) p q

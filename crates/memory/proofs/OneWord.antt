@@ -1,5 +1,5 @@
 -- A word says one thing, and has neither spaces nor LFs.
-use Rattle.std.proofs.Common.{◌≡◌, ◌≢◌, ℕ, ◌^◌, ◌<◌, Bool, true, false, List, [], ◌∷◌, ◌++◌, Option, None, Some, MatchOption, Result, Ok, Err, IfSome, codes, nat_lt, ltb-true, true≢false, refl, sym, ap, subst, ◌∙◌}
+use Rattle.std.proofs.Common.{◌≡◌, ◌≢◌, ℕ, ◌^◌, ◌<◌, Bool, true, false, List, [], ◌∷◌, ◌++◌, Option, None, Some, MatchOption, Result, Ok, Err, IfSome, codes, length, nat_lt, ltb-true, true≢false, refl, sym, ap, subst, ◌∙◌, arith}
 use Rattle.std.specs.Fmt.{decimal}
 use Rattle.std.specs.List.{list_all, AllByRecursion}
 use Rattle.std.specs.Str.{bytes_eq, IsUtf8}
@@ -12,6 +12,7 @@ use Rattle.encoding.proofs.Fields.{one_spelling}
 use Rattle.encoding.specs.Bytes.{IsBytes}
 use Rattle.encoding.specs.Limits.{IsKeyData, IsName}
 use Rattle.encoding.specs.declared.bound_key.BoundKey.{BoundKey}
+use Rattle.encoding.specs.declared.fixed_text.TheConstants.{PROOF_TEXT_ROOM}
 use Rattle.encoding.specs.declared.policy.Policy.{Policy}
 use Rattle.encoding.specs.declared.policy.Policy.TheVariants.{Open, Final}
 use Rattle.hex.specs.Hex.{decode_of, encode_lower}
@@ -24,8 +25,8 @@ use Rattle.rootchain.specs.declared.signed_promise.SignedPromise.{SignedPromise}
 use Rattle.rootchain.proofs.Sizes.{signed_promise_few}
 use Rattle.memory.specs.Finding.{Finds}
 use Rattle.encoding.specs.Policies.{policy_word}
-use Rattle.memory.specs.Lines.{found_words, policy_words, promise_word}
-use Rattle.memory.specs.Words.{IsHexOf, IsNameWord, IsPromiseWord}
+use Rattle.memory.specs.Lines.{found_words, policy_words, promise_word, HasRoom}
+use Rattle.memory.specs.Words.{IsHexOf, IsNameWord, IsPromiseWord, IsReplyWord}
 use Rattle.memory.proofs.Plain.{plain-hex, IsPlain}
 
 pub other_words : (one other : List ℕ) → bytes_eq one other ≡ false → one ≡ other → ⊥
@@ -147,5 +148,14 @@ module _ (word bytes : List ℕ) (hex : IsHexOf word bytes) where
       none signed (same, is.0)
   promise_found (Some signed) (is, sound) = (sound, hex.1 ∙ ap encode_lower is)
 
+  pub reply_found : (r : Option (List ℕ)) → MatchOption r (PROOF_TEXT_ROOM < length bytes) (λ reply. HasRoom bytes × (reply ≡ bytes)) → Finds (IsReplyWord word) r
+  reply_found None above = λ reply is.
+      let same = ap length (hex_same bytes reply hex.0 is.0.1 (sym hex.1 ∙ is.1)) in
+      omega (arith, above, same, is.0.0)
+  reply_found (Some reply) (room, same) = (subst HasRoom (sym same) room, hex.1 ∙ ap encode_lower (sym same))
+
 pub no_promise : (word : List ℕ) → ((bytes : List ℕ) → ¬ IsHexOf word bytes) → (signed : SignedPromise) → ¬ IsPromiseWord word signed
 no_promise word none signed is = none (signed_promise_bytes signed) (IsBytes-promise signed is.0, is.1)
+
+pub no_reply : (word : List ℕ) → ((bytes : List ℕ) → ¬ IsHexOf word bytes) → (reply : List ℕ) → ¬ IsReplyWord word reply
+no_reply word none reply is = none reply (is.0.1, is.1)

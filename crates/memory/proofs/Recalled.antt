@@ -9,12 +9,12 @@ use Rattle.textio.specs.Lines.{lines_of, onto_first}
 use Rattle.audits.specs.Files.{parts_text}
 use Rattle.memory.specs.Lines.{item_line, line_of, IsLineOf, IsSound}
 use Rattle.memory.specs.Lists.{HasNoRepeat, Puts}
-use Rattle.memory.specs.Memories.{Memory, name_of, nothing, signed_of, HoldsEachOnce}
-use Rattle.memory.specs.Taking.{either, later, Takes}
+use Rattle.memory.specs.Memories.{Memory, final_name, name_of, nothing, signed_of, HoldsEachOnce}
+use Rattle.memory.specs.Taking.{either, former, later, Takes}
 use Rattle.memory.specs.Texts.{items_text, memory_items, memory_text, HoldsSound, Recalls, Spells, TakesLine}
 use Rattle.memory.specs.declared.alarm.Alarm.{Alarm as AlarmMade}
 use Rattle.memory.specs.declared.item.Item.{Item}
-use Rattle.memory.specs.declared.item.Item.TheVariants.{Promised, Watched, Alarm, Evidence}
+use Rattle.memory.specs.declared.item.Item.TheVariants.{Promised, Watched, Final, Alarm, Evidence}
 use Rattle.memory.specs.declared.read_fault.ReadFault.{ReadFault}
 use Rattle.memory.proofs.OneItem.{first_of, line_parts, plain-item, rest_of, ArePlain}
 use Rattle.memory.proofs.Plain.{IsPlain}
@@ -120,16 +120,19 @@ gathers-memory : (memory : Memory) → HoldsEachOnce memory → Gathers (memory_
 gathers-memory memory once =
     let a : Memory = record nothing { promises = memory.promises } in
     let b : Memory = record a { marks = memory.marks } in
-    let c : Memory = record b { alarms = memory.alarms } in
+    let f : Memory = record b { finals = memory.finals } in
+    let c : Memory = record f { alarms = memory.alarms } in
     let promises = gathers-part signed_of either Promised (λ m. m.promises) (λ m xs. record m { promises = xs }) (λ new m xs puts. (puts, refl)) (λ m xs. refl) (λ m xs ys. refl) (λ m. refl) memory.promises [] nothing once.promised refl in
     let marks = gathers-part name_of later Watched (λ m. m.marks) (λ m xs. record m { marks = xs }) (λ new m xs puts. (puts, refl)) (λ m xs. refl) (λ m xs ys. refl) (λ m. refl) memory.marks [] a once.watched refl in
+    let finals = gathers-part final_name former Final (λ m. m.finals) (λ m xs. record m { finals = xs }) (λ new m xs puts. (puts, refl)) (λ m xs. refl) (λ m xs ys. refl) (λ m. refl) memory.finals [] b once.pinned refl in
     let alarmed = subst HasNoRepeat (sym (map-id memory.alarms)) once.alarmed in
-    let alarms = gathers-part (λ (x : AlarmMade). x) later Alarm (λ m. m.alarms) (λ m xs. record m { alarms = xs }) (λ new m xs puts. (puts, refl)) (λ m xs. refl) (λ m xs ys. refl) (λ m. refl) memory.alarms [] b alarmed refl in
+    let alarms = gathers-part (λ (x : AlarmMade). x) later Alarm (λ m. m.alarms) (λ m xs. record m { alarms = xs }) (λ new m xs puts. (puts, refl)) (λ m xs. refl) (λ m xs ys. refl) (λ m. refl) memory.alarms [] f alarmed refl in
     let shown = subst HasNoRepeat (sym (map-id memory.evidence)) once.shown in
     let evidence = gathers-part (λ (x : List ℕ). x) later Evidence (λ m. m.evidence) (λ m xs. record m { evidence = xs }) (λ new m xs puts. (puts, refl)) (λ m xs. refl) (λ m xs ys. refl) (λ m. refl) memory.evidence [] c shown refl in
     gathers-append (map Promised memory.promises) _ nothing a memory promises
     (gathers-append (map Watched memory.marks) _ a b memory marks
-    (gathers-append (map Alarm memory.alarms) _ b c memory alarms evidence))
+    (gathers-append (map Final memory.finals) _ b f memory finals
+    (gathers-append (map Alarm memory.alarms) _ f c memory alarms evidence)))
 
 pub spells-memory : (memory : Memory) → HoldsEachOnce memory → HoldsSound memory → Spells (memory_text memory) (Ok memory)
 spells-memory memory once sound =

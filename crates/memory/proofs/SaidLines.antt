@@ -6,13 +6,14 @@ use Rattle.hex.specs.Hex.{encode_lower}
 use Rattle.rootchain.specs.declared.signed_promise.SignedPromise.{SignedPromise}
 use Rattle.rootchain.specs.Promises.{signed_promise_bytes}
 use Rattle.memory.specs.Lines.{found_words, line_of, promise_word, IsEvidenceLine, IsLineOf}
-use Rattle.memory.specs.Words.{HasNoSpace, IsAlarmText, IsFinding, IsFoundText, IsMarkText, IsNameWord, IsNumberWord, IsPromiseWord, IsSpan}
+use Rattle.memory.specs.Words.{HasNoSpace, IsAlarmText, IsFinalText, IsFinding, IsFoundText, IsMarkText, IsNameWord, IsNumberWord, IsPromiseWord, IsReplyWord, IsSighting, IsSpan}
 use Rattle.memory.specs.declared.alarm.Alarm.{Alarm as AlarmMade}
+use Rattle.memory.specs.declared.final_seen.FinalSeen.{FinalSeen}
 use Rattle.memory.specs.declared.item.Item.{Item}
-use Rattle.memory.specs.declared.item.Item.TheVariants.{Promised, Watched, Alarm, Evidence}
+use Rattle.memory.specs.declared.item.Item.TheVariants.{Promised, Watched, Final, Alarm, Evidence}
 use Rattle.memory.specs.declared.mark.Mark.{Mark}
 use Rattle.memory.proofs.FoundTexts.{found-line}
-use Rattle.memory.proofs.OneItem.{plain-alarm, plain-evidence, plain-watched, promise_alarm, promise_watched, watched_alarm}
+use Rattle.memory.proofs.OneItem.{final_alarm, plain-alarm, plain-evidence, plain-final, plain-watched, promise_alarm, promise_final, promise_watched, watched_alarm, watched_final}
 use Rattle.memory.proofs.OneWord.{decimal_same, plain-promise_word}
 use Rattle.memory.proofs.Plain.{no_space, plain-decimal, plain-hex}
 use Rattle.memory.proofs.Splits.{first_same, never_alone}
@@ -58,6 +59,17 @@ finding_two text first second parts none finding is =
     let same = first_same first (decimal finding.0) second (line_of (found_words finding.1)) none (no_space _ (plain-decimal finding.0 is.0)) (sym parts ∙ is.2 ∙ found-line (decimal finding.0) finding.1) in
     ((is.0, same.0), (is.1, same.1))
 
+-- ---- an epoch, and a reply
+
+pub no_sighting : (text : List ℕ) → HasNoSpace text → (sighting : ℕ × List ℕ) → ¬ IsSighting text sighting
+no_sighting text none sighting is = never_alone (decimal sighting.0) (encode_lower sighting.1) text none (sym is.2)
+
+pub sighting_two : (text first second : List ℕ) → text ≡ first ++ 32 ∷ second → HasNoSpace first → (sighting : ℕ × List ℕ) → IsSighting text sighting
+    → IsNumberWord first sighting.0 × IsReplyWord second sighting.1
+sighting_two text first second parts none sighting is =
+    let same = first_same first (decimal sighting.0) second (encode_lower sighting.1) none (no_space _ (plain-decimal sighting.0 is.0)) (sym parts ∙ is.2) in
+    ((is.0, same.0), (is.1, same.1))
+
 -- ---- what stands behind the first words
 
 pub no_mark_text : (text : List ℕ) → HasNoSpace text → (mark : Mark) → ¬ IsMarkText text mark
@@ -78,11 +90,21 @@ alarm_two text word behind parts none alarm (named, (rest, is, finding)) =
     let same = first_same word (encode_lower alarm.name) behind rest none (no_space _ (plain-hex alarm.name named.2)) (sym parts ∙ is) in
     ((named, same.0), subst (λ (t : List ℕ). IsFinding t (alarm.epoch, alarm.found)) (sym same.1) finding)
 
+pub no_final_text : (text : List ℕ) → HasNoSpace text → (seen : FinalSeen) → ¬ IsFinalText text seen
+no_final_text text none seen (named, (rest, is, sighting)) = never_alone (encode_lower seen.name) rest text none (sym is)
+
+pub final_two : (text word behind : List ℕ) → text ≡ word ++ 32 ∷ behind → HasNoSpace word → (seen : FinalSeen) → IsFinalText text seen
+    → IsNameWord word seen.name × IsSighting behind (seen.epoch, seen.reply)
+final_two text word behind parts none seen (named, (rest, is, sighting)) =
+    let same = first_same word (encode_lower seen.name) behind rest none (no_space _ (plain-hex seen.name named.2)) (sym parts ∙ is) in
+    ((named, same.0), subst (λ (t : List ℕ). IsSighting t (seen.epoch, seen.reply)) (sym same.1) sighting)
+
 -- ---- lines
 
 abbrev pub Says : List ℕ → List ℕ → Item → Type 0
 Says word behind (Promised promised) = (word ≡ promise_word promised.is_own) × IsPromiseWord behind promised.signed
 Says word behind (Watched mark) = (word ≡ codes "watched") × IsMarkText behind mark
+Says word behind (Final seen) = (word ≡ codes "final") × IsFinalText behind seen
 Says word behind (Alarm alarm) = (word ≡ codes "alarm") × IsAlarmText behind alarm
 Says word behind (Evidence line) = ⊥
 
@@ -100,6 +122,10 @@ says word behind none (Watched mark) (sound, inl is) =
 says word behind none (Watched mark) (sound, inr (at, is)) =
     let same = first_same word (codes "watched") behind (encode_lower mark.name ++ 32 ∷ decimal mark.epoch) none (no_space (codes "watched") plain-watched) is in
     (same.0, (sound.0, (decimal mark.epoch, same.1, (sound.1, sound.2, inr (at, refl)))))
+says word behind none (Final seen) (sound, inl is) =
+    let rest = line_of (decimal seen.epoch ∷ encode_lower seen.reply ∷ []) in
+    let same = first_same word (codes "final") behind (encode_lower seen.name ++ 32 ∷ rest) none (no_space (codes "final") plain-final) is in
+    (same.0, (sound.0, (rest, same.1, (sound.1, sound.2, refl))))
 says word behind none (Alarm alarm) (sound, inl is) =
     let rest = line_of (decimal alarm.epoch ∷ found_words alarm.found) in
     let same = first_same word (codes "alarm") behind (encode_lower alarm.name ++ 32 ∷ rest) none (no_space (codes "alarm") plain-alarm) is in
@@ -107,6 +133,7 @@ says word behind none (Alarm alarm) (sound, inl is) =
 says word behind none (Evidence line) (sound, inl is) = never_evidence word behind line sound is
 says word behind none (Evidence line) (sound, inr never) = never
 says word behind none (Promised promised) (sound, inr never) = absurd never
+says word behind none (Final seen) (sound, inr never) = absurd never
 says word behind none (Alarm alarm) (sound, inr never) = absurd never
 
 pub no_promised : (is_own : Bool) (behind : List ℕ) → ((signed : SignedPromise) → ¬ IsPromiseWord behind signed) → (item : Item) → ¬ IsLineOf (promise_word is_own ++ 32 ∷ behind) item
@@ -115,6 +142,7 @@ no_promised is_own behind refuses item is = by item (says (promise_word is_own) 
     by : (item : Item) → Says (promise_word is_own) behind item → ⊥
     by (Promised promised) said = refuses promised.signed said.1
     by (Watched mark) said = promise_watched is_own said.0
+    by (Final seen) said = promise_final is_own said.0
     by (Alarm alarm) said = promise_alarm is_own said.0
     by (Evidence line) said = said
 
@@ -124,6 +152,7 @@ no_mark behind refuses item is = by item (says (codes "watched") behind (no_spac
     by : (item : Item) → Says (codes "watched") behind item → ⊥
     by (Promised promised) said = promise_watched promised.is_own (sym said.0)
     by (Watched mark) said = refuses mark said.1
+    by (Final seen) said = watched_final said.0
     by (Alarm alarm) said = watched_alarm said.0
     by (Evidence line) said = said
 
@@ -133,12 +162,23 @@ no_alarm behind refuses item is = by item (says (codes "alarm") behind (no_space
     by : (item : Item) → Says (codes "alarm") behind item → ⊥
     by (Promised promised) said = promise_alarm promised.is_own (sym said.0)
     by (Watched mark) said = watched_alarm (sym said.0)
+    by (Final seen) said = final_alarm (sym said.0)
     by (Alarm alarm) said = refuses alarm said.1
     by (Evidence line) said = said
 
-pub no_item : (word behind : List ℕ) → HasNoSpace word → word ≢ codes "promise" → word ≢ codes "change" → word ≢ codes "watched" → word ≢ codes "alarm"
+pub no_final : (behind : List ℕ) → ((seen : FinalSeen) → ¬ IsFinalText behind seen) → (item : Item) → ¬ IsLineOf (codes "final" ++ 32 ∷ behind) item
+no_final behind refuses item is = by item (says (codes "final") behind (no_space (codes "final") plain-final) item is)
+  where
+    by : (item : Item) → Says (codes "final") behind item → ⊥
+    by (Promised promised) said = promise_final promised.is_own (sym said.0)
+    by (Watched mark) said = watched_final (sym said.0)
+    by (Final seen) said = refuses seen said.1
+    by (Alarm alarm) said = final_alarm said.0
+    by (Evidence line) said = said
+
+pub no_item : (word behind : List ℕ) → HasNoSpace word → word ≢ codes "promise" → word ≢ codes "change" → word ≢ codes "watched" → word ≢ codes "alarm" → word ≢ codes "final"
     → (item : Item) → ¬ IsLineOf (word ++ 32 ∷ behind) item
-no_item word behind none promise change watched alarm item is = by item (says word behind none item is)
+no_item word behind none promise change watched alarm final item is = by item (says word behind none item is)
   where
     own : (is_own : Bool) → word ≡ promise_word is_own → ⊥
     own true e = change e
@@ -147,6 +187,7 @@ no_item word behind none promise change watched alarm item is = by item (says wo
     by : (item : Item) → Says word behind item → ⊥
     by (Promised promised) said = own promised.is_own said.0
     by (Watched mark) said = watched said.0
+    by (Final seen) said = final said.0
     by (Alarm mark) said = alarm said.0
     by (Evidence line) said = said
 
@@ -155,8 +196,10 @@ pub alone_evidence : (line : List ℕ) → HasNoSpace line → (item : Item) →
 alone_evidence line none (Promised promised) (sound, inl is) = absurd (never_alone (promise_word promised.is_own) _ line none (sym is))
 alone_evidence line none (Watched mark) (sound, inl is) = absurd (never_alone (codes "watched") _ line none (sym is))
 alone_evidence line none (Watched mark) (sound, inr (at, is)) = absurd (never_alone (codes "watched") _ line none (sym is))
+alone_evidence line none (Final seen) (sound, inl is) = absurd (never_alone (codes "final") _ line none (sym is))
 alone_evidence line none (Alarm alarm) (sound, inl is) = absurd (never_alone (codes "alarm") _ line none (sym is))
 alone_evidence line none (Evidence text) (sound, inl is) = subst IsEvidenceLine (sym is) sound
 alone_evidence line none (Promised promised) (sound, inr never) = absurd never
+alone_evidence line none (Final seen) (sound, inr never) = absurd never
 alone_evidence line none (Alarm alarm) (sound, inr never) = absurd never
 alone_evidence line none (Evidence text) (sound, inr never) = absurd never

@@ -5,12 +5,12 @@ use Rattle.rootchain.specs.declared.signed_promise.SignedPromise.{SignedPromise}
 use Rattle.memory.specs.Leaving.{IsNeeded, Leaves, Settles}
 use Rattle.memory.specs.Lines.{IsSound}
 use Rattle.memory.specs.Lists.{Puts}
-use Rattle.memory.specs.Memories.{Memory, name_of, nothing, signed_of, HoldsEachOnce}
-use Rattle.memory.specs.Taking.{either, later, Takes}
+use Rattle.memory.specs.Memories.{Memory, final_name, name_of, nothing, signed_of, HoldsEachOnce}
+use Rattle.memory.specs.Taking.{either, former, later, Takes}
 use Rattle.memory.specs.Texts.{HoldsSound, Spells, TakesAll}
 use Rattle.memory.specs.declared.alarm.Alarm.{Alarm as AlarmMade}
 use Rattle.memory.specs.declared.item.Item.{Item}
-use Rattle.memory.specs.declared.item.Item.TheVariants.{Promised, Watched, Alarm, Evidence}
+use Rattle.memory.specs.declared.item.Item.TheVariants.{Promised, Watched, Final, Alarm, Evidence}
 use Rattle.memory.proofs.Left.{left-all, left-no_repeat, left-once}
 use Rattle.memory.proofs.OneMemory.{takes-once}
 use Rattle.memory.proofs.Taken.{spelled-taken}
@@ -53,16 +53,19 @@ module _ {A K : Type 0} (key : A → K) (joined : A → A → A) (item : A → I
 record ArePartsSound (memory : Memory) : Type 0 where
   promises : AllByRecursion IsSound (map Promised memory.promises)
   marks : AllByRecursion IsSound (map Watched memory.marks)
+  finals : AllByRecursion IsSound (map Final memory.finals)
   alarms : AllByRecursion IsSound (map Alarm memory.alarms)
   evidence : AllByRecursion IsSound (map Evidence memory.evidence)
 
 parts : (memory : Memory) → HoldsSound memory → ArePartsSound memory
 parts memory sound =
     let behind = all-back IsSound (map Promised memory.promises) _ sound in
-    let last = all-back IsSound (map Watched memory.marks) _ behind in (
+    let middle = all-back IsSound (map Watched memory.marks) _ behind in
+    let last = all-back IsSound (map Final memory.finals) _ middle in (
     record {
       promises = all-front IsSound (map Promised memory.promises) _ sound;
       marks = all-front IsSound (map Watched memory.marks) _ behind;
+      finals = all-front IsSound (map Final memory.finals) _ middle;
       alarms = all-front IsSound (map Alarm memory.alarms) _ last;
       evidence = all-back IsSound (map Alarm memory.alarms) _ last;
     }
@@ -72,7 +75,8 @@ whole : (memory : Memory) → ArePartsSound memory → HoldsSound memory
 whole memory part =
     all-append IsSound (map Promised memory.promises) _ part.promises
     (all-append IsSound (map Watched memory.marks) _ part.marks
-    (all-append IsSound (map Alarm memory.alarms) _ part.alarms part.evidence))
+    (all-append IsSound (map Final memory.finals) _ part.finals
+    (all-append IsSound (map Alarm memory.alarms) _ part.alarms part.evidence)))
 
 -- ---- taking
 
@@ -80,19 +84,23 @@ takes-sound : (item : Item) (before after : Memory) → IsSound item → Takes i
 takes-sound (Promised promised) before after sound (puts, is) holds =
     let part = parts before holds in
     let now = puts-sound signed_of either Promised (λ kept new here there. here) promised before.promises after.promises sound puts part.promises in
-    subst HoldsSound (sym is) (whole (record before { promises = after.promises }) (record { promises = now; marks = part.marks; alarms = part.alarms; evidence = part.evidence }))
+    subst HoldsSound (sym is) (whole (record before { promises = after.promises }) (record { promises = now; marks = part.marks; finals = part.finals; alarms = part.alarms; evidence = part.evidence }))
 takes-sound (Watched mark) before after sound (puts, is) holds =
     let part = parts before holds in
     let now = puts-sound name_of later Watched (λ kept new here there. there) mark before.marks after.marks sound puts part.marks in
-    subst HoldsSound (sym is) (whole (record before { marks = after.marks }) (record { promises = part.promises; marks = now; alarms = part.alarms; evidence = part.evidence }))
+    subst HoldsSound (sym is) (whole (record before { marks = after.marks }) (record { promises = part.promises; marks = now; finals = part.finals; alarms = part.alarms; evidence = part.evidence }))
+takes-sound (Final seen) before after sound (puts, is) holds =
+    let part = parts before holds in
+    let now = puts-sound final_name former Final (λ kept new here there. here) seen before.finals after.finals sound puts part.finals in
+    subst HoldsSound (sym is) (whole (record before { finals = after.finals }) (record { promises = part.promises; marks = part.marks; finals = now; alarms = part.alarms; evidence = part.evidence }))
 takes-sound (Alarm alarm) before after sound (puts, is) holds =
     let part = parts before holds in
     let now = puts-sound (λ (x : AlarmMade). x) later Alarm (λ kept new here there. there) alarm before.alarms after.alarms sound puts part.alarms in
-    subst HoldsSound (sym is) (whole (record before { alarms = after.alarms }) (record { promises = part.promises; marks = part.marks; alarms = now; evidence = part.evidence }))
+    subst HoldsSound (sym is) (whole (record before { alarms = after.alarms }) (record { promises = part.promises; marks = part.marks; finals = part.finals; alarms = now; evidence = part.evidence }))
 takes-sound (Evidence line) before after sound (puts, is) holds =
     let part = parts before holds in
     let now = puts-sound (λ (x : List ℕ). x) later Evidence (λ kept new here there. there) line before.evidence after.evidence sound puts part.evidence in
-    subst HoldsSound (sym is) (whole (record before { evidence = after.evidence }) (record { promises = part.promises; marks = part.marks; alarms = part.alarms; evidence = now }))
+    subst HoldsSound (sym is) (whole (record before { evidence = after.evidence }) (record { promises = part.promises; marks = part.marks; finals = part.finals; alarms = part.alarms; evidence = now }))
 
 pub taken-sound : (news : List Item) (before after : Memory) → TakesAll news before after → HoldsSound before → HoldsSound after
 taken-sound [] before after same holds = subst HoldsSound (sym same) holds
@@ -108,7 +116,7 @@ spelled-sound text memory spells = let (news, takes) = spelled-taken text memory
 pub spelled-once : (text : List ℕ) (memory : Memory) → Spells text (Ok memory) → HoldsEachOnce memory
 spelled-once text memory spells =
     let (news, takes) = spelled-taken text memory spells in
-    taken-once news nothing memory takes (record { promised = tt; watched = tt; alarmed = tt; shown = tt })
+    taken-once news nothing memory takes (record { promised = tt; watched = tt; pinned = tt; alarmed = tt; shown = tt })
 
 -- ---- losing
 
@@ -116,20 +124,20 @@ pub leaves-sound : (tested : List SignedPromise) (before after : Memory) → Lea
 leaves-sound tested before after (left, is) holds =
     let part = parts before holds in
     let now = left-all (IsNeeded tested before.marks) Promised IsSound before.promises after.promises left part.promises in
-    subst HoldsSound (sym is) (whole (record before { promises = after.promises }) (record { promises = now; marks = part.marks; alarms = part.alarms; evidence = part.evidence }))
+    subst HoldsSound (sym is) (whole (record before { promises = after.promises }) (record { promises = now; marks = part.marks; finals = part.finals; alarms = part.alarms; evidence = part.evidence }))
 
 pub leaves-once : (tested : List SignedPromise) (before after : Memory) → Leaves tested before after → HoldsEachOnce before → HoldsEachOnce after
 leaves-once tested before after (left, is) once =
     let now = left-no_repeat (IsNeeded tested before.marks) signed_of before.promises after.promises left once.promised in
-    subst HoldsEachOnce (sym is) (record { promised = now; watched = once.watched; alarmed = once.alarmed; shown = once.shown })
+    subst HoldsEachOnce (sym is) (record { promised = now; watched = once.watched; pinned = once.pinned; alarmed = once.alarmed; shown = once.shown })
 
 pub settles-sound : (name : List ℕ) (before after : Memory) → Settles name before after → HoldsSound before → HoldsSound after
 settles-sound name before after (left, is) holds =
     let part = parts before holds in
     let now = left-all (λ (alarm : AlarmMade). alarm.name ≢ name) Alarm IsSound before.alarms after.alarms left part.alarms in
-    subst HoldsSound (sym is) (whole (record before { alarms = after.alarms }) (record { promises = part.promises; marks = part.marks; alarms = now; evidence = part.evidence }))
+    subst HoldsSound (sym is) (whole (record before { alarms = after.alarms }) (record { promises = part.promises; marks = part.marks; finals = part.finals; alarms = now; evidence = part.evidence }))
 
 pub settles-once : (name : List ℕ) (before after : Memory) → Settles name before after → HoldsEachOnce before → HoldsEachOnce after
 settles-once name before after (left, is) once =
     let now = left-once (λ (alarm : AlarmMade). alarm.name ≢ name) before.alarms after.alarms left once.alarmed in
-    subst HoldsEachOnce (sym is) (record { promised = once.promised; watched = once.watched; alarmed = now; shown = once.shown })
+    subst HoldsEachOnce (sym is) (record { promised = once.promised; watched = once.watched; pinned = once.pinned; alarmed = now; shown = once.shown })

@@ -9,8 +9,9 @@ use Rattle.memory.specs.Lists.{IsLeft}
 use Rattle.memory.specs.Memories.{signed_of, Memory}
 use Rattle.memory.specs.Taking.{Takes}
 use Rattle.memory.specs.Watching.{WatchedUpTo}
+use Rattle.memory.specs.declared.final_seen.FinalSeen.{FinalSeen}
 use Rattle.memory.specs.declared.item.Item.{Item}
-use Rattle.memory.specs.declared.item.Item.TheVariants.{Promised, Watched, Alarm, Evidence}
+use Rattle.memory.specs.declared.item.Item.TheVariants.{Promised, Watched, Final, Alarm, Evidence}
 use Rattle.memory.specs.declared.kind.Kind.{Kind}
 use Rattle.memory.specs.declared.kind.Kind.TheVariants.{Alarms, EvidenceLines}
 use Rattle.memory.specs.declared.mark.Mark.{Mark}
@@ -74,6 +75,10 @@ IsSince marks monitor since =
 abbrev pub IsMarkFor : List Monitor → List Mark → Monitor → Mark → Type 0
 IsMarkFor monitors marks monitor mark = (mark.name ≡ monitor.name) × WatchedUpTo monitors monitor.name (Some mark.epoch)
     × ((since : ℕ) × IsSince marks monitor since × (mark.since ≡ (if nat_lt mark.epoch since then mark.epoch else since)))
+
+-- a reply is learned that stated a key with Final, if none is remembered for its name
+abbrev pub LearnsFinal : FinalSeen → Memory → List Item → Memory → Type 0
+LearnsFinal seen = LearnsOne (Final seen)
 
 -- the mark of the name of one of them goes there, and no other
 abbrev pub MarksOne : List Monitor → Monitor → Memory → List Item → Memory → Type 0

@@ -8,12 +8,12 @@ use Rattle.memory.specs.Memories.{Memory, nothing}
 use Rattle.memory.specs.Taking.{Takes}
 use Rattle.memory.specs.declared.alarm.Alarm.{Alarm as AlarmMade}
 use Rattle.memory.specs.declared.item.Item.{Item}
-use Rattle.memory.specs.declared.item.Item.TheVariants.{Promised, Watched, Alarm, Evidence}
+use Rattle.memory.specs.declared.item.Item.TheVariants.{Promised, Watched, Final, Alarm, Evidence}
 use Rattle.memory.specs.declared.read_fault.ReadFault.{ReadFault}
 use Rattle.memory.specs.declared.read_fault.ReadFault.TheVariants.{BadItem, OutOfMemory}
 
 abbrev pub memory_items : Memory → List Item
-memory_items memory = map Promised memory.promises ++ (map Watched memory.marks ++ (map Alarm memory.alarms ++ map Evidence memory.evidence))
+memory_items memory = map Promised memory.promises ++ (map Watched memory.marks ++ (map Final memory.finals ++ (map Alarm memory.alarms ++ map Evidence memory.evidence)))
 
 -- the lines of items, each with its LF
 abbrev pub items_text : List Item → List ℕ

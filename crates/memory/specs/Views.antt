@@ -6,6 +6,7 @@ abbrev pub memory_seen : Inside → Memory
 memory_seen inside = record {
   promises = inside.promises;
   marks = inside.marks.items;
+  finals = inside.finals.items;
   alarms = inside.alarms.items;
   evidence = inside.evidence.items;
 }

@@ -6,14 +6,14 @@ ghost use Rattle.std.specs.Io.{StartsWith};
 ghost use Rattle.std.specs.List.{AllByRecursion};
 ghost use Rattle.rootchain.specs.Promises.{IsSignedPromise};
 ghost use Rattle.textio.specs.Lines.{lines_of};
-ghost use Rattle.memory.specs.Learning.{promised_item, AreGone, BeginsBehind, BeginsOne, Each, EachOfSome, IsFresh, IsOfKind, IsSince, LearnsLine, LearnsOne, MarksOne};
+ghost use Rattle.memory.specs.Learning.{promised_item, AreGone, BeginsBehind, BeginsOne, Each, EachOfSome, IsFresh, IsOfKind, IsSince, LearnsFinal, LearnsLine, LearnsOne, MarksOne};
 ghost use Rattle.memory.specs.Lines.{IsNamed, IsSound};
 ghost use Rattle.memory.specs.Texts.{items_text, TakesAll};
 ghost use Rattle.memory.specs.declared.item.Item.{Item as Remembered};
 ghost use Rattle.memory.specs.declared.mark.Mark.{Mark as Marked};
 
 use crate::recalling::first_line;
-use crate::{Item, Kind, Mark, Memory, Promised, read_item, watched_up_to};
+use crate::{FinalSeen, Item, Kind, Mark, Memory, Promised, read_item, watched_up_to};
 use encoding::Name;
 use monitor::Monitor;
 use nodehash::NodeHash;
@@ -65,6 +65,39 @@ impl Memory {
             self.learn(Item::Promised(Promised { signed, is_own }), lines)?;
         }
         Ok(())
+    }
+
+    /// Takes replies that stated keys with Final, where none is remembered for their names, and appends the lines of
+    /// those that are new.
+    ///
+    /// # Errors
+    ///
+    /// `AllocError` if memory runs out. Then the first of the replies may be taken, and the text may have grown.
+    pub fn learn_finals(
+        &mut self,
+        finals: &[FinalSeen],
+        lines: &mut Vec<u8>,
+    ) -> Result<(), AllocError>
+        ensures ok { OnOk result ((news : List Remembered) × Each LearnsFinal finals.now self.old news self.new × (lines.new.items ≡ lines.old.items ++ items_text news)) }
+        ensures takes { OnOk result ((news : List Remembered) × TakesAll news self.old self.new × (lines.new.items ≡ lines.old.items ++ items_text news)) }
+        ensures err { OnErr result (EachOfSome LearnsFinal finals.now self.old self.new) }
+        ensures some { OnErr result ((news : List Remembered) × TakesAll news self.old self.new) }
+        ensures grows { StartsWith lines.new.items lines.old.items }
+    {
+        for seen in finals {
+            self.learn_final(seen, lines)?;
+        }
+        Ok(())
+    }
+
+    /// Takes a reply that stated a key with Final, if none is remembered for its name, and appends its line.
+    fn learn_final(&mut self, seen: &FinalSeen, lines: &mut Vec<u8>) -> Result<(), AllocError>
+        ensures ok { OnOk result ((news : List Remembered) × LearnsFinal seen.now self.old news self.new × (lines.new.items ≡ lines.old.items ++ items_text news)) }
+        ensures takes { OnOk result ((news : List Remembered) × TakesAll news self.old self.new × (lines.new.items ≡ lines.old.items ++ items_text news)) }
+        ensures err { OnErr result (self.new ≡ self.old) }
+        ensures grows { StartsWith lines.new.items lines.old.items }
+    {
+        self.learn(Item::Final(seen.copied()), lines)
     }
 
     /// Of promises that are kept in order, those behind the last that is remembered.

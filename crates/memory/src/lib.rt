@@ -1,5 +1,5 @@
 //! What an owner's client remembers between runs beside the chain of roots: promises, how far names were
-//! watched, alarms and evidence. The lines are this directory's own.
+//! watched, replies that stated keys with Final, alarms and evidence. The lines are this directory's own.
 //!
 //! Callers can rely on this: a line is of one item, and `read_item` reads exactly the lines of items. `take` changes the
 //! memory by one item, `leave` drops exactly the promises that nobody needs, `settle` exactly the alarms of a
@@ -9,6 +9,7 @@
 
 mod alarm;
 mod evidence_line;
+mod final_seen;
 mod item;
 mod kind;
 mod laws;
@@ -29,6 +30,7 @@ mod writing;
 
 pub use alarm::Alarm;
 pub use evidence_line::EvidenceLine;
+pub use final_seen::FinalSeen;
 pub use item::Item;
 pub use kind::Kind;
 pub use laws::{

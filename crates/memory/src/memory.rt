@@ -4,24 +4,28 @@ ghost use Rattle.memory.specs.Leaving.{Leaves, Settles};
 ghost use Rattle.memory.specs.Memories.{nothing, HoldsEachOnce};
 ghost use Rattle.memory.specs.Taking.{Takes};
 ghost use Rattle.memory.specs.Texts.{items_text, memory_text, TellsAgain};
-ghost use Rattle.memory.specs.declared.item.Item.TheVariants.{Evidence};
+ghost use Rattle.memory.specs.declared.item.Item.TheVariants as items;
 
 use crate::leaving::drop_alarms;
 use crate::promises::Promises;
-use crate::putting::{place_of_mark, put_alarm, put_evidence, put_mark};
-use crate::telling::{push_alarms, push_alarms_of, push_lines, push_marks, push_promises};
-use crate::{Alarm, EvidenceLine, Item, Mark, Promised};
+use crate::putting::{place_of_mark, put_alarm, put_evidence, put_final, put_mark};
+use crate::telling::{
+    push_alarms, push_alarms_of, push_finals, push_lines, push_marks, push_promises,
+};
+use crate::{Alarm, EvidenceLine, FinalSeen, Item, Mark, Promised};
 use encoding::Name;
 use rootchain::SignedPromise;
 use std::alloc::{AllocError, Global};
 use std::marker::Model;
 
-/// What the client of an owner remembers: promises, how far names were watched, alarms and evidence, each
-/// list in the order in which they came. No promise, no name of a mark, no alarm and no evidence is there twice.
+/// What the client of an owner remembers: promises, how far names were watched, the first reply for each name
+/// that stated a key with Final, alarms and evidence, each list in the order in which they came. No promise, no
+/// name of a mark or of such a reply, no alarm and no evidence is there twice.
 #[derive(Drop)]
 pub struct Memory {
     promises: Promises,
     marks: Vec<Mark>,
+    finals: Vec<FinalSeen>,
     alarms: Vec<Alarm>,
     evidence: Vec<EvidenceLine>,
 }
@@ -46,6 +50,7 @@ impl Memory {
         Memory {
             promises: Promises::new(alloc),
             marks: Vec::new(alloc),
+            finals: Vec::new(alloc),
             alarms: Vec::new(alloc),
             evidence: Vec::new(alloc),
         }
@@ -73,6 +78,13 @@ impl Memory {
         &self.marks
     }
 
+    /// The first reply for each name that stated a key with Final.
+    pub fn finals(&self) -> &[FinalSeen]
+        ensures { result.now ≡ self.now.finals }
+    {
+        &self.finals
+    }
+
     /// The alarms.
     pub fn alarms(&self) -> &[Alarm]
         ensures { result.now ≡ self.now.alarms }
@@ -98,7 +110,8 @@ impl Memory {
     }
 
     /// Takes the item. Returns whether anything is new: a promise that is there becomes the owner's own if the item
-    /// is, a mark takes the place of the one of its name, and what is not there is put behind the others.
+    /// is, a mark takes the place of the one of its name, a reply that stated a key with Final does not, and what is
+    /// not there is put behind the others.
     ///
     /// # Errors
     ///
@@ -110,6 +123,7 @@ impl Memory {
         match item {
             Item::Promised(promised) => self.promises.put(promised),
             Item::Watched(mark) => put_mark(&mut self.marks, mark),
+            Item::Final(seen) => put_final(&mut self.finals, seen),
             Item::Alarm(alarm) => put_alarm(&mut self.alarms, alarm),
             Item::Evidence(line) => put_evidence(&mut self.evidence, line),
         }
@@ -130,7 +144,7 @@ impl Memory {
         self.promises.leave(&self.marks, tested);
     }
 
-    /// Appends the lines: promises, marks, alarms and evidence, each in order.
+    /// Appends the lines: promises, marks, replies, alarms and evidence, each in order.
     ///
     /// # Errors
     ///
@@ -141,6 +155,15 @@ impl Memory {
     {
         push_promises(text, self.promises.items())?;
         push_marks(text, &self.marks)?;
+        self.write_found(text)
+    }
+
+    /// Appends the lines of what was found: replies, alarms and evidence, each in order.
+    fn write_found(&self, text: &mut Vec<u8>) -> Result<(), AllocError>
+        ensures ok { OnOk result (text.new.items ≡ text.old.items ++ items_text (map items.Final self.now.finals ++ (map items.Alarm self.now.alarms ++ map items.Evidence self.now.evidence))) }
+        ensures grows { StartsWith text.new.items text.old.items }
+    {
+        push_finals(text, &self.finals)?;
         push_alarms(text, &self.alarms)?;
         push_lines(text, &self.evidence)
     }
@@ -151,7 +174,7 @@ impl Memory {
     ///
     /// `AllocError` if memory runs out. Then the text may have grown by a part of the lines.
     pub fn tell_evidence(&self, text: &mut Vec<u8>) -> Result<(), AllocError>
-        ensures ok { OnOk result (text.new.items ≡ text.old.items ++ items_text (map Evidence self.now.evidence)) }
+        ensures ok { OnOk result (text.new.items ≡ text.old.items ++ items_text (map items.Evidence self.now.evidence)) }
         ensures grows { StartsWith text.new.items text.old.items }
     {
         push_lines(text, &self.evidence)

@@ -1,13 +1,13 @@
 // Lists that take an element: it is joined to the one that has its key, or is put behind the others. Each function
 // returns whether the list is another one now.
 
-ghost use Rattle.std.specs.Prelude.{◌≡◌, ◌≢◌, ◌↔◌, ◌<◌, length, map, slice_index_or, All, Contains, IfOk, IsTrue, MatchBool, MatchOption, OnErr};
+ghost use Rattle.std.specs.Prelude.{◌≡◌, ◌≢◌, ◌↔◌, ◌<◌, length, map, slice_index_or, All, Any, Contains, IfOk, IsTrue, MatchBool, MatchOption, OnErr};
 ghost use Rattle.memory.specs.Lists.{HasNoRepeat};
-ghost use Rattle.memory.specs.Memories.{name_of};
-ghost use Rattle.memory.specs.Taking.{PutsAlarm, PutsEvidence, PutsMark};
+ghost use Rattle.memory.specs.Memories.{final_name, name_of};
+ghost use Rattle.memory.specs.Taking.{PutsAlarm, PutsEvidence, PutsFinal, PutsMark};
 ghost use Rattle.memory.specs.declared.mark.Mark.{Mark};
 
-use crate::{Alarm, EvidenceLine, Mark};
+use crate::{Alarm, EvidenceLine, FinalSeen, Mark};
 use encoding::Name;
 use std::alloc::AllocError;
 
@@ -48,6 +48,31 @@ pub(crate) fn place_of_mark(marks: &[Mark], name: &Name) -> Option<usize>
         }
     }
     None
+}
+
+pub(crate) fn put_final(finals: &mut Vec<FinalSeen>, new: FinalSeen) -> Result<bool, AllocError>
+    ensures puts { IfOk result (λ is_new. PutsFinal new finals.old.items finals.new.items
+        × MatchBool is_new (finals.new.items ≢ finals.old.items) (finals.new.items ≡ finals.old.items)) }
+    ensures err { OnErr result (finals.new.items ≡ finals.old.items) }
+    ensures once { HasNoRepeat (map final_name finals.old.items) → HasNoRepeat (map final_name finals.new.items) }
+{
+    if has_final(finals, &new.name) {
+        return Ok(false);
+    }
+    finals.push(new)?;
+    Ok(true)
+}
+
+/// Whether a reply is kept for the name.
+fn has_final(finals: &[FinalSeen], name: &Name) -> bool
+    ensures { MatchBool result (Any (λ kept. kept.name ≡ name.now) finals.now) (All (λ kept. kept.name ≢ name.now) finals.now) }
+{
+    for kept in finals {
+        if kept.name == *name {
+            return true;
+        }
+    }
+    false
 }
 
 pub(crate) fn put_alarm(alarms: &mut Vec<Alarm>, new: Alarm) -> Result<bool, AllocError>

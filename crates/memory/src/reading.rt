@@ -4,13 +4,13 @@ ghost use Rattle.std.specs.Prelude.{◌≡◌, ◌↔◌, ◌∷◌, ◌++◌, c
 ghost use Rattle.audits.specs.Files.{evidence_text};
 ghost use Rattle.memory.specs.Finding.{Finds};
 ghost use Rattle.memory.specs.Lines.{promise_word, IsEvidenceLine, IsLineOf};
-ghost use Rattle.memory.specs.Words.{HasNoSpace, IsFinding, IsSpan};
+ghost use Rattle.memory.specs.Words.{HasNoSpace, IsFinding, IsSighting, IsSpan};
 
-use crate::words::{first_part, read_found, read_name, read_number, read_promise};
-use crate::{Alarm, EvidenceLine, Item, Mark, Promised};
+use crate::words::{first_part, read_found, read_name, read_number, read_promise, read_reply};
+use crate::{Alarm, EvidenceLine, FinalSeen, Item, Mark, Promised};
 use auditor::Evidence;
 use audits::{ReadFault, evidence_json, read_evidence};
-use encoding::BoundKey;
+use encoding::{BoundKey, ProofText};
 use std::alloc::{AllocError, Global};
 
 /// The item of a line without its LF, or `None` if no item has it. A mark may have the older form `watched NAME
@@ -57,6 +57,9 @@ fn read_behind(alloc: Global, word: &[u8], behind: &[u8]) -> Result<Option<Item>
     if word == b"alarm".as_slice() {
         return alarm_item(alloc, behind);
     }
+    if word == b"final".as_slice() {
+        return final_item(alloc, behind);
+    }
     Ok(None)
 }
 
@@ -97,6 +100,22 @@ fn alarm_item(alloc: Global, text: &[u8]) -> Result<Option<Item>, AllocError>
     };
     match read_name(alloc, word)? {
         Some(name) => Ok(Some(Item::Alarm(Alarm { name, epoch, found }))),
+        None => Ok(None),
+    }
+}
+
+/// The item of a line `final NAME EPOCH REPLY`, of which this stands behind the first word.
+fn final_item(alloc: Global, text: &[u8]) -> Result<Option<Item>, AllocError>
+    ensures { IfOk result (Finds (IsLineOf (codes "final" ++ 32 ∷ text.now))) }
+{
+    let (word, Some(behind)) = first_part(text, b' ') else {
+        return Ok(None);
+    };
+    let Some((epoch, reply)) = read_sighting(alloc, behind)? else {
+        return Ok(None);
+    };
+    match read_name(alloc, word)? {
+        Some(name) => Ok(Some(Item::Final(FinalSeen { name, epoch, reply }))),
         None => Ok(None),
     }
 }
@@ -150,6 +169,22 @@ fn read_finding(alloc: Global, text: &[u8]) -> Result<Option<(u64, Option<BoundK
     };
     match read_found(alloc, behind)? {
         Some(found) => Ok(Some((epoch, found))),
+        None => Ok(None),
+    }
+}
+
+/// `EPOCH REPLY`
+fn read_sighting(alloc: Global, text: &[u8]) -> Result<Option<(u64, ProofText)>, AllocError>
+    ensures { IfOk result (Finds (IsSighting text.now)) }
+{
+    let (word, Some(behind)) = first_part(text, b' ') else {
+        return Ok(None);
+    };
+    let Some(epoch) = read_number(word) else {
+        return Ok(None);
+    };
+    match read_reply(alloc, behind)? {
+        Some(reply) => Ok(Some((epoch, reply))),
         None => Ok(None),
     }
 }

@@ -5,8 +5,8 @@ ghost use Rattle.std.specs.Io.{StartsWith};
 ghost use Rattle.memory.specs.Texts.{items_text, TellsAgain};
 ghost use Rattle.memory.specs.declared.item.Item.TheVariants as items;
 
-use crate::writing::{push_alarm, push_evidence, push_mark, push_promised};
-use crate::{Alarm, EvidenceLine, Mark, Promised};
+use crate::writing::{push_alarm, push_evidence, push_final, push_mark, push_promised};
+use crate::{Alarm, EvidenceLine, FinalSeen, Mark, Promised};
 use encoding::Name;
 use std::alloc::AllocError;
 
@@ -26,6 +26,16 @@ pub(crate) fn push_marks(text: &mut Vec<u8>, marks: &[Mark]) -> Result<(), Alloc
 {
     for mark in marks {
         push_mark(text, mark)?;
+    }
+    Ok(())
+}
+
+pub(crate) fn push_finals(text: &mut Vec<u8>, finals: &[FinalSeen]) -> Result<(), AllocError>
+    ensures ok { OnOk result (text.new.items ≡ text.old.items ++ items_text (map items.Final finals.now)) }
+    ensures grows { StartsWith text.new.items text.old.items }
+{
+    for seen in finals {
+        push_final(text, seen)?;
     }
     Ok(())
 }

@@ -1,14 +1,17 @@
 // A line is split at its spaces into words. Each says bytes or a number, in the one way in which it is written.
 
-ghost use Rattle.std.specs.Prelude.{◌≡◌, ◌≢◌, ◌↔◌, ◌∷◌, ◌++◌, Ok, Some, option_map, IfOk, IsTrue, MatchOption};
+ghost use Rattle.std.specs.Prelude.{◌≡◌, ◌≢◌, ◌↔◌, ◌<◌, ◌∷◌, ◌++◌, Ok, Some, length, option_map, IfOk, IsTrue, MatchOption};
 ghost use Rattle.std.specs.List.{AllByRecursion};
 ghost use Rattle.encoding.specs.Limits.{IsKeyData, IsName};
+ghost use Rattle.encoding.specs.declared.fixed_text.TheConstants.{PROOF_TEXT_ROOM};
 ghost use Rattle.hex.specs.Hex.{decode_of, encode_lower};
 ghost use Rattle.rootchain.specs.Promises.{SpellsPromise};
 ghost use Rattle.memory.specs.Finding.{Finds};
-ghost use Rattle.memory.specs.Words.{HasNoSpace, IsFoundText, IsHexOf, IsNameWord, IsNumberWord, IsPromiseWord};
+ghost use Rattle.memory.specs.Lines.{HasRoom};
+ghost use Rattle.memory.specs.Words.{HasNoSpace, IsFoundText, IsHexOf, IsNameWord, IsNumberWord, IsPromiseWord, IsReplyWord};
 
-use encoding::{BoundKey, KeyData, Name, Policy};
+use crate::final_seen::text_of;
+use encoding::{BoundKey, KeyData, Name, PROOF_TEXT_ROOM, Policy, ProofText};
 use hex::FromHexError;
 use itoa::Buffer;
 use rootchain::SignedPromise;
@@ -164,4 +167,23 @@ fn promise_of(bytes: &[u8]) -> Option<SignedPromise>
         Ok(signed) => Some(signed),
         Err(_) => None,
     }
+}
+
+/// The reply that a word writes.
+pub(crate) fn read_reply(alloc: Global, word: &[u8]) -> Result<Option<ProofText>, AllocError>
+    ensures { IfOk result (Finds (IsReplyWord word.now)) }
+{
+    match read_hex(alloc, word)? {
+        Some(bytes) => Ok(reply_of(&bytes)),
+        None => Ok(None),
+    }
+}
+
+fn reply_of(bytes: &[u8]) -> Option<ProofText>
+    ensures { MatchOption result (PROOF_TEXT_ROOM < length bytes.now) (λ reply. HasRoom bytes.now × (reply ≡ bytes.now)) }
+{
+    if PROOF_TEXT_ROOM < bytes.len() {
+        return None;
+    }
+    Some(text_of(bytes))
 }

@@ -8,7 +8,7 @@ ghost use Rattle.hex.specs.Hex.{encode_lower};
 ghost use Rattle.memory.specs.Lines.{found_words, item_line, line_of, promise_word, IsNamed};
 ghost use Rattle.memory.specs.declared.item.Item.TheVariants as items;
 
-use crate::{Alarm, EvidenceLine, Item, Mark, Promised};
+use crate::{Alarm, EvidenceLine, FinalSeen, Item, Mark, Promised};
 use encoding::BoundKey;
 use itoa::Buffer;
 use std::alloc::AllocError;
@@ -28,6 +28,7 @@ impl Item {
         match self {
             Item::Promised(promised) => push_promised(text, promised),
             Item::Watched(mark) => push_mark(text, mark),
+            Item::Final(seen) => push_final(text, seen),
             Item::Alarm(alarm) => push_alarm(text, alarm),
             Item::Evidence(line) => push_evidence(text, line),
         }
@@ -51,6 +52,17 @@ pub(crate) fn push_mark(text: &mut Vec<u8>, mark: &Mark) -> Result<(), AllocErro
     push_named(text, b"watched", mark.name.bytes(), mark.since)?;
     text.extend_from_slice(b" ")?;
     push_number(text, mark.epoch)?;
+    text.extend_from_slice(b"\n")
+}
+
+pub(crate) fn push_final(text: &mut Vec<u8>, seen: &FinalSeen) -> Result<(), AllocError>
+    ensures ok { OnOk result (text.new.items ≡ text.old.items ++ item_line (items.Final seen.now) ++ 10 ∷ []) }
+    ensures named { IsName seen.now.name }
+    ensures grows { StartsWith text.new.items text.old.items }
+{
+    push_named(text, b"final", seen.name.bytes(), seen.epoch)?;
+    text.extend_from_slice(b" ")?;
+    push_hex(text, seen.reply.bytes())?;
     text.extend_from_slice(b"\n")
 }
 

@@ -1,15 +1,18 @@
 -- What a state learns and hands on, step by step.
-use Rattle.std.proofs.Common.{◌≡◌, ◌∙◌, ℕ, zero, suc, true, false, List, [], ◌∷◌, ◌++◌, drop, Contains, arith, inl, inr, refl, subst, sym}
+use Rattle.std.proofs.Common.{◌≡◌, ◌∙◌, ℕ, zero, suc, true, false, List, [], ◌∷◌, ◌++◌, ap, drop, Contains, arith, inl, inr, refl, subst, sym}
 use Rattle.std.specs.List.{AllByRecursion}
 use Rattle.rootchain.specs.Chains.{KeyedRoots}
 use Rattle.rootchain.specs.Promises.{IsSignedPromise}
 use Rattle.rootchain.specs.declared.signed_promise.SignedPromise.{SignedPromise}
 use Rattle.client.specs.Clients.{IsPromised}
 use Rattle.monitor.specs.Monitors.{Monitor}
-use Rattle.memory.specs.Learning.{EachOfSome, Each, IsFresh, MarksOne}
+use Rattle.memory.specs.Learning.{EachOfSome, Each, IsFresh, LearnsFinal, MarksOne}
 use Rattle.memory.specs.Memories.{Memory}
+use Rattle.memory.specs.declared.final_seen.FinalSeen.{FinalSeen}
 use Rattle.memory.specs.declared.item.Item.{Item}
-use Rattle.runs.specs.Keeping.{LearnsPromises}
+use Rattle.runs.specs.Keeping.{LearnsKept, LearnsPromises}
+use Rattle.memory.specs.declared.promised.Promised.{Promised}
+use Rattle.runs.specs.Standing.{AddsOwn}
 use Rattle.runs.proofs.PutMarks.{promises-stay}
 
 shift-all : {A : Type 0} (x : A) (xs ys : List A) → AllByRecursion (Contains xs) ys → AllByRecursion (Contains (x ∷ xs)) ys
@@ -43,6 +46,36 @@ begun-among monitors begun count is = subst (AllByRecursion (Contains monitors))
 -- promises move no mark
 pub learns-stay : (own kept : List SignedPromise) (before after : Memory) (news : List Item) → LearnsPromises own kept before news after → after.marks ≡ before.marks
 learns-stay own kept before after news (fresh, is, (first, middle, rest, owns, others, same)) = promises-stay false fresh middle after rest others ∙ promises-stay true own before middle first owns
+
+-- neither do replies
+final-stays : (seen : FinalSeen) (before after : Memory) (news : List Item) → LearnsFinal seen before news after → after.marks ≡ before.marks
+final-stays seen before after news ((puts, is), changes) = ap (λ (m : Memory). m.marks) is
+
+pub finals-stay : (finals : List FinalSeen) (before after : Memory) (news : List Item) → Each LearnsFinal finals before news after → after.marks ≡ before.marks
+finals-stay [] before after news (none, same) = ap (λ (m : Memory). m.marks) same
+finals-stay (seen ∷ finals) before after news (first, middle, rest, does, each, is) = finals-stay finals middle after rest each ∙ final-stays seen before middle first does
+
+pub kept-stay : (own kept : List SignedPromise) (finals : List FinalSeen) (before after : Memory) (news : List Item) → LearnsKept own kept finals before news after → after.marks ≡ before.marks
+kept-stay own kept finals before after news (first, middle, rest, learns, each, is) = finals-stay finals middle after rest each ∙ learns-stay own kept before middle first learns
+
+-- nor some of them
+pub some-finals-stay : (finals : List FinalSeen) (before after : Memory) → EachOfSome LearnsFinal finals before after → after.marks ≡ before.marks
+some-finals-stay finals before after (done, left, news, parts, each) = finals-stay done before after news each
+
+-- and no promise
+final-promises : (seen : FinalSeen) (before after : Memory) (news : List Item) → LearnsFinal seen before news after → after.promises ≡ before.promises
+final-promises seen before after news ((puts, is), changes) = ap (λ (m : Memory). m.promises) is
+
+pub finals-promises : (finals : List FinalSeen) (before after : Memory) (news : List Item) → Each LearnsFinal finals before news after → after.promises ≡ before.promises
+finals-promises [] before after news (none, same) = ap (λ (m : Memory). m.promises) same
+finals-promises (seen ∷ finals) before after news (first, middle, rest, does, each, is) = finals-promises finals middle after rest each ∙ final-promises seen before middle first does
+
+pub some-finals-promises : (finals : List FinalSeen) (before after : Memory) → EachOfSome LearnsFinal finals before after → after.promises ≡ before.promises
+some-finals-promises finals before after (done, left, news, parts, each) = finals-promises done before after news each
+
+-- what is known of promises for changes of the owner's own is not more
+pub adds-as : (changes : List SignedPromise) (a b c : Memory) → AddsOwn changes a b → c.promises ≡ b.promises → AddsOwn changes a c
+adds-as changes a b c adds same = λ signed was. adds signed (was.0, subst (λ (all : List Promised). Contains all was.0) same was.1, was.2, was.3)
 
 -- ---- what is learned is well formed
 

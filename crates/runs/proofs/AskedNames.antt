@@ -80,8 +80,8 @@ module _ (hash : List ℕ → List ℕ) (accepted verified : List ℕ → List �
       both = λ before middle after one other is. other (one is);
       sends = λ before stream is. is;
       tells = λ before told is. is;
-      takes = λ before after (frame, asks, (updates, monitors), same, above) is. of-updated hash verified key frame.body before.client after.client updates is;
-      stops = λ before after may (head, at, frame, exchange, told, stops, tells) is. stopped-own before.client after.client before.monitors frame told after.monitors (asks_roots head) stops is;
+      takes = λ before after (frame, asks, (updates, monitors), same, above, finals) is. of-updated hash verified key frame.body before.client after.client updates is;
+      stops = λ before after may (head, at, frame, exchange, told, stops, tells, finals) is. stopped-own before.client after.client before.monitors frame told after.monitors (asks_roots head) stops is;
       tests = λ before name kept after asks is. same-own before.client after.client (shown-chain hash accepted verified before.client name (Query (Lookup name asks.epoch)) asks.frame kept asks.told after.client asks.shows) is;
       steps = λ before place went after asks is. same-own before.client after.client (ap (λ (c : Client). c.chain) asks.client) is;
       joins = λ before key promised name given first monitor may unwatched joined is. is;

@@ -12,7 +12,7 @@ use Rattle.memory.specs.Memories.{Memory}
 use Rattle.memory.specs.Taking.{either, Takes}
 use Rattle.memory.specs.Watching.{IsAwaited}
 use Rattle.memory.specs.declared.item.Item.{Item}
-use Rattle.memory.specs.declared.item.Item.TheVariants.{Promised, Watched, Alarm, Evidence}
+use Rattle.memory.specs.declared.item.Item.TheVariants.{Promised, Watched, Final, Alarm, Evidence}
 use Rattle.memory.specs.declared.kind.Kind.{Kind}
 use Rattle.memory.specs.declared.mark.Mark.{Mark}
 use Rattle.memory.specs.declared.kind.Kind.TheVariants.{Alarms, EvidenceLines}
@@ -34,10 +34,12 @@ each-promises Does same (x ∷ xs) before after news (first, middle, rest, does,
 item-promises : (kind : Kind) (item : Item) (before after : Memory) → IsOfKind kind item → Takes item before after → after.promises ≡ before.promises
 item-promises Alarms (Promised promised) before after of takes = absurd of
 item-promises Alarms (Watched mark) before after of takes = absurd of
+item-promises Alarms (Final seen) before after of takes = absurd of
 item-promises Alarms (Alarm alarm) before after of (puts, is) = ap (λ (m : Memory). m.promises) is
 item-promises Alarms (Evidence line) before after of takes = absurd of
 item-promises EvidenceLines (Promised promised) before after of takes = absurd of
 item-promises EvidenceLines (Watched mark) before after of takes = absurd of
+item-promises EvidenceLines (Final seen) before after of takes = absurd of
 item-promises EvidenceLines (Alarm alarm) before after of takes = absurd of
 item-promises EvidenceLines (Evidence line) before after of (puts, is) = ap (λ (m : Memory). m.promises) is
 

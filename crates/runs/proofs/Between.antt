@@ -66,7 +66,7 @@ written_behind (Ok done) Leads before asker said said' stream old now new text a
   shifted (first_told text) (scene asker said stream),
   leads,
   Appends-trans old now new text said.text.items appends further,
-  scene_of asker.client asker.client asker.monitors.items asker.monitors.items (report_of said') (emptied (worse 0 said.status)) stream refl refl (told ∙ ap emptied (sym (worse_none said.status))),
+  scene_of asker.client asker.client asker.monitors.items asker.monitors.items asker.finals asker.finals (report_of said') (emptied (worse 0 said.status)) stream refl refl refl (told ∙ ap emptied (sym (worse_none said.status))),
 )
 
 module _ (hash : List ℕ → List ℕ) (accepted verified : List ℕ → List ℕ → List ℕ → Type 0) {T : Type 0} (exchanged : T → RequestContent → Frame → T → Type 0) (marks : List Mark) (epoch : ℕ) where

@@ -143,8 +143,8 @@ module _ (hash : List ℕ → List ℕ) (accepted verified : List ℕ → List �
     both = λ before middle after one other now. other (one now);
     sends = λ before stream. stays-on before (record before { stream = stream }) refl refl (owned.sends before stream);
     tells = λ before told. stays-on before (record before { told = told_after before.told told }) refl refl (owned.tells before told);
-    takes = λ before after (frame, asks, (client, monitors), same, above) (owns, current). (
-      owned.takes before after (frame, asks, (client, monitors), same, above) owns,
+    takes = λ before after (frame, asks, (client, monitors), same, above, finals) (owns, current). (
+      owned.takes before after (frame, asks, (client, monitors), same, above, finals) owns,
       all-taken hash accepted verified key frame.body before.client after.client before.monitors after.monitors owns.chain (chains before owns) client monitors current,
     );
     stops = λ before after may stops. absurd may;

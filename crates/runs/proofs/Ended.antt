@@ -327,7 +327,7 @@ module _ (hash : List ℕ → List ℕ) (accepted verified : List ℕ → List �
 
   module _ (key token : List ℕ) (options : AskOptions) (NoState None' : Type 0) (without : None' → NoState) (within : NoState → None') where
     pub begun-with : (background : Background) (stream : T) (start : Scene T) → StartsRun hash accepted verified exchanged key token NoState stream background start → StartsRun hash accepted verified exchanged key token None' stream background start
-    begun-with background stream start begun = record { again = begun.again; begins = by begun.begins; knows = begun.knows }
+    begun-with background stream start begun = record { again = begun.again; begins = by begun.begins; knows = begun.knows; finals = begun.finals }
       where
         by : BeginsAsking hash accepted verified exchanged key token NoState stream background start.client start.stream → BeginsAsking hash accepted verified exchanged key token None' stream background start.client start.stream
         by (inl head) = inl head

@@ -196,7 +196,8 @@ module _ {T : Type 0} (hash : List ℕ → List ℕ) (accepted verified : List �
     above-keeps epoch before after (head, is, inr (high, goes)) = goes_on-keeps before after goes
 
     pub hears_only-keeps : {fault : AskFault} (held : ℕ) (asked : RequestContent) (frame : Frame) (noted noted' : List SignedPromise) (before after : Scene T) → HearsOnly hash accepted verified exchanged fault held asked frame noted noted' before after → Keeps before after
-    hears_only-keeps held asked frame noted noted' before after (notes, told, hears, tells, monitors, stream) = each.hears before after held asked frame told told hears tells monitors
+    hears_only-keeps held asked frame noted noted' before after (notes, told, hears, (shown, shows, tells), monitors, stream) =
+        each.hears before after held asked frame told (told_after told shown) hears tells monitors
 
     pub hears_some-keeps : {fault : AskFault} (epoch : ℕ) (asked : RequestContent) (frame : Frame) (noted noted' : List SignedPromise) (before after : Scene T) → MayNote noted' → HearsSome hash accepted verified exchanged fault marks epoch asked frame noted noted' before after
         → Keeps before after

@@ -114,10 +114,10 @@ module _ (hash : List ℕ → List ℕ) (accepted verified : List ℕ → List �
 
   module _ {T : Type 0} (exchanged : T → RequestContent → Frame → T → Type 0) (before after : Scene T) where
     pub take-goes : TakesList hash verified exchanged before true after → AllByRecursion Is before.monitors → AllZip Goes before.monitors after.monitors
-    take-goes (frame, asks, (client, monitors), same, above) all = zip-goes frame.body before.monitors after.monitors monitors all
+    take-goes (frame, asks, (client, monitors), same, above, finals) all = zip-goes frame.body before.monitors after.monitors monitors all
 
     pub stop-goes : StopsList hash verified exchanged before after → AllByRecursion Is before.monitors → AllZip Goes before.monitors after.monitors
-    stop-goes (head, is, frame, exchange, told, stops, tells) all = stopped-goes (asks_roots head) before.client before.monitors frame told after.client after.monitors stops all
+    stop-goes (head, is, frame, exchange, told, stops, tells, finals) all = stopped-goes (asks_roots head) before.client before.monitors frame told after.client after.monitors stops all
 
     pub step-goes : (place : ℕ) (went : Bool) → AsksEpoch hash accepted exchanged before place went after → AllZip Goes before.monitors after.monitors
     step-goes place went asks = subst (AllZip Goes before.monitors) (sym asks.monitors) (set-goes before.monitors place asks.monitor asks.watched asks.at

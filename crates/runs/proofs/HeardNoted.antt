@@ -17,6 +17,7 @@ use Rattle.asking.specs.Catching.{CatchesUp}
 use Rattle.runs.specs.Owning.{Owns}
 use Rattle.runs.specs.Runs.{Background}
 use Rattle.runs.specs.Saves.{noting, IsAsked}
+use Rattle.asking.specs.Reports.{told_after}
 use Rattle.asking.specs.Scenes.{Scene}
 use Rattle.runs.specs.Standing.{IsCurrent, IsUpTo}
 use Rattle.asking.specs.declared.ask_fault.AskFault.TheVariants.{NoReply, OutOfMemory}
@@ -85,7 +86,8 @@ module _ {T : Type 0} (hash : List ℕ → List ℕ) (accepted verified : List �
     hears-noted before after (inl hears) below owns now =
         above-keeps hash accepted verified exchanged background.marks (owned noted') held hears.heard after hears.goes (one-noted before hears.heard hears.hears hears.notes below owns now)
     hears-noted before after (inr (inl (none, same))) below owns now = noted-as after none (subst (Owned noted) (sym same) owns)
-    hears-noted before after (inr (inr (inl (inl none, told, hears, tells, monitors, stream)))) below owns now = noted-as after none ((owned noted).hears before after held asked frame told told hears tells monitors owns)
+    hears-noted before after (inr (inr (inl (inl none, told, hears, (shown, shows, tells), monitors, stream)))) below owns now =
+        noted-as after none ((owned noted).hears before after held asked frame told (told_after told shown) hears tells monitors owns)
     hears-noted before after (inr (inr (inl (inr (out, notes), told, hears, tells, monitors, stream)))) below owns now = absurd (not-out out)
     hears-noted before after (inr (inr (inr (middle, hears, notes, (head, is, far, goes))))) below owns now =
         goes_some-keeps hash accepted verified exchanged background.marks (owned noted') middle after goes (one-noted before middle hears notes below owns now)

@@ -7,9 +7,10 @@ use Rattle.rootchain.specs.declared.signed_promise.SignedPromise.{SignedPromise}
 use Rattle.monitor.specs.Monitors.{Monitor}
 use Rattle.memory.specs.Learning.{BeginsOne, Each, LearnsLine, MarksOne}
 use Rattle.memory.specs.Memories.{Memory}
+use Rattle.memory.specs.declared.final_seen.FinalSeen.{FinalSeen}
 use Rattle.memory.specs.declared.item.Item.{Item}
 use Rattle.memory.specs.declared.kind.Kind.TheVariants.{Alarms, EvidenceLines}
-use Rattle.runs.specs.Keeping.{AddsTo, IsNewHead, IsSettled, KeepsUp, LearnsAfter, LearnsBefore, LearnsPromises, MayMove, SavesTo}
+use Rattle.runs.specs.Keeping.{AddsTo, IsNewHead, IsSettled, KeepsUp, LearnsAfter, LearnsBefore, LearnsKept, MayMove, SavesTo}
 use Rattle.runs.specs.Saves.{IsHeadEpoch}
 use Rattle.asking.specs.declared.ask_fault.AskFault.{AskFault}
 use Rattle.asking.specs.declared.ask_fault.AskFault.TheVariants.{OutOfMemory}
@@ -18,17 +19,17 @@ use Rattle.runs.specs.declared.run_fault.RunFault.TheVariants.{Ask, Program}
 use Rattle.asking.specs.declared.asker.Asker.{Asker}
 use Rattle.runs.specs.declared.state.State.{State}
 
-pub learned_before : (own own' kept : List SignedPromise) (told : List ℕ) (begun begun' : List Monitor) (a b b' c d d' : Memory) (shown promised marked : List Item)
-    → Each (LearnsLine EvidenceLines) (lines_of told) a shown b → b' ≡ b → own' ≡ own → LearnsPromises own' kept b' promised c
-    → begun' ≡ begun → Each BeginsOne begun' c marked d → d' ≡ d → LearnsBefore own kept told begun a d'
-learned_before own own' kept told begun begun' a b b' c d d' shown promised marked shows same owns learns begins marks last = (
+pub learned_before : (own own' kept : List SignedPromise) (finals finals' : List FinalSeen) (told : List ℕ) (begun begun' : List Monitor) (a b b' c d d' : Memory) (shown promised marked : List Item)
+    → Each (LearnsLine EvidenceLines) (lines_of told) a shown b → b' ≡ b → own' ≡ own → finals' ≡ finals → LearnsKept own' kept finals' b' promised c
+    → begun' ≡ begun → Each BeginsOne begun' c marked d → d' ≡ d → LearnsBefore own kept finals told begun a d'
+learned_before own own' kept finals finals' told begun begun' a b b' c d d' shown promised marked shows same owns seen learns begins marks last = (
   shown,
   promised,
   marked,
   b,
   c,
   shows,
-  subst (λ (m : Memory). LearnsPromises own kept m promised c) same (subst (λ (os : List SignedPromise). LearnsPromises os kept b' promised c) owns learns),
+  subst (λ (m : Memory). LearnsKept own kept finals m promised c) same (subst (λ (os : List SignedPromise). LearnsKept os kept finals b' promised c) owns (subst (λ (fs : List FinalSeen). LearnsKept own' kept fs b' promised c) seen learns)),
   subst (λ (m : Memory). Each BeginsOne begun c marked m) (sym last) (subst (λ (ms : List Monitor). Each BeginsOne ms c marked d) begins marks),
 )
 
@@ -67,13 +68,13 @@ was_asked asked done is none = all_not_err done OutOfMemory (sym is ∙ none)
 
 -- what a state learned, and how far it looked
 pub added : {A E H V S : Type 0} (result : Result A E) (asker : Asker H V S) (told : List ℕ) (before kept : State)
-    → OnOk result (LearnsBefore (drop before.changes asker.changes.items) asker.client.promises told (drop before.monitors asker.monitors.items) before.memory kept.memory)
-    → (kept.head ≡ before.head) × (kept.monitors ≡ before.monitors) × (kept.was_new ≡ before.was_new) → OnOk result (kept.changes ≡ length asker.changes.items) → OnOk result (AddsTo asker told (Some before) (Some kept))
-added (Ok done) asker told before kept learns looked changes = (kept, refl, learns, looked.0, looked.1, looked.2, changes)
-added (Err fault) asker told before kept learns looked changes = tt
+    → OnOk result (LearnsBefore (drop before.changes asker.changes.items) asker.client.promises (drop before.finals asker.finals.seen) told (drop before.monitors asker.monitors.items) before.memory kept.memory)
+    → (kept.head ≡ before.head) × (kept.monitors ≡ before.monitors) × (kept.was_new ≡ before.was_new) → OnOk result (kept.changes ≡ length asker.changes.items) → OnOk result (kept.finals ≡ length asker.finals.seen) → OnOk result (AddsTo asker told (Some before) (Some kept))
+added (Ok done) asker told before kept learns looked changes finals = (kept, refl, learns, looked.0, looked.1, looked.2, changes, finals)
+added (Err fault) asker told before kept learns looked changes finals = tt
 
 pub saved : {A E H V S : Type 0} (Enough : Type 0) (result : Result A E) (asker : Asker H V S) (told : List ℕ) (before kept : State)
     → OnOk result ((some : List Monitor) × MayMove asker.client.chain before.head before.was_new before.monitors asker.monitors.items some × LearnsAfter told asker.monitors.items some before.memory kept.memory)
-    → OnOk result ((kept.monitors ≡ length asker.monitors.items) × IsHeadEpoch asker.client.chain kept.head × IsNewHead asker.client.chain before.head kept.was_new) → kept.changes ≡ before.changes → OnOk result (Enough → SavesTo asker told (Some before) (Some kept))
-saved Enough (Ok done) asker told before kept learns looked changes = λ enough. (kept, refl, learns, looked.1, looked.2, looked.0, changes)
-saved Enough (Err fault) asker told before kept learns looked changes = tt
+    → OnOk result ((kept.monitors ≡ length asker.monitors.items) × IsHeadEpoch asker.client.chain kept.head × IsNewHead asker.client.chain before.head kept.was_new) → kept.changes ≡ before.changes → kept.finals ≡ before.finals → OnOk result (Enough → SavesTo asker told (Some before) (Some kept))
+saved Enough (Ok done) asker told before kept learns looked changes finals = λ enough. (kept, refl, learns, looked.1, looked.2, looked.0, changes, finals)
+saved Enough (Err fault) asker told before kept learns looked changes finals = tt

@@ -7,6 +7,7 @@ use Rattle.rootchain.specs.declared.signed_promise.SignedPromise.{SignedPromise}
 use Rattle.rootchain.specs.declared.signed_root.SignedRoot.{SignedRoot}
 use Rattle.memory.specs.Memories.{Memory}
 use Rattle.memory.specs.declared.alarm.Alarm.{Alarm}
+use Rattle.memory.specs.declared.final_seen.FinalSeen.{FinalSeen}
 use Rattle.memory.specs.declared.mark.Mark.{Mark}
 use Rattle.runs.specs.Saves.{with_promises, Counts, Found, HasMark, IsOwnAhead, KeepsTold, WasOwn, WasStored}
 use Rattle.runs.specs.Told.{TellsEpoch}
@@ -53,9 +54,10 @@ module _ (hash : List ℕ → List ℕ) (accepted : List ℕ → List ℕ → Li
       → ((signed : SignedPromise) → WasOwn start.known signed → WasOwn known signed)
       → ((alarm : Alarm) → Contains start.known.alarms alarm → Contains known.alarms alarm ⊎ Drops alarm.name)
       → ((line : List ℕ) → Contains start.known.evidence line → Contains known.evidence line)
+      → ((seen : FinalSeen) → Contains start.known.finals seen → Contains known.finals seen)
       → KeepsTold hash accepted Given Own Asked Drops start text (record { roots = roots; known = known })
-  keeps-told start text roots more known grown stays told own still alarms evidence =
-      record { grows = (more, grown); stays = stays; told = told; own = own; awaits = λ signed was awaited. still signed was; alarms = alarms; evidence = evidence }
+  keeps-told start text roots more known grown stays told own still alarms evidence finals =
+      record { grows = (more, grown); stays = stays; told = told; own = own; awaits = λ signed was awaited. still signed was; alarms = alarms; evidence = evidence; finals = finals }
 
   -- what a run loads is so at once
   pub loads-kept : (start : Found) (text : List ℕ) (roots : List SignedRoot) → roots ≡ start.roots → KeepsTold hash accepted Given Own Asked Drops start text (record { roots = roots; known = start.known })
@@ -67,6 +69,7 @@ module _ (hash : List ℕ → List ℕ) (accepted : List ℕ → List ℕ → Li
     awaits = λ signed was awaited. was;
     alarms = λ alarm has. inl has;
     evidence = λ line has. has;
+    finals = λ seen has. has;
   }
 
   module _ (start : Found) (text : List ℕ) (stored : Found) (keeps : KeepsTold hash accepted Given Own Asked Drops start text stored) where
@@ -87,6 +90,7 @@ module _ (hash : List ℕ → List ℕ) (accepted : List ℕ → List ℕ → Li
       awaits = keeps.awaits;
       alarms = keeps.alarms;
       evidence = keeps.evidence;
+      finals = keeps.finals;
     }
 
     -- new marks are of nothing watched, and no mark is above a promise that is new
@@ -97,8 +101,9 @@ module _ (hash : List ℕ → List ℕ) (accepted : List ℕ → List ℕ → Li
         → ((signed : SignedPromise) → WasOwn known signed → WasOwn stored.known signed ⊎ ((mark : Mark) → Contains stored.known.marks mark → (mark.epoch ≤ mark.since) ⊎ (mark.epoch ≤ signed.promise.epoch)))
         → ((alarm : Alarm) → Contains stored.known.alarms alarm → Contains known.alarms alarm)
         → ((line : List ℕ) → Contains stored.known.evidence line → Contains known.evidence line)
+        → ((seen : FinalSeen) → Contains stored.known.finals seen → Contains known.finals seen)
         → KeepsTold hash accepted Given Own Asked Drops start text (record { roots = stored.roots; known = known })
-    remembers-kept known from stays own still late alarms evidence = record {
+    remembers-kept known from stays own still late alarms evidence finals = record {
       grows = keeps.grows;
       stays = stays;
       told = λ mark has root among above below. elim (from mark has) [
@@ -116,6 +121,7 @@ module _ (hash : List ℕ → List ℕ) (accepted : List ℕ → List ℕ → Li
         | inr dropped ↦ inr dropped
       ];
       evidence = λ line has. evidence line (keeps.evidence line has);
+      finals = λ seen has. finals seen (keeps.finals seen has);
     }
 
     -- more is written
@@ -128,6 +134,7 @@ module _ (hash : List ℕ → List ℕ) (accepted : List ℕ → List ℕ → Li
       awaits = keeps.awaits;
       alarms = keeps.alarms;
       evidence = keeps.evidence;
+      finals = keeps.finals;
     }
 
 -- what keeps the alarms of all names keeps all told whatever name is settled
@@ -144,4 +151,5 @@ settling-kept hash accepted Given Own Asked Drops Drops' start text stored more 
     | inr dropped ↦ inr (more alarm.name dropped)
   ];
   evidence = keeps.evidence;
+  finals = keeps.finals;
 }

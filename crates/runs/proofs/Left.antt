@@ -26,7 +26,7 @@ use Rattle.runs.proofs.AskedOwn.{leaves-awaited, leaves-own}
 use Rattle.runs.proofs.Faulty.{stops_more}
 use Rattle.runs.proofs.KeptTold.{settling-kept, told-counted}
 use Rattle.runs.proofs.Noting.{same-own}
-use Rattle.runs.proofs.Staying.{leaves-alarms, leaves-evidence, no-name, settles-alarms, settles-evidence}
+use Rattle.runs.proofs.Staying.{leaves-alarms, leaves-evidence, leaves-finals, no-name, settles-alarms, settles-evidence, settles-finals}
 
 -- if all is well, all was asked
 pub asked_left : (P : Type 0) (asked left : Result (Unit {0}) RunFault) → OnOk left (asked ≡ Ok tt) → OnOk asked P → OnOk left P
@@ -114,6 +114,7 @@ module _ (hash : List ℕ → List ℕ) (accepted verified : List ℕ → List �
           | inr dropped ↦ inr dropped
         ];
         evidence = λ line has. leaves-evidence tested known left leaves line (told.evidence line has);
+        finals = λ seen has. leaves-finals tested known left leaves seen (told.finals seen has);
       }
 
   pub leaves_told : (state : Option State) → IsLeft hash accepted verified lines key old (λ done. Before (done ++ acts)) state out → ((all : List Act) → Before all → LeavesState After all state out)
@@ -168,6 +169,7 @@ module _ (hash : List ℕ → List ℕ) (accepted verified : List ℕ → List �
           | inr dropped ↦ absurd (no-name alarm.name dropped)
         ];
         evidence = λ line has. settles-evidence name known settled settles line (told.evidence line has);
+        finals = λ seen has. settles-finals name known settled settles seen (told.finals seen has);
       }
 
   -- a name is settled

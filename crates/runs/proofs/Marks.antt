@@ -9,7 +9,7 @@ use Rattle.memory.specs.Memories.{name_of, nothing, Memory}
 use Rattle.memory.specs.Taking.{PutsMark, Takes}
 use Rattle.memory.specs.Texts.{Recalls, Spells}
 use Rattle.memory.specs.declared.item.Item.{Item}
-use Rattle.memory.specs.declared.item.Item.TheVariants.{Promised, Watched, Alarm, Evidence}
+use Rattle.memory.specs.declared.item.Item.TheVariants.{Promised, Watched, Final, Alarm, Evidence}
 use Rattle.memory.specs.declared.mark.Mark.{Mark}
 use Rattle.memory.specs.declared.read_fault.ReadFault.{ReadFault}
 use Rattle.memory.proofs.Joined.{push-no_repeat}
@@ -44,6 +44,7 @@ same-within chain before after same all = λ mark has. all mark (subst (λ (mark
 pub within_taken : (chain : KeyedRoots) (item : Item) (before after : Memory) → IsWithin chain item → Takes item before after → AreWithin chain before → AreWithin chain after
 within_taken chain (Watched mark) before after fits (puts, is) all = puts-all (λ (m : Mark). IsWithin chain (Watched m)) mark before.marks after.marks puts fits all
 within_taken chain (Promised promised) before after fits (puts, is) all = same-within chain before after (ap (λ (m : Memory). m.marks) is) all
+within_taken chain (Final seen) before after fits (puts, is) all = same-within chain before after (ap (λ (m : Memory). m.marks) is) all
 within_taken chain (Alarm alarm) before after fits (puts, is) all = same-within chain before after (ap (λ (m : Memory). m.marks) is) all
 within_taken chain (Evidence line) before after fits (puts, is) all = same-within chain before after (ap (λ (m : Memory). m.marks) is) all
 
@@ -67,6 +68,7 @@ puts-once new before after (inr (none, be)) once = subst (λ (all : List Mark). 
 takes-once : (item : Item) (before after : Memory) → Takes item before after → HasEachOnce before → HasEachOnce after
 takes-once (Watched mark) before after (puts, is) once = puts-once mark before.marks after.marks puts once
 takes-once (Promised promised) before after (puts, is) once = subst HasEachOnce (sym is) once
+takes-once (Final seen) before after (puts, is) once = subst HasEachOnce (sym is) once
 takes-once (Alarm alarm) before after (puts, is) once = subst HasEachOnce (sym is) once
 takes-once (Evidence line) before after (puts, is) once = subst HasEachOnce (sym is) once
 

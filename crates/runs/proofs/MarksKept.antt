@@ -24,7 +24,7 @@ use Rattle.runs.specs.Marking.{AreOrdered, BeginsNoLater, HasMarkOf, StateMarks}
 use Rattle.asking.specs.Scenes.{Scene}
 use Rattle.asking.specs.declared.asker.Asker.{Asker}
 use Rattle.runs.specs.declared.state.State.{State}
-use Rattle.runs.proofs.Adding.{drop-all, learns-stay}
+use Rattle.runs.proofs.Adding.{drop-all, kept-stay}
 use Rattle.runs.proofs.GoneOn.{BeginsWell, IsBehind}
 use Rattle.runs.proofs.OwnedMarks.{AllGo, GoesAs}
 use Rattle.runs.proofs.OwnedRoots.{has-cases}
@@ -142,7 +142,7 @@ pub advances-many : {T : Type 0} (hash : List ℕ → List ℕ) (accepted verifi
 advances-many {T} hash accepted verified exchanged marks epoch before after (inl (there, same)) = ap (λ (s : Scene T). length s.monitors) same
 advances-many {T} hash accepted verified exchanged marks epoch before after (inr (low, inl (inl (head, is, last, same)))) = ap (λ (s : Scene T). length s.monitors) same
 advances-many {T} hash accepted verified exchanged marks epoch before after (inr (low, inl (inr (frame, stream, asks, none, same)))) = ap (λ (s : Scene T). length s.monitors) same
-advances-many {T} hash accepted verified exchanged marks epoch before after (inr (low, inr ((frame, asks, (client, monitors), same, above), there))) = zip-many hash verified frame.body before.monitors after.monitors monitors
+advances-many {T} hash accepted verified exchanged marks epoch before after (inr (low, inr ((frame, asks, (client, monitors), same, above, finals), there))) = zip-many hash verified frame.body before.monitors after.monitors monitors
 
 drop-ordered : (count : ℕ) (monitors : List Monitor) → AreOrdered monitors → AreOrdered (drop count monitors)
 drop-ordered zero [] ordered = tt
@@ -162,10 +162,10 @@ pub record AreGone (known : List Mark) (before after : List Monitor) : Type 0 wh
 -- once a state learned what is told, it has looked at all monitors, and each has a mark
 pub learned-marks : {H V S : Type 0} (asker : Asker H V S) (told : List ℕ) (state : State) (after : Option State) (before : List Monitor) → KeepsUp asker told (Some state) after → HasNoRepeat (map name_of state.memory.marks)
     → AreGone state.memory.marks before asker.monitors.items → StateMarks (Some state) before → StateMarks after asker.monitors.items
-learned-marks asker told state after before (middle, (kept, is, (shown, promised, marked, one, two, shows, learns, begins), head, looked, was-new, changes), saves) once gone (count, have, was) =
+learned-marks asker told state after before (middle, (kept, is, (shown, promised, marked, one, two, shows, learns, begins), head, looked, was-new, changes, finals), saves) once gone (count, have, was) =
     let monitors = asker.monitors.items in
-    let (last, at, (some, moves, (alarms, moved, three, tells, marks)), heads, was, all, still) = subst (λ (m : Option State). SavesTo asker told m after) is saves in
-    let same : two.marks ≡ state.memory.marks = learns-stay _ asker.client.promises one two promised learns ∙ lines-stay EvidenceLines (lines_of told) state.memory one shown shows in
+    let (last, at, (some, moves, (alarms, moved, three, tells, marks)), heads, was, all, still, seen) = subst (λ (m : Option State). SavesTo asker told m after) is saves in
+    let same : two.marks ≡ state.memory.marks = kept-stay _ asker.client.promises _ one two promised learns ∙ lines-stay EvidenceLines (lines_of told) state.memory one shown shows in
     let alike : three.marks ≡ kept.memory.marks = lines-stay Alarms (lines_of told) kept.memory three alarms tells in
     let new = drop state.monitors monitors in
     let low = subst (λ (ms : List Mark). AllByRecursion (IsBehind ms) monitors) (sym same) gone.behind in
@@ -181,8 +181,8 @@ learned-marks asker told state after before (middle, (kept, is, (shown, promised
 -- a state is not lost
 pub learned-lasts : {H V S : Type 0} (asker : Asker H V S) (told : List ℕ) (before after : Option State) → KeepsUp asker told before after → after ≡ None → before ≡ None
 learned-lasts asker told None after kept none = refl
-learned-lasts asker told (Some state) after (middle, (kept, is, learns, head, looked, was-new, changes), saves) none =
-    let (last, at, moves, heads, was, all, still) = subst (λ (m : Option State). SavesTo asker told m after) is saves in
+learned-lasts asker told (Some state) after (middle, (kept, is, learns, head, looked, was-new, changes, finals), saves) none =
+    let (last, at, moves, heads, was, all, still, seen) = subst (λ (m : Option State). SavesTo asker told m after) is saves in
     absurd (some-none last after at none)
   where
     some-none : (last : State) (after : Option State) → after ≡ Some last → after ≡ None → ⊥

@@ -22,6 +22,7 @@ use Rattle.memory.specs.declared.read_fault.ReadFault.TheVariants as read
 use Rattle.memory.proofs.OneItem.{one_item}
 use Rattle.memory.proofs.OneMemory.{one_memory}
 use Rattle.memory.proofs.OneWord.{promise_same}
+use Rattle.asking.specs.FinalBindings.{no_finals, Finals, IsKnownIn}
 use Rattle.runs.specs.Loading.{fault_at, IsAccepted, IsFaultAt, IsHexOf, IsRefused, IsSecond, LoadsClient, RefusesItem, RefusesNext, StartsFrom, TakesLines, TakesNext, TakesRoots}
 
 -- ---- faults
@@ -119,13 +120,13 @@ not_promised hash verified client bytes promise NoPromise is never promised = ne
 
 -- ---- items
 
-module _ (hash : List ℕ → List ℕ) (verified : List ℕ → List ℕ → List ℕ → Type 0) (before : Client) where
+module _ (hash : List ℕ → List ℕ) (accepted verified : List ℕ → List ℕ → List ℕ → Type 0) (before : Client) where
   -- a line is of no other item
-  pub refuses_line : (line : List ℕ) (item : Item) → IsLineOf line item → ¬ IsAccepted hash verified before.chain item → RefusesItem hash verified line before
-  refuses_line line item is not_accepted = λ other also accepted. not_accepted (subst (λ (i : Item). IsAccepted hash verified before.chain i) (one_item line other item also is) accepted)
+  pub refuses_line : (line : List ℕ) (item : Item) → IsLineOf line item → ¬ IsAccepted hash accepted verified before.chain item → RefusesItem hash accepted verified line before
+  refuses_line line item is not_accepted = λ other also is_accepted. not_accepted (subst (λ (i : Item). IsAccepted hash accepted verified before.chain i) (one_item line other item also is) is_accepted)
 
-  pub refuses_none : (line : List ℕ) → ((item : Item) → ¬ IsLineOf line item) → RefusesItem hash verified line before
-  refuses_none line none = λ item is accepted. none item is
+  pub refuses_none : (line : List ℕ) → ((item : Item) → ¬ IsLineOf line item) → RefusesItem hash accepted verified line before
+  refuses_none line none = λ item is is_accepted. none item is
 
 -- a text that spells a memory has no line that is no item
 pub spelled_so : (text : List ℕ) (memory : Known) (bad : ℕ) → Spells text (Ok memory) → Spells text (Err (read.BadItem bad)) → ⊥
@@ -136,9 +137,13 @@ spelled_so text memory bad spells not_spelled = let same = one_memory text (Ok m
 pub second_none : {A : Type 0} (bytes : A → List ℕ) (second : Option A) → second ≡ None → IsSecond (option_map bytes second) []
 second_none {A} bytes second none = subst (λ (some : Option A). IsSecond (option_map bytes some) []) (sym none) refl
 
-pub loads_first : (hash : List ℕ → List ℕ) (verified : List ℕ → List ℕ → List ℕ → Type 0) (key roots : List ℕ) (second : Option (List ℕ)) (client : Client) → IsSecond second []
-    → StartsFrom hash verified key (lines_of roots) (Ok client) → LoadsClient hash verified key roots second (Ok client)
-loads_first hash verified key roots second client none starts = inr (client, [], starts, none, refl)
+pub loads_first : (hash : List ℕ → List ℕ) (accepted verified : List ℕ → List ℕ → List ℕ → Type 0) (key roots : List ℕ) (second : Option (List ℕ)) (client : Client) → IsSecond second []
+    → StartsFrom hash verified key (lines_of roots) (Ok client) → LoadsClient hash accepted verified key roots second (Ok client)
+loads_first hash accepted verified key roots second client none starts = inr (client, [], starts, none, refl)
 
 pub spells_nothing : (known : Known) → known ≡ nothing → Spells [] (Ok known)
 spells_nothing known same = ap Ok same
+
+-- where nothing is remembered, nothing is known of final bindings
+pub nothing_known : (known : Known) (finals : Finals) → known ≡ nothing → finals ≡ no_finals → IsKnownIn known finals
+nothing_known known finals none empty = subst (λ (k : Known). IsKnownIn k finals) (sym none) (subst (λ (f : Finals). IsKnownIn nothing f) (sym empty) (refl, refl))

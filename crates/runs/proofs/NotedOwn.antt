@@ -153,8 +153,8 @@ module _ (hash : List ℕ → List ℕ) (accepted verified : List ℕ → List �
       both = λ before middle after one other. other ∙ one;
       sends = λ before stream. refl;
       tells = λ before told. refl;
-      takes = λ before after (frame, asks, (updates, monitors), same, above). updated_key hash verified before.client after.client frame.body updates;
-      stops = λ before after may (head, is, frame, exchange, told, stops, tells). stopped-key (asks_roots head) before.client before.monitors frame told after.client after.monitors stops;
+      takes = λ before after (frame, asks, (updates, monitors), same, above, finals). updated_key hash verified before.client after.client frame.body updates;
+      stops = λ before after may (head, is, frame, exchange, told, stops, tells, finals). stopped-key (asks_roots head) before.client before.monitors frame told after.client after.monitors stops;
       tests = λ before name kept after asks. ap (λ (c : _). c.key) (shown-chain hash accepted verified before.client name (Query (Lookup name asks.epoch)) asks.frame kept asks.told after.client asks.shows);
       steps = λ before place went after asks. ap (λ (c : Client). c.chain.key) asks.client;
       joins = λ before key promised name given first monitor may is joined. refl;

@@ -75,7 +75,7 @@ module _ (hash : List ℕ → List ℕ) (accepted verified : List ℕ → List �
     AllBelow now = AllByRecursion IsBelow now.monitors
 
     taken-below : (before after : Scene T) → TakesList hash verified exchanged before true after → AllBelow before → AllBelow after
-    taken-below before after (frame, asks, (client, monitors), same, above) all = all-below frame.body before.monitors after.monitors monitors all
+    taken-below before after (frame, asks, (client, monitors), same, above, finals) all = all-below frame.body before.monitors after.monitors monitors all
 
     -- no more lists are needed behind this one
     pub waits-below : (marks : List Mark) (epoch : ℕ) (before after : Scene T) → Advances hash accepted verified exchanged epoch before false after → AllBelow before → AllBelow after

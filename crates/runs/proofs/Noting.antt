@@ -106,6 +106,7 @@ takes-own (item.Promised new) before after (inl (front, kept, behind, was, same,
 takes-own (item.Promised new) before after (inr (none, be), is) signed (promised, has, this, own) =
     (promised, subst (λ (all : List Promised). Contains all promised) (sym be) (Contains-append_left before.promises (new ∷ []) promised has), this, own)
 takes-own (item.Watched mark) before after (puts, is) signed was = same-own before after (ap (λ (m : Memory). m.promises) is) signed was
+takes-own (item.Final seen) before after (puts, is) signed was = same-own before after (ap (λ (m : Memory). m.promises) is) signed was
 takes-own (item.Alarm alarm) before after (puts, is) signed was = same-own before after (ap (λ (m : Memory). m.promises) is) signed was
 takes-own (item.Evidence line) before after (puts, is) signed was = same-own before after (ap (λ (m : Memory). m.promises) is) signed was
 

@@ -233,12 +233,12 @@ module _ (hash : List ℕ → List ℕ) (accepted verified : List ℕ → List �
           (subst (λ (r : Report). AllByRecursion (Owner (text ++ r.lines) after.client.chain) after.monitors × AllGo before.monitors after.monitors) (sym tells) all) owns
 
       takes-list : (before after : Scene T) → TakesList hash verified exchanged before true after → IsOwned before → IsOwned after
-      takes-list before after (frame, asks, (client, monitors), same, above) owns =
+      takes-list before after (frame, asks, (client, monitors), same, above, finals) owns =
           let taken = list-taken before.client frame.body after.client client owns.chain in
           took before after frame.body before.told taken same (zipped (text ++ before.told.lines) frame.body before.client.chain after.client.chain before.monitors after.monitors taken monitors owns.watched) owns
 
       stops-list : (before after : Scene T) → StopsList hash verified exchanged before after → IsOwned before → IsOwned after
-      stops-list before after (head, is, frame, exchange, told, stops, tells) owns = by stops
+      stops-list before after (head, is, frame, exchange, told, stops, tells, finals) owns = by stops
         where
           more : AllByRecursion (Owner (text ++ (told_after before.told told).lines) before.client.chain) before.monitors
           more = more-owned text before.client.chain before.told told before.monitors owns.watched
@@ -260,11 +260,14 @@ module _ (hash : List ℕ → List ℕ) (accepted verified : List ℕ → List �
           let now = text ++ before.told.lines in
           let chain = before.client.chain in
           let own = all-at (Owner now chain) before.monitors place asks.monitor owns.watched asks.at in
-          let (watched, go) = shown-owned now chain asks.monitor asks.epoch (Query (Lookup asks.monitor.name asks.epoch)) asks.frame went asks.told asks.watched asks.next asks.shows own in
-          let others = all-map (Owner now chain) (Owner (now ++ asks.told.lines) chain) before.monitors (λ monitor owned. own-more hash accepted verified Given Own start now chain marks asks.told.lines monitor owned) owns.watched in
-          let both = all-set (Owner (now ++ asks.told.lines) chain) before.monitors place asks.watched others watched in
-          let all : AllByRecursion (Owner (text ++ (told_after before.told asks.told).lines) chain) (slice_set before.monitors place asks.watched) =
-          subst (λ (t : List ℕ). AllByRecursion (Owner t chain) (slice_set before.monitors place asks.watched)) (append_assoc text before.told.lines asks.told.lines) both in
+          let told = told_after asks.told asks.shown in
+          let (stepped, go) = shown-owned now chain asks.monitor asks.epoch (Query (Lookup asks.monitor.name asks.epoch)) asks.frame went asks.told asks.watched asks.next asks.shows own in
+          let watched = subst (λ (t : List ℕ). Owner t chain asks.watched) (append_assoc now asks.told.lines asks.shown.lines)
+          (own-more hash accepted verified Given Own start (now ++ asks.told.lines) chain marks asks.shown.lines asks.watched stepped) in
+          let others = all-map (Owner now chain) (Owner (now ++ told.lines) chain) before.monitors (λ monitor owned. own-more hash accepted verified Given Own start now chain marks told.lines monitor owned) owns.watched in
+          let both = all-set (Owner (now ++ told.lines) chain) before.monitors place asks.watched others watched in
+          let all : AllByRecursion (Owner (text ++ (told_after before.told told).lines) chain) (slice_set before.monitors place asks.watched) =
+          subst (λ (t : List ℕ). AllByRecursion (Owner t chain) (slice_set before.monitors place asks.watched)) (append_assoc text before.told.lines told.lines) both in
           let there : AllByRecursion (Owner (text ++ after.told.lines) chain) (slice_set before.monitors place asks.watched) =
           subst (λ (r : Report). AllByRecursion (Owner (text ++ r.lines) chain) (slice_set before.monitors place asks.watched)) (sym asks.tells) all in
           goes before after (ap (λ (c : Client). c.chain) asks.client)
@@ -273,9 +276,10 @@ module _ (hash : List ℕ → List ℕ) (accepted verified : List ℕ → List �
       hears-one : (before after : Scene T) (held : ℕ) (asked : RequestContent) (frame : Frame) (noted noted' : List SignedPromise) → HearsOne hash accepted verified exchanged held asked frame before after
           → Notes asked before.client.promises after.client.promises noted noted' → AllByRecursion Own noted' → IsOwned before → IsOwned after
       hears-one before after held asked frame noted noted' hears notes owner owns =
-          let middle = told_after before.told hears.told in
+          let told = told_after hears.told hears.shown in
+          let middle = told_after before.told told in
           let chain = before.client.chain in
-          let one = more-owned text chain before.told hears.told before.monitors owns.watched in
+          let one = more-owned text chain before.told told before.monitors owns.watched in
           let two = more-owned text chain middle hears.handed before.monitors one in
           let given = hands-owned same-marks (text ++ (told_after middle hears.handed).lines) chain asked frame.body before.client.promises after.client.promises noted noted' before.monitors hears.handed after.monitors
           (heard-spelled held asked frame hears.told before.client after.client hears.hears) hears.hands notes owner two in
@@ -291,7 +295,7 @@ module _ (hash : List ℕ → List ℕ) (accepted verified : List ℕ → List �
         tells = λ before told owns. told-more before (record before { told = told_after before.told told }) told refl refl refl owns;
         takes = takes-list;
         stops = λ before after may stops. stops-list before after stops;
-        tests = λ before name kept after asks owns. told-more before after asks.told (shown-chain hash accepted verified before.client name (Query (Lookup name asks.epoch)) asks.frame kept asks.told after.client asks.shows) asks.tells asks.monitors owns;
+        tests = λ before name kept after asks owns. told-more before after (told_after asks.told asks.shown) (shown-chain hash accepted verified before.client name (Query (Lookup name asks.epoch)) asks.frame kept asks.told after.client asks.shows) asks.tells asks.monitors owns;
         steps = asks-epoch;
         joins = λ before key promised name given first monitor may is joined owns. goes before (record before { monitors = before.monitors ++ monitor ∷ [] }) refl (
           all-push (Owner (text ++ before.told.lines) before.client.chain) before.monitors monitor owns.watched

@@ -12,7 +12,7 @@ use Rattle.memory.specs.Lists.{HasNoRepeat}
 use Rattle.memory.specs.Memories.{name_of, Memory}
 use Rattle.memory.specs.Taking.{PutsMark, Takes}
 use Rattle.memory.specs.declared.item.Item.{Item}
-use Rattle.memory.specs.declared.item.Item.TheVariants.{Promised, Watched, Alarm, Evidence}
+use Rattle.memory.specs.declared.item.Item.TheVariants.{Promised, Watched, Final, Alarm, Evidence}
 use Rattle.memory.specs.declared.kind.Kind.{Kind}
 use Rattle.memory.specs.declared.kind.Kind.TheVariants.{Alarms, EvidenceLines}
 use Rattle.memory.specs.declared.mark.Mark.{Mark}
@@ -158,10 +158,12 @@ each-puts Does New puts (x ∷ xs) before after news (first, middle, rest, does,
 item-stays : (kind : Kind) (item : Item) (before after : Memory) → IsOfKind kind item → Takes item before after → after.marks ≡ before.marks
 item-stays Alarms (Promised promised) before after of (puts, is) = ap (λ (m : Memory). m.marks) is
 item-stays Alarms (Watched mark) before after of takes = absurd of
+item-stays Alarms (Final seen) before after of (puts, is) = ap (λ (m : Memory). m.marks) is
 item-stays Alarms (Alarm alarm) before after of (puts, is) = ap (λ (m : Memory). m.marks) is
 item-stays Alarms (Evidence line) before after of (puts, is) = ap (λ (m : Memory). m.marks) is
 item-stays EvidenceLines (Promised promised) before after of (puts, is) = ap (λ (m : Memory). m.marks) is
 item-stays EvidenceLines (Watched mark) before after of takes = absurd of
+item-stays EvidenceLines (Final seen) before after of (puts, is) = ap (λ (m : Memory). m.marks) is
 item-stays EvidenceLines (Alarm alarm) before after of (puts, is) = ap (λ (m : Memory). m.marks) is
 item-stays EvidenceLines (Evidence line) before after of (puts, is) = ap (λ (m : Memory). m.marks) is
 

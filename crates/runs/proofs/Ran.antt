@@ -13,6 +13,7 @@ use Rattle.textio.specs.Lines.{lines_of}
 use Rattle.wire.specs.Frames.{Frame}
 use Rattle.wire.specs.Requests.{RequestContent}
 use Rattle.play.specs.Reading.{TakesWholeLine}
+use Rattle.asking.specs.FinalBindings.{IsKnownIn}
 use Rattle.asking.specs.declared.asker.Asker.{Asker}
 use Rattle.runs.specs.declared.order.AskOrder.{AskOrder}
 use Rattle.asking.specs.declared.said.Said.{Said}
@@ -98,7 +99,7 @@ pub written_so : {H V S T E : Type 0} (result : Result (Unit {0}) E) (Leads : Sc
     → OnOk result (Leads before (scene asker said stream)) → OnOk result (Appends old new said.text.items × (report_of said' ≡ emptied said.status)) → OnOk result (Writes Leads before old new (scene asker said' stream))
 written_so (Err why) Leads before asker said said' stream old new leads writes = tt
 written_so (Ok done) Leads before asker said said' stream old new leads (appends, told) =
-    (scene asker said stream, leads, appends, scene_of asker.client asker.client asker.monitors.items asker.monitors.items (report_of said') (emptied said.status) stream refl refl told)
+    (scene asker said stream, leads, appends, scene_of asker.client asker.client asker.monitors.items asker.monitors.items asker.finals asker.finals (report_of said') (emptied said.status) stream refl refl refl told)
 
 -- what holds of a step holds where what came after it did
 pub ok_before : {A E B F : Type 0} (P : Type 0) (result : Result A E) (first : Result B F) (done : B) → OnOk result (first ≡ Ok done) → OnOk first P → OnOk result P
@@ -132,12 +133,13 @@ after_none told = ap (λ (n : ℕ). let t : Report = record { lines = told.lines
 -- a run begins, if nothing was told before
 pub begins_run : {T : Type 0} (hash : List ℕ → List ℕ) (accepted verified : List ℕ → List ℕ → List ℕ → Type 0) (exchanged : T → RequestContent → Frame → T → Type 0) (key token : List ℕ) (HasNoState : Type 0)
     (background : Background) (stream : T) (start : Scene T) (first : Report) → start.told ≡ told_after first (evidence_again background.known)
-    → BeginsAsking hash accepted verified exchanged key token HasNoState stream background start.client start.stream → (background.key ≡ key) × (background.token ≡ token) × (start.monitors ≡ [])
+    → BeginsAsking hash accepted verified exchanged key token HasNoState stream background start.client start.stream → (background.key ≡ key) × (background.token ≡ token) × (start.monitors ≡ []) → IsKnownIn background.known start.finals
     → first ≡ emptied 0 → StartsRun hash accepted verified exchanged key token HasNoState stream background start
-begins_run hash accepted verified exchanged key token HasNoState background stream start first told begins knows none = record {
+begins_run hash accepted verified exchanged key token HasNoState background stream start first told begins knows finals none = record {
   again = told ∙ ap (λ (r : Report). told_after r (evidence_again background.known)) none ∙ after_none (evidence_again background.known);
   begins = begins;
   knows = knows;
+  finals = finals;
 }
 
 -- a run is whole, where its lines are asked to the end

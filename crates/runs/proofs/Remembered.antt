@@ -13,7 +13,7 @@ use Rattle.memory.specs.Memories.{nothing, Memory}
 use Rattle.memory.specs.Taking.{either, Takes}
 use Rattle.memory.specs.Texts.{Recalls, Spells}
 use Rattle.memory.specs.declared.item.Item.{Item}
-use Rattle.memory.specs.declared.item.Item.TheVariants.{Promised, Watched, Alarm, Evidence}
+use Rattle.memory.specs.declared.item.Item.TheVariants.{Promised, Watched, Final, Alarm, Evidence}
 use Rattle.memory.specs.declared.promised.Promised.{Promised as PromisedMade}
 use Rattle.memory.specs.declared.read_fault.ReadFault.{ReadFault}
 use Rattle.memory.proofs.OneItem.{one_item}
@@ -60,6 +60,7 @@ formed-if false signed is = tt
 formed-item : (item : Item) → IsSound item → AreFormed (own_of item)
 formed-item (Promised promised) sound = formed-if promised.is_own promised.signed sound
 formed-item (Watched mark) sound = tt
+formed-item (Final seen) sound = tt
 formed-item (Alarm alarm) sound = tt
 formed-item (Evidence line) sound = tt
 
@@ -109,6 +110,7 @@ stays-own (Promised new) before after signed (inl (front, kept, behind, was, sam
 stays-own (Promised new) before after signed (inr (none, be), is) (promised, has, this, own) =
     (promised, subst (λ (all : List PromisedMade). Contains all promised) (sym be) (Contains-append_left before.promises (new ∷ []) promised has), this, own)
 stays-own (Watched mark) before after signed (puts, is) (promised, has, this, own) = (promised, subst (λ (memory : Memory). Contains memory.promises promised) (sym is) has, this, own)
+stays-own (Final seen) before after signed (puts, is) (promised, has, this, own) = (promised, subst (λ (memory : Memory). Contains memory.promises promised) (sym is) has, this, own)
 stays-own (Alarm alarm) before after signed (puts, is) (promised, has, this, own) = (promised, subst (λ (memory : Memory). Contains memory.promises promised) (sym is) has, this, own)
 stays-own (Evidence line) before after signed (puts, is) (promised, has, this, own) = (promised, subst (λ (memory : Memory). Contains memory.promises promised) (sym is) has, this, own)
 
@@ -133,6 +135,7 @@ own-if memory false signed is = tt
 own-item : (item : Item) (before after : Memory) → Takes item before after → AllByRecursion (WasOwn after) (own_of item)
 own-item (Promised new) before after takes = own-if after new.is_own new.signed (takes-own new before after takes)
 own-item (Watched mark) before after takes = tt
+own-item (Final seen) before after takes = tt
 own-item (Alarm alarm) before after takes = tt
 own-item (Evidence line) before after takes = tt
 
@@ -182,6 +185,7 @@ item-from (Promised new) before after signed takes was = elim (takes-one new.is_
   | inr (own, same) ↦ inr (one-more new.is_own new.signed signed own same)
 ]
 item-from (Watched mark) before after signed (puts, is) was = inl (same-promises before after signed (ap (λ (m : Memory). m.promises) is) was)
+item-from (Final seen) before after signed (puts, is) was = inl (same-promises before after signed (ap (λ (m : Memory). m.promises) is) was)
 item-from (Alarm alarm) before after signed (puts, is) was = inl (same-promises before after signed (ap (λ (m : Memory). m.promises) is) was)
 item-from (Evidence line) before after signed (puts, is) was = inl (same-promises before after signed (ap (λ (m : Memory). m.promises) is) was)
 

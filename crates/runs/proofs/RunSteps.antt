@@ -395,8 +395,8 @@ module _ {T H V S : Type 0} (hash : List ℕ → List ℕ) (accepted verified : 
 
     whole-step : (state state' : Option State) (told' : List ℕ) → background_of after ≡ background_of before → IsWhole → StandsBefore state → KeepsUp after told' state state' → IsInStep state' after
     whole-step None state' told' stays whole stands (middle, is, saves) = subst (λ (s : Option State). IsInStep s after) (sym (subst (λ (m : Option State). SavesTo after told' m state') is saves)) tt
-    whole-step (Some state) state' told' stays whole (stands, same, ready, step) (middle, (kept, is, learns, head, looked, was-new, changes), saves) =
-        let (last, at, moves, heads, was, all, still) = subst (λ (m : Option State). SavesTo after told' m state') is saves in
+    whole-step (Some state) state' told' stays whole (stands, same, ready, step) (middle, (kept, is, learns, head, looked, was-new, changes, finals), saves) =
+        let (last, at, moves, heads, was, all, still, seen) = subst (λ (m : Option State). SavesTo after told' m state') is saves in
         subst (λ (s : Option State). IsInStep s after) (sym at) (still ∙ changes, at-scene stays (whole state stands same ready step.1))
 
     -- and where the state did not look again, as nothing was noted
@@ -584,7 +584,7 @@ keeps-none after told (Some state) state' had keeps = absurd (not-none state had
 pub caught-so : {T H V S : Type 0} (hash : List ℕ → List ℕ) (accepted verified : List ℕ → List ℕ → List ℕ → Type 0) (exchanged : T → RequestContent → Frame → T → Type 0) (lines : Option (List (List ℕ))) (start : Found) (old : List ℕ) (Happened : List Act → Type 0)
     (before ready : Asker H V S) (said : Said) (stream : T) (out : Option (List ℕ)) (state state' : Option State) (epoch low : ℕ) (told : Report) (later : T) → IsUpTo before.client low → epoch ≤ low → ready.changes ≡ before.changes → (state ≡ None → state' ≡ None)
     → RunStands hash accepted verified lines start old Happened before said.text.items state out
-    → CatchesUp hash accepted verified exchanged epoch (scene before said stream) (record { client = ready.client; monitors = ready.monitors.items; told = told; stream = later })
+    → CatchesUp hash accepted verified exchanged epoch (scene before said stream) (record { client = ready.client; monitors = ready.monitors.items; finals = ready.finals; told = told; stream = later })
     → IfSome state' (λ one. Fits low one.memory) → (reached : Scene T) → AreBelow hash accepted verified exchanged lines start old Happened ready ready said stream out reached low state'
 caught-so {T} {H} {V} {S} hash accepted verified exchanged lines start old Happened before ready said stream out state None epoch low told later up high still none stands catches fits reached = record { own = λ signed. tt; marks = tt; monitors = tt }
 caught-so {T} {H} {V} {S} hash accepted verified exchanged lines start old Happened before ready said stream out None (Some state') epoch low told later up high still some stands catches fits reached = absurd (not-none state' (some refl))

@@ -1,7 +1,7 @@
 -- A name that is settled.
 use Rattle.std.proofs.Common.{◌≡◌, ◌∙◌, ◌++◌, [], ℕ, ◌<◌, ◌≤◌, List, Option, Result, Ok, Err, ap, append-nil, arith, append_assoc, inl, inr, subst, sym, None, Some}
 use Rattle.runs.specs.Saves.{Act}
-use Rattle.runs.specs.Standing.{DropsAlarms}
+use Rattle.runs.specs.Standing.{DropsAlarms, HasLoaded}
 use Rattle.runs.specs.declared.state.State.{State}
 use Rattle.std.specs.Prelude.{IfSome, IfErr, IfOk, OnErr, OnOk}
 use Rattle.std.specs.Io.KnownBytes.{Appends}
@@ -11,6 +11,7 @@ use Rattle.textio.specs.declared.program_fault.ProgramFault.{ProgramFault}
 use Rattle.runs.specs.AskOptions.{AskOptions}
 use Rattle.runs.specs.Ending.{AsksOverSocket, FailsOverSocket}
 use Rattle.asking.specs.Recalled.{evidence_again}
+use Rattle.asking.specs.declared.asker.Asker.{Asker}
 use Rattle.runs.specs.RunFaults.{IsFaultOfState, IsRunFault}
 use Rattle.asking.specs.Reports.{report_of, told_after, Report}
 use Rattle.runs.specs.Runs.{emptied}
@@ -89,12 +90,19 @@ settles_fault settled (Err why) status fault (is, low) = subst (λ (r : Result _
 pub recalled : (known : Memory) (first now last : Said) → report_of first ≡ emptied 0 → report_of now ≡ report_of first → report_of last ≡ told_after (report_of now) (evidence_again known) → report_of last ≡ evidence_again known
 recalled known first now last none same told = told ∙ ap (λ (r : Report). told_after r (evidence_again known)) (same ∙ none) ∙ after_none (evidence_again known)
 
+-- and it is what the state remembers that was loaded
+pub recalled_in : {H V S : Type 0} (Before After : List Act → Type 0) (asker : Asker H V S) (state after : Option State) (last : Said) → HasLoaded Before After asker state → after ≡ state
+    → report_of last ≡ evidence_again asker.known → IfSome after (λ state. report_of last ≡ evidence_again state.memory)
+recalled_in Before After asker None after last loaded same told = absurd loaded
+recalled_in Before After asker (Some state) after last loaded same told =
+    subst (λ (s : Option State). IfSome s (λ state. report_of last ≡ evidence_again state.memory)) (sym same) (told ∙ ap evidence_again (sym loaded.1))
+
 -- where nothing is remembered, there is no evidence
 pub none_caught : (evidence_again nothing).status < CAUGHT
 none_caught = omega arith
 
 again-same : (one other : Memory) → one.evidence ≡ other.evidence → evidence_again one ≡ evidence_again other
-again-same one other same = ap (λ (evidence : List (List ℕ)). evidence_again (record { promises = []; marks = []; alarms = []; evidence = evidence })) same
+again-same one other same = ap (λ (evidence : List (List ℕ)). evidence_again (record { promises = []; marks = []; finals = []; alarms = []; evidence = evidence })) same
 
 -- what is told is what the state remembers, and how many alarms were dropped
 pub told_of : (name : List ℕ) (Before After : List Act → Type 0) (count : ℕ) (was now : Option State) (out : Option (List ℕ)) (before last : Said) → IfSome was (λ state. report_of before ≡ evidence_again state.memory)

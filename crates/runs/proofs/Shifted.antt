@@ -44,7 +44,9 @@ module _ {T : Type 0} (hash : List ℕ → List ℕ) (accepted verified : List �
     exchange = asks.exchange;
     told = asks.told;
     shows = asks.shows;
-    tells = further before after asks.told asks.tells;
+    shown = asks.shown;
+    notes = asks.notes;
+    tells = further before after (told_after asks.told asks.shown) asks.tells;
     monitors = asks.monitors;
   }
 
@@ -81,7 +83,9 @@ module _ {T : Type 0} (hash : List ℕ → List ℕ) (accepted verified : List �
     told = asks.told;
     watched = asks.watched;
     shows = asks.shows;
-    tells = further before after asks.told asks.tells;
+    shown = asks.shown;
+    notes = asks.notes;
+    tells = further before after (told_after asks.told asks.shown) asks.tells;
     monitors = asks.monitors;
     client = asks.client;
   }
@@ -122,11 +126,11 @@ module _ {T : Type 0} (hash : List ℕ → List ℕ) (accepted verified : List �
   takes-shifts before false after (inr (frame, stream, asks, none, same)) =
       let moved : Scene T = record before { stream = stream } in
       inr (frame, stream, record { head = asks.head; is = asks.is; exchange = asks.exchange; answered = asks.answered }, none, same-shifts moved after same)
-  takes-shifts before true after (frame, asks, updates, same, above) =
-      (frame, record { head = asks.head; is = asks.is; exchange = asks.exchange; answered = asks.answered }, updates, ap (λ (r : Report). told_after first r) same, above)
+  takes-shifts before true after (frame, asks, updates, same, above, finals) =
+      (frame, record { head = asks.head; is = asks.is; exchange = asks.exchange; answered = asks.answered }, updates, ap (λ (r : Report). told_after first r) same, above, finals)
 
   pub stops-shift : (before after : Scene T) → StopsList hash verified exchanged before after → StopsList hash verified exchanged (shifted first before) (shifted first after)
-  stops-shift before after (head, is, frame, exchange, told, stops, tells) = (head, is, frame, exchange, told, stops, further before after told tells)
+  stops-shift before after (head, is, frame, exchange, told, stops, tells, finals) = (head, is, frame, exchange, told, stops, further before after told tells, finals)
 
   module _ (epoch : ℕ) where
     pub advances-shift : (before : Scene T) (goes : Bool) (after : Scene T) → Advances hash accepted verified exchanged epoch before goes after → Advances hash accepted verified exchanged epoch (shifted first before) goes (shifted first after)
@@ -149,9 +153,12 @@ module _ {T : Type 0} (hash : List ℕ → List ℕ) (accepted verified : List �
   one-shifts held asked frame before after hears = record {
     told = hears.told;
     hears = hears.hears;
+    shown = hears.shown;
+    notes = hears.notes;
     handed = hears.handed;
     hands = hears.hands;
-    tells = ap (λ (r : Report). told_after first r) hears.tells ∙ after-after first (told_after before.told hears.told) hears.handed ∙ ap (λ (r : Report). told_after r hears.handed) (after-after first before.told hears.told);
+    tells = ap (λ (r : Report). told_after first r) hears.tells ∙ after-after first (told_after before.told (told_after hears.told hears.shown)) hears.handed
+        ∙ ap (λ (r : Report). told_after r hears.handed) (after-after first before.told (told_after hears.told hears.shown));
     stream = hears.stream;
   }
 
@@ -171,7 +178,8 @@ module _ {T : Type 0} (hash : List ℕ → List ℕ) (accepted verified : List �
   pub hears_some-shifts : (fault : AskFault) (held : ℕ) (asked : RequestContent) (frame : Frame) (noted noted' : List SignedPromise) (before after : Scene T) → HearsSome hash accepted verified exchanged fault marks held asked frame noted noted' before after
       → HearsSome hash accepted verified exchanged fault marks held asked frame noted noted' (shifted first before) (shifted first after)
   hears_some-shifts fault held asked frame noted noted' before after (inl (none, same)) = inl (none, same-shifts before after same)
-  hears_some-shifts fault held asked frame noted noted' before after (inr (inl (notes, told, hears, tells, monitors, stream))) = inr (inl (notes, told, hears, further before after told tells, monitors, stream))
+  hears_some-shifts fault held asked frame noted noted' before after (inr (inl (notes, told, hears, (shown, shows, tells), monitors, stream))) =
+      inr (inl (notes, told, hears, (shown, shows, further before after (told_after told shown) tells), monitors, stream))
   hears_some-shifts fault held asked frame noted noted' before after (inr (inr (heard, hears, notes, (head, is, high, goes)))) =
       inr (inr (shifted first heard, one-shifts held asked frame before heard hears, notes, (head, is, high, goes_some-shifts heard after goes)))
 

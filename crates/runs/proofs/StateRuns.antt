@@ -10,6 +10,7 @@ use Rattle.memory.specs.Memories.{Memory}
 use Rattle.memory.specs.Texts.{Spells}
 use Rattle.memory.specs.Watching.{IsAwaited}
 use Rattle.memory.specs.declared.alarm.Alarm.{Alarm}
+use Rattle.memory.specs.declared.final_seen.FinalSeen.{FinalSeen}
 use Rattle.memory.specs.declared.mark.Mark.{Mark}
 use Rattle.memory.proofs.OneMemory.{one_memory}
 use Rattle.runs.specs.Saves.{stored_after, Act, AddsLines, AddsRoots, AllKeepTold, Found, HasMark, IsFound, KeepsTold, Loads, SpellsTold, Stored, WasOwn, Writes}
@@ -62,6 +63,7 @@ module _ (hash : List ℕ → List ℕ) (accepted : List ℕ → List ℕ → Li
       awaits = kept.awaits;
       alarms = kept.alarms;
       evidence = kept.evidence;
+      finals = kept.finals;
     }
 
   module _ {X : Type 0} (Given : X → List ℕ → Option BoundKey → Type 0) (Own : X → Memory → SignedPromise → Type 0) (Asked : X → SignedPromise → Type 0) (Drops : X → List ℕ → Type 0) where
@@ -145,6 +147,14 @@ module _ (hash : List ℕ → List ℕ) (accepted : List ℕ → List ℕ → Li
       evidence-over-runs (run ∷ later) earlier (loads, keeps, prefix, added, all) before known was spells line has =
           let (start, found, (text, written, (saved, says, kept))) = kept-by run (left_by first (later ++ earlier)) loads keeps prefix added in
           subst (λ (m : Memory). Contains m.evidence line) (one-spelled (stored_after run.left).text saved known says spells) (kept.evidence line (evidence-over-runs later earlier all before start.known was found.1 line has))
+
+      -- nor a reply that stated a key with Final
+      pub finals-over-runs : (later earlier : List (StateRun X)) → AllRun hash accepted Given Own Asked Drops first (later ++ earlier) → (before known : Memory) → Spells (left_by first earlier).text (Ok before)
+          → Spells (left_by first (later ++ earlier)).text (Ok known) → (seen : FinalSeen) → Contains before.finals seen → Contains known.finals seen
+      finals-over-runs [] earlier all before known was spells seen has = subst (λ (m : Memory). Contains m.finals seen) (one-spelled (left_by first earlier).text before known was spells) has
+      finals-over-runs (run ∷ later) earlier (loads, keeps, prefix, added, all) before known was spells seen has =
+          let (start, found, (text, written, (saved, says, kept))) = kept-by run (left_by first (later ++ earlier)) loads keeps prefix added in
+          subst (λ (m : Memory). Contains m.finals seen) (one-spelled (stored_after run.left).text saved known says spells) (kept.finals seen (finals-over-runs later earlier all before start.known was found.1 seen has))
 
       pub alarms-over-runs : (later earlier : List (StateRun X)) → AllRun hash accepted Given Own Asked Drops first (later ++ earlier) → (before known : Memory) → Spells (left_by first earlier).text (Ok before)
           → Spells (left_by first (later ++ earlier)).text (Ok known) → (alarm : Alarm) → Contains before.alarms alarm → AllByRecursion (λ (run : StateRun X). ¬ Drops run.asked alarm.name) later → Contains known.alarms alarm

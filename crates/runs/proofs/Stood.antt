@@ -22,7 +22,7 @@ use Rattle.runs.specs.Standing.{standing, AddsOwn, Fits, IsKept, IsUpTo, KeepsMa
 use Rattle.runs.proofs.HeldMarks.{begun-held, moved-far, moved-held}
 use Rattle.runs.proofs.KeptTold.{adds-roots-kept, keeps-told, remembers-kept, text-kept, IsToldOrStored}
 use Rattle.runs.proofs.Noting.{noted-was, same-own, taken-own, tells-counted, was-cases, was-more}
-use Rattle.runs.proofs.Staying.{taken-alarms, taken-evidence}
+use Rattle.runs.proofs.Staying.{taken-alarms, taken-evidence, taken-finals}
 use Rattle.runs.proofs.PutMarks.{begun-marks, moved-once, moved-stays, EachPuts, IsBegun, IsMoved}
 
 -- ---- roots above an epoch
@@ -113,7 +113,7 @@ module _ (hash : List ℕ → List ℕ) (accepted verified : List ℕ → List �
           (λ mark has. let (one, there, named, low, far) = kept.next.stays mark has in (one, marks.still one there, named, low, far))
           (asked-then lines start.known known known' own kept.next.own)
           (λ signed was. taken-own news known known' takes signed (still-known signed was))
-          (late-then lines start.known known known' own) (taken-alarms news known known' takes) (taken-evidence news known known' takes);
+          (late-then lines start.known known known' own) (taken-alarms news known known' takes) (taken-evidence news known known' takes) (taken-finals news known known' takes);
       early = kept.early;
       low-start = kept.low-start;
       low = kept.low;
@@ -381,7 +381,7 @@ module _ (hash : List ℕ → List ℕ) (accepted verified : List ℕ → List �
             (λ alarm has. elim (kept.next.alarms alarm has) [
               | inl there ↦ inl (taken-alarms news known known' takes alarm there)
               | inr dropped ↦ inr dropped
-            ]) (λ line has. taken-evidence news known known' takes line (kept.next.evidence line has));
+            ]) (λ line has. taken-evidence news known known' takes line (kept.next.evidence line has)) (λ seen has. taken-finals news known known' takes seen (kept.next.finals seen has));
         early = kept.early;
         low-start = kept.low-start;
         low = kept.low;

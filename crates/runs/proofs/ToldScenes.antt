@@ -148,7 +148,7 @@ module _ (hash : List ℕ → List ℕ) (accepted verified : List ℕ → List �
     -- ---- roots
 
     takes-keeps : (before after : Scene T) → TakesList hash verified exchanged before true after → Keeps before after
-    takes-keeps before after (frame, asks, (client, monitors), same, above) = λ text all.
+    takes-keeps before after (frame, asks, (client, monitors), same, above, finals) = λ text all.
         subst (λ (r : Report). AllByRecursion (Told (text ++ r.lines)) after.monitors) (sym same)
         (all-zip (Told (text ++ before.told.lines)) (Told (text ++ before.told.lines)) (MonitorUpdates hash verified frame.body) before.monitors after.monitors
         (λ one other updates told. told-grown hash accepted verified (text ++ before.told.lines) frame.body one other updates told) monitors all)
@@ -168,7 +168,7 @@ module _ (hash : List ℕ → List ℕ) (accepted verified : List ℕ → List �
         all-zip (Told text) (Told text) (MonitorUpdates hash verified frame.body) before after (λ one other update is. told-grown hash accepted verified text frame.body one other update is) monitors all
 
     stops-keep : (before after : Scene T) → StopsList hash verified exchanged before after → Keeps before after
-    stops-keep before after (head, is, frame, exchange, told, stops, tells) = λ text all.
+    stops-keep before after (head, is, frame, exchange, told, stops, tells, finals) = λ text all.
         subst (λ (r : Report). AllByRecursion (Told (text ++ r.lines)) after.monitors) (sym tells)
         (told-stopped (text ++ (told_after before.told told).lines) (asks_roots head) before.client before.monitors frame told after.client after.monitors stops (all-more text before.told told before.monitors all))
 
@@ -186,19 +186,22 @@ module _ (hash : List ℕ → List ℕ) (accepted verified : List ℕ → List �
     asks-keeps place went before after asks text all =
         let now = text ++ before.told.lines in
         let own = all-at (Told now) before.monitors place asks.monitor all asks.at in
-        let watched = told-shown now asks.monitor asks.epoch (Query (Lookup asks.monitor.name asks.epoch)) asks.frame went asks.told asks.watched asks.next asks.shows own in
-        let others = all-map (Told now) (Told (now ++ asks.told.lines)) before.monitors (λ monitor is. told-more hash accepted verified now asks.told.lines monitor is) all in
-        let both = all-set (Told (now ++ asks.told.lines)) before.monitors place asks.watched others watched in
+        let told = told_after asks.told asks.shown in
+        let stepped = told-shown now asks.monitor asks.epoch (Query (Lookup asks.monitor.name asks.epoch)) asks.frame went asks.told asks.watched asks.next asks.shows own in
+        let watched = subst (λ (t : List ℕ). Told t asks.watched) (append_assoc now asks.told.lines asks.shown.lines) (told-more hash accepted verified (now ++ asks.told.lines) asks.shown.lines asks.watched stepped) in
+        let others = all-map (Told now) (Told (now ++ told.lines)) before.monitors (λ monitor is. told-more hash accepted verified now told.lines monitor is) all in
+        let both = all-set (Told (now ++ told.lines)) before.monitors place asks.watched others watched in
         subst (λ (r : Report). AllByRecursion (Told (text ++ r.lines)) after.monitors) (sym asks.tells)
-        (subst (AllByRecursion (Told (text ++ (told_after before.told asks.told).lines))) (sym asks.monitors)
-        (subst (λ (t : List ℕ). AllByRecursion (Told t) (slice_set before.monitors place asks.watched)) (told-twice text before.told asks.told) both))
+        (subst (AllByRecursion (Told (text ++ (told_after before.told told).lines))) (sym asks.monitors)
+        (subst (λ (t : List ℕ). AllByRecursion (Told t) (slice_set before.monitors place asks.watched)) (told-twice text before.told told) both))
 
     -- ---- a line
 
     hears-keeps : (held : ℕ) (asked : RequestContent) (frame : Frame) (before after : Scene T) → HearsOne hash accepted verified exchanged held asked frame before after → Keeps before after
     hears-keeps held asked frame before after hears text all =
-        let middle = told_after before.told hears.told in
-        let one = all-more text before.told hears.told before.monitors all in
+        let told = told_after hears.told hears.shown in
+        let middle = told_after before.told told in
+        let one = all-more text before.told told before.monitors all in
         let two = all-more text middle hears.handed before.monitors one in
         let given = told-given (text ++ (told_after middle hears.handed).lines) asked frame.body before.client.promises after.client.promises before.monitors hears.handed after.monitors hears.hands two in
         subst (λ (r : Report). AllByRecursion (Told (text ++ r.lines)) after.monitors) (sym hears.tells) given
@@ -212,7 +215,7 @@ module _ (hash : List ℕ → List ℕ) (accepted verified : List ℕ → List �
       tells = λ before told. keeps-told before (record before { told = told_after before.told told }) told refl refl;
       takes = takes-keeps;
       stops = λ before after may stops. stops-keep before after stops;
-      tests = λ before name kept after asks. keeps-told before after asks.told asks.tells asks.monitors;
+      tests = λ before name kept after asks. keeps-told before after (told_after asks.told asks.shown) asks.tells asks.monitors;
       steps = λ before place went after asks. asks-keeps place went before after asks;
       joins = λ before key promised name given first monitor may is joined text all. all-push (Told (text ++ before.told.lines)) before.monitors monitor all
           (told-joined before.client.chain (text ++ before.told.lines) marks key promised first name given monitor joined);

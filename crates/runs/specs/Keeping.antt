@@ -5,8 +5,9 @@ use Rattle.rootchain.specs.Chains.{IsHead, KeyedRoots}
 use Rattle.rootchain.specs.declared.signed_promise.SignedPromise.{SignedPromise}
 use Rattle.rootchain.specs.declared.signed_root.SignedRoot.{SignedRoot}
 use Rattle.monitor.specs.Monitors.{Monitor}
-use Rattle.memory.specs.Learning.{promised_item, AreGone, BeginsOne, Each, IsFresh, LearnsLine, LearnsOne, MarksOne}
+use Rattle.memory.specs.Learning.{promised_item, AreGone, BeginsOne, Each, IsFresh, LearnsFinal, LearnsLine, LearnsOne, MarksOne}
 use Rattle.memory.specs.Memories.{Memory}
+use Rattle.memory.specs.declared.final_seen.FinalSeen.{FinalSeen}
 use Rattle.memory.specs.declared.item.Item.{Item}
 use Rattle.memory.specs.declared.kind.Kind.TheVariants.{Alarms, EvidenceLines}
 use Rattle.runs.specs.RunFaults.{IsFaultOfSaving}
@@ -24,15 +25,20 @@ LearnsPromises own kept before news after = (fresh : List SignedPromise) × IsFr
     × ((first : List Item) × (middle : Memory) × (rest : List Item) × Each LearnsOne (map (promised_item true) own) before first middle
     × Each LearnsOne (map (promised_item false) fresh) middle rest after × (news ≡ first ++ rest))
 
+-- and then replies that stated keys with Final
+abbrev pub LearnsKept : List SignedPromise → List SignedPromise → List FinalSeen → Memory → List Item → Memory → Type 0
+LearnsKept own kept finals before news after = (first : List Item) × (middle : Memory) × (rest : List Item) × LearnsPromises own kept before first middle × Each LearnsFinal finals middle rest after × (news ≡ first ++ rest)
+
 -- these were tested: those that are remembered and that the client no longer keeps; or none, where it is not known which it keeps
 abbrev pub AreTested : Memory → Option (List SignedPromise) → List SignedPromise → Type 0
 AreTested known None tested = tested ≡ []
 AreTested known (Some kept) tested = AreGone known kept tested
 
--- before it is told: the evidence in what will be told, promises, and from where new monitors watch
-abbrev pub LearnsBefore : List SignedPromise → List SignedPromise → List ℕ → List Monitor → Memory → Memory → Type 0
-LearnsBefore own kept told begun before after = (shown : List Item) × (promised : List Item) × (marked : List Item) × (one : Memory) × (two : Memory)
-    × Each (LearnsLine EvidenceLines) (lines_of told) before shown one × LearnsPromises own kept one promised two × Each BeginsOne begun two marked after
+-- before it is told: the evidence in what will be told, promises, replies that stated keys with Final, and from where new
+-- monitors watch
+abbrev pub LearnsBefore : List SignedPromise → List SignedPromise → List FinalSeen → List ℕ → List Monitor → Memory → Memory → Type 0
+LearnsBefore own kept finals told begun before after = (shown : List Item) × (promised : List Item) × (marked : List Item) × (one : Memory) × (two : Memory)
+    × Each (LearnsLine EvidenceLines) (lines_of told) before shown one × LearnsKept own kept finals one promised two × Each BeginsOne begun two marked after
 
 -- whether the head is another one than that of this epoch
 abbrev pub IsNewHead : KeyedRoots → ℕ → Bool → Type 0
@@ -60,15 +66,15 @@ IsSettled (Err (run.Program fault)) = ⊥
 abbrev pub AddsTo : {H V S : Type 0} → Asker H V S → List ℕ → Option State → Option State → Type 0
 AddsTo asker told None after = after ≡ None
 AddsTo asker told (Some before) after = (kept : State) × (after ≡ Some kept)
-    × LearnsBefore (drop before.changes asker.changes.items) asker.client.promises told (drop before.monitors asker.monitors.items) before.memory kept.memory
-    × (kept.head ≡ before.head) × (kept.monitors ≡ before.monitors) × (kept.was_new ≡ before.was_new) × (kept.changes ≡ length asker.changes.items)
+    × LearnsBefore (drop before.changes asker.changes.items) asker.client.promises (drop before.finals asker.finals.seen) told (drop before.monitors asker.monitors.items) before.memory kept.memory
+    × (kept.head ≡ before.head) × (kept.monitors ≡ before.monitors) × (kept.was_new ≡ before.was_new) × (kept.changes ≡ length asker.changes.items) × (kept.finals ≡ length asker.finals.seen)
 
 -- what it learns once it is told, and how far it looked
 abbrev pub SavesTo : {H V S : Type 0} → Asker H V S → List ℕ → Option State → Option State → Type 0
 SavesTo asker told None after = after ≡ None
 SavesTo asker told (Some before) after = (kept : State) × (after ≡ Some kept)
     × ((some : List Monitor) × MayMove asker.client.chain before.head before.was_new before.monitors asker.monitors.items some × LearnsAfter told asker.monitors.items some before.memory kept.memory)
-    × IsHeadEpoch asker.client.chain kept.head × IsNewHead asker.client.chain before.head kept.was_new × (kept.monitors ≡ length asker.monitors.items) × (kept.changes ≡ before.changes)
+    × IsHeadEpoch asker.client.chain kept.head × IsNewHead asker.client.chain before.head kept.was_new × (kept.monitors ≡ length asker.monitors.items) × (kept.changes ≡ before.changes) × (kept.finals ≡ before.finals)
 
 -- both
 abbrev pub KeepsUp : {H V S : Type 0} → Asker H V S → List ℕ → Option State → Option State → Type 0

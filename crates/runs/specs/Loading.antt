@@ -12,10 +12,11 @@ use Rattle.client.specs.Starting.{Starts}
 use Rattle.client.specs.Updating.{Updates}
 use Rattle.client.specs.declared.client_refusal.Refusal.{Refusal}
 use Rattle.client.specs.declared.client_refusal.Refusal.TheVariants.{Root, Proof, UnknownRoot, RootDiffers, Memory, NoPromise}
+use Rattle.asking.specs.FinalBindings.{IsFinalIn}
 use Rattle.memory.specs.Lines.{IsLineOf}
 use Rattle.memory.specs.Texts.{HasWholeLines}
 use Rattle.memory.specs.declared.item.Item.{Item}
-use Rattle.memory.specs.declared.item.Item.TheVariants.{Promised, Watched, Alarm, Evidence}
+use Rattle.memory.specs.declared.item.Item.TheVariants.{Promised, Watched, Final, Alarm, Evidence}
 use Rattle.runs.specs.Remembering.{IsWithin}
 
 -- the fault names a line that is bad, by its number, or memory ran out
@@ -93,31 +94,34 @@ module _ (hash : List ℕ → List ℕ) (verified : List ℕ → List ℕ → Li
       ((start : Client) × IsHexOf (λ root. Starts verified key root (Ok start)) line × TakesRoots 2 lines start result)
       ⊎ (IsRefused (λ root why. Starts verified key root (Err why)) line × (result ≡ Err 1))
 
-  -- a client with this chain accepts an item: a promise of its provider and of a root of the chain, or a mark that is not above
-  -- the head; other items are not tested
-  abbrev pub IsAccepted : KeyedRoots → Item → Type 0
-  IsAccepted chain (Promised promised) = IsPromised hash verified chain promised.signed
-  IsAccepted chain (Watched mark) = IsWithin chain (Watched mark)
-  IsAccepted chain (Alarm alarm) = ⊤
-  IsAccepted chain (Evidence line) = ⊤
-
 -- the client that keeps the promise of an item, if it is one
 abbrev pub keeping : Client → Item → Client
 keeping client (Promised promised) = with_promise client promised.signed
 keeping client (Watched mark) = client
+keeping client (Final seen) = client
 keeping client (Alarm alarm) = client
 keeping client (Evidence line) = client
 
-module _ (hash : List ℕ → List ℕ) (verified : List ℕ → List ℕ → List ℕ → Type 0) where
+module _ (hash : List ℕ → List ℕ) (accepted verified : List ℕ → List ℕ → List ℕ → Type 0) where
+  -- A client with this chain accepts an item: a promise of its provider and of a root of the chain, a mark that is not above
+  -- the head, or a reply that states a key with Final and is accepted under the chain's root of its epoch. Other items are not
+  -- tested.
+  abbrev pub IsAccepted : KeyedRoots → Item → Type 0
+  IsAccepted chain (Promised promised) = IsPromised hash verified chain promised.signed
+  IsAccepted chain (Watched mark) = IsWithin chain (Watched mark)
+  IsAccepted chain (Final seen) = IsFinalIn hash accepted chain seen
+  IsAccepted chain (Alarm alarm) = ⊤
+  IsAccepted chain (Evidence line) = ⊤
+
   abbrev pub KeepsItem : Item → Client → Client → Type 0
-  KeepsItem item before after = IsAccepted hash verified before.chain item × (after ≡ keeping before item)
+  KeepsItem item before after = IsAccepted before.chain item × (after ≡ keeping before item)
 
   -- the client keeps what a line has, or the line is of no item that it accepts
   abbrev pub KeepsLine : List ℕ → Client → Client → Type 0
   KeepsLine line before after = (item : Item) × IsLineOf line item × KeepsItem item before after
 
   abbrev pub RefusesItem : List ℕ → Client → Type 0
-  RefusesItem line before = (item : Item) → IsLineOf line item → ¬ IsAccepted hash verified before.chain item
+  RefusesItem line before = (item : Item) → IsLineOf line item → ¬ IsAccepted before.chain item
 
   abbrev pub KeepsLines : ℕ → List (List ℕ) → Client → Result Client ℕ → Type 0
   KeepsLines = TakesLines KeepsLine RefusesItem

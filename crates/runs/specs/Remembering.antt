@@ -6,13 +6,14 @@ use Rattle.rootchain.specs.declared.signed_root.SignedRoot.{SignedRoot}
 use Rattle.memory.specs.Lines.{IsLineOf}
 use Rattle.memory.specs.Memories.{Memory}
 use Rattle.memory.specs.declared.item.Item.{Item}
-use Rattle.memory.specs.declared.item.Item.TheVariants.{Promised, Watched, Alarm, Evidence}
+use Rattle.memory.specs.declared.item.Item.TheVariants.{Promised, Watched, Final, Alarm, Evidence}
 use Rattle.memory.specs.declared.mark.Mark.{Mark}
 
 -- the promise of an item, if it is one for a change of the owner's own
 abbrev pub own_of : Item → List SignedPromise
 own_of (Promised promised) = if promised.is_own then promised.signed ∷ [] else []
 own_of (Watched mark) = []
+own_of (Final seen) = []
 own_of (Alarm alarm) = []
 own_of (Evidence line) = []
 
@@ -30,6 +31,7 @@ AreOwnOf (line ∷ more) own = (first : List SignedPromise) × (rest : List Sign
 abbrev pub IsWithin : KeyedRoots → Item → Type 0
 IsWithin chain (Watched mark) = (head : SignedRoot) × IsHead chain head × (mark.epoch ≤ head.body.epoch)
 IsWithin chain (Promised promised) = ⊤
+IsWithin chain (Final seen) = ⊤
 IsWithin chain (Alarm alarm) = ⊤
 IsWithin chain (Evidence line) = ⊤
 

@@ -13,6 +13,7 @@ use Rattle.play.specs.Scripts.{ScriptLine, Pass, Ask, Watch, Piece, End, line_of
 use Rattle.runs.specs.AskOptions.{AskOptions}
 use Rattle.asking.specs.Asking.{AsksDirectory, FindsHead}
 use Rattle.asking.specs.Catching.{Advances}
+use Rattle.asking.specs.FinalBindings.{IsKnownIn}
 use Rattle.asking.specs.Joining.{own_for, BeginsWatch}
 use Rattle.asking.specs.Recalled.{evidence_again}
 use Rattle.asking.specs.Reports.{Report}
@@ -144,11 +145,13 @@ module _ (hash : List ℕ → List ℕ) (accepted verified : List ℕ → List �
       (StartsAtHead verified exchanged key stream client after × (background ≡ new_background key token))
       ⊎ ((¬ HasNoState) × (after ≡ stream) × IsSoundFor hash accepted verified key client × KeepsAll client background.earlier)
 
-  -- a run begins: only evidence of earlier runs is told yet, and there is no monitor
+  -- a run begins: only evidence of earlier runs is told yet, there is no monitor, and of final bindings it knows what is
+  -- remembered
   pub record StartsRun (key token : List ℕ) (HasNoState : Type 0) (stream : T) (background : Background) (start : Scene T) : Type 0 where
     pub again : start.told ≡ evidence_again background.known
     pub begins : BeginsAsking key token HasNoState stream background start.client start.stream
     pub knows : (background.key ≡ key) × (background.token ≡ token) × (start.monitors ≡ [])
+    pub finals : IsKnownIn background.known start.finals
 
   -- A run from its beginning to its end: all that is new is followed, and the lines are asked. The stream is left
   -- as the last line left it.

@@ -14,6 +14,7 @@ use Rattle.memory.specs.Memories.{name_of, Memory}
 use Rattle.memory.specs.Texts.{HasWholeLines, Spells}
 use Rattle.memory.specs.Watching.{IsAwaited}
 use Rattle.memory.specs.declared.alarm.Alarm.{Alarm}
+use Rattle.memory.specs.declared.final_seen.FinalSeen.{FinalSeen}
 use Rattle.memory.specs.declared.mark.Mark.{Mark}
 use Rattle.memory.specs.declared.promised.Promised.{Promised}
 use Rattle.play.specs.Scripts.{line_of, Ask, ScriptLine, Watch}
@@ -151,7 +152,7 @@ module _ (hash : List ℕ → List ℕ) (accepted : List ℕ → List ℕ → Li
   -- begin of a mark, up to the mark, it was told, or the root's epoch had been watched before. What counts there are the promises
   -- for changes of the owner's own that were remembered or are now, and that a mark of before awaited. Each of them is an old one,
   -- or was asked for; and each old one that a mark awaits is still there. So is each old alarm, unless those of its name are
-  -- dropped, and all old evidence.
+  -- dropped, and all old evidence, and each old reply that stated a key with Final.
   pub record KeepsTold (before : Found) (text : List ℕ) (after : Found) : Type 0 where
     pub grows : (more : List SignedRoot) × (after.roots ≡ before.roots ++ more)
     pub stays : (old : Mark) → Contains before.known.marks old → HasMark before.roots after.known.marks old
@@ -161,6 +162,7 @@ module _ (hash : List ℕ → List ℕ) (accepted : List ℕ → List ℕ → Li
     pub awaits : (signed : SignedPromise) → WasOwn before.known signed → Any (IsAwaited signed) after.known.marks → WasOwn after.known signed
     pub alarms : (alarm : Alarm) → Contains before.known.alarms alarm → Contains after.known.alarms alarm ⊎ Drops alarm.name
     pub evidence : (line : List ℕ) → Contains before.known.evidence line → Contains after.known.evidence line
+    pub finals : (seen : FinalSeen) → Contains before.known.finals seen → Contains after.known.finals seen
 
   -- the text that is stored spells a memory, with which it is so
   abbrev pub SpellsTold : Found → List ℕ → Stored → Type 0

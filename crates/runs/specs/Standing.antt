@@ -19,6 +19,7 @@ use Rattle.play.specs.Scripts.{line_of, ScriptLine}
 use Rattle.runs.specs.Owning.{Owns}
 use Rattle.runs.specs.Remembering.{AreWithin}
 use Rattle.runs.specs.Saves.{found_in, stored_after, stored_nothing, Act, AllKeepTold, AreEarlier, Found, HasOneOfEachName, IsAsked, IsAskedChange, IsDropped, IsHeadEpoch, IsOwnPromise, IsSaid, KeepsTold, Loads, LoadsFor, WasOwn, Writes, noting}
+use Rattle.asking.specs.FinalBindings.{no_finals}
 use Rattle.asking.specs.Scenes.{Scene}
 use Rattle.runs.specs.Told.{HasBody}
 use Rattle.asking.specs.declared.asker.Asker.{Asker}
@@ -57,7 +58,7 @@ AreNew lines known (Some state) changes = AreAsked lines known changes × AreLat
 
 -- the scene of a client and its monitors, and of lines that are told and not yet written
 abbrev pub standing : Client → List Monitor → List ℕ → Scene (Unit {0})
-standing client monitors lines = record { client = client; monitors = monitors; told = record { lines = lines; status = 0 }; stream = tt }
+standing client monitors lines = record { client = client; monitors = monitors; finals = no_finals; told = record { lines = lines; status = 0 }; stream = tt }
 
 module _ (hash : List ℕ → List ℕ) (accepted verified : List ℕ → List ℕ → List ℕ → Type 0) (lines : Option (List (List ℕ))) (key : List ℕ) (start : Found) (old : List ℕ) where
   -- What was kept in a run, and what is to be kept next, was told before. The output had one text before the run, which began
@@ -117,7 +118,7 @@ IsReady verified lines known asker = (asker.client.chain.key ≡ asker.key) × A
 -- a state in which nothing is kept yet
 abbrev pub IsFresh : Option State → Type 0
 IsFresh None = ⊤
-IsFresh (Some state) = (state.memory ≡ nothing) × (state.epoch ≡ 0) × (state.is_loaded ≡ false) × (state.changes ≡ 0)
+IsFresh (Some state) = (state.memory ≡ nothing) × (state.epoch ≡ 0) × (state.is_loaded ≡ false) × (state.changes ≡ 0) × (state.finals ≡ 0)
 
 -- a state that looked at no change yet
 abbrev pub HasNoChanges : Option State → Type 0

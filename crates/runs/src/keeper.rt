@@ -1,6 +1,7 @@
 // Where a run keeps its state. Contracts know what is handed to it, and what was written to the output before that.
 ghost use Rattle.std.specs.Prelude.{◌≡◌, ◌∷◌, [], List, IfErr, IfOk, OnErr};
-ghost use Rattle.asking.specs.Askers.{asker_changes, asker_client, asker_earlier, asker_key, asker_known, asker_marks, asker_monitors, asker_token};
+ghost use Rattle.asking.specs.Askers.{asker_changes, asker_client, asker_earlier, asker_finals, asker_key, asker_known, asker_marks, asker_monitors, asker_token};
+ghost use Rattle.asking.specs.FinalBindings.{IsKnownIn};
 ghost use Rattle.runs.specs.Remembering.{AreWithin};
 ghost use Rattle.asking.specs.Reports.{report_of};
 ghost use Rattle.runs.specs.RunFaults.{IsFaultOfSaving, IsFaultOfState};
@@ -64,6 +65,7 @@ pub trait Keeper {
         ensures own { IfOk result (λ loaded. IfOk loaded (λ found. AreEarlier (asker_known found.asker) (asker_earlier found.asker))) }
         ensures memory { IfOk result (λ loaded. IfOk loaded (λ found. (found.memory ≡ asker_known found.asker) × (asker_marks found.asker ≡ found.memory.marks))) }
         ensures marks { IfOk result (λ loaded. IfOk loaded (λ found. AreWithin (asker_client found.asker).chain found.memory × HasOneOfEachName found.memory)) }
+        ensures finals { IfOk result (λ loaded. IfOk loaded (λ found. IsKnownIn (asker_known found.asker) (asker_finals found.asker))) }
         ensures said { report_of said.new ≡ report_of said.old }
         ensures err { IfErr result IsFaultOfState };
 

@@ -7,6 +7,7 @@ ghost use Rattle.client.specs.declared.due.Due.TheVariants.{Broken};
 ghost use Rattle.memory.specs.Memories.{Memory};
 ghost use Rattle.memory.specs.Texts.{Spells};
 ghost use Rattle.memory.specs.declared.alarm.Alarm.{Alarm as Warned};
+ghost use Rattle.memory.specs.declared.final_seen.FinalSeen.{FinalSeen};
 ghost use Rattle.memory.specs.declared.mark.Mark.{Mark};
 ghost use Rattle.monitor.specs.Monitors.{Monitor};
 ghost use Rattle.monitor.specs.declared.step.Step.TheVariants.{Alarm};
@@ -60,12 +61,13 @@ pub fn watched_epochs_are_told<T: Read + Write, H: NodeHash, V: VufCheck, S: Ver
 
 /// Whatever runs there were over one state, and wherever each was stopped: what is saved loads as a memory. Each root of
 /// the state that a mark of it says was watched is told in the output of one of the runs, against what its owner expected
-/// there, before the last act of that run that is left; or it was watched before all of them. No root is lost, no mark of an
-/// earlier run, and no evidence that one stored: the memory has a mark of the same name that begins no later, and that is as far
-/// over the roots that were there. Nor is an alarm lost that one stored, unless a run settles those of its name. Each promise that it has for a change of the
-/// owner's own is for one that a line of some run asks for, or was remembered so before all of them; and none of these is lost as
-/// long as a mark awaits it. Where what a run left has marks for monitors, as it has for all those of a whole run without a stale
-/// epoch, each root from the first of such a monitor on was told for its name, or is still to be watched.
+/// there, before the last act of that run that is left; or it was watched before all of them. No root is lost, and no mark of an
+/// earlier run: the memory has one of the same name that begins no later, and that is as far over the roots that were there.
+/// Nor is evidence lost that one stored, or a reply that stated a key with Final; nor an alarm, unless a run settles those of its
+/// name. Each promise that it has for a change of the owner's own is for one that a line of some run asks for, or was remembered
+/// so before all of them; and none of these is lost as long as a mark awaits it. Where what a run left has marks for monitors, as
+/// it has for all those of a whole run without a stale epoch, each root from the first of such a monitor on was told for its
+/// name, or is still to be watched.
 pub fn stored_marks_are_told<H: NodeHash, V: VufCheck, S: Verifier>()
     ensures loads { (key : List ℕ) (first : Stored) (runs : List (StateRun RunOrder)) → AllRunUnder H.digest_of V.accepted S.verified key first runs
         → (before : Memory) → Spells first.text (Ok before) → (known : Memory) × Spells (left_by first runs).text (Ok known) }
@@ -79,6 +81,8 @@ pub fn stored_marks_are_told<H: NodeHash, V: VufCheck, S: Verifier>()
         → (before known : Memory) → Spells (left_by first earlier).text (Ok before) → Spells (left_by first (later ++ earlier)).text (Ok known) → (old : Mark) → Contains before.marks old → HasMark (left_by first earlier).roots known.marks old }
     ensures evidence { (key : List ℕ) (first : Stored) (later earlier : List (StateRun RunOrder)) → AllRunUnder H.digest_of V.accepted S.verified key first (later ++ earlier)
         → (before known : Memory) → Spells (left_by first earlier).text (Ok before) → Spells (left_by first (later ++ earlier)).text (Ok known) → (line : List ℕ) → Contains before.evidence line → Contains known.evidence line }
+    ensures finals { (key : List ℕ) (first : Stored) (later earlier : List (StateRun RunOrder)) → AllRunUnder H.digest_of V.accepted S.verified key first (later ++ earlier)
+        → (before known : Memory) → Spells (left_by first earlier).text (Ok before) → Spells (left_by first (later ++ earlier)).text (Ok known) → (seen : FinalSeen) → Contains before.finals seen → Contains known.finals seen }
     ensures alarms { (key : List ℕ) (first : Stored) (later earlier : List (StateRun RunOrder)) → AllRunUnder H.digest_of V.accepted S.verified key first (later ++ earlier)
         → (before known : Memory) → Spells (left_by first earlier).text (Ok before) → Spells (left_by first (later ++ earlier)).text (Ok known)
         → (alarm : Warned) → Contains before.alarms alarm → AllByRecursion (LeavesUnsettled alarm.name) later → Contains known.alarms alarm }

@@ -13,6 +13,7 @@ ghost use Rattle.memory.specs.Memories.{name_of};
 ghost use Rattle.memory.specs.Texts.{Spells, TakesLine};
 ghost use Rattle.memory.specs.declared.item.Item.TheVariants as items;
 ghost use Rattle.memory.specs.declared.read_fault.ReadFault.TheVariants as read;
+ghost use Rattle.asking.specs.FinalBindings.{IsFinalIn, IsKnownIn};
 ghost use Rattle.runs.specs.Loading.{fault_at, IsAccepted, IsFaultAt, IsNoHex, KeepsItem, KeepsLine, KeepsLines, RefusesItem, RefusesNext, RefusesRoot, TakesNext, TakesRoot, TakesRoots};
 ghost use Rattle.runs.specs.Remembering.{own_of, AreOwnOf, AreWithin, IsOwnOf, IsWithin};
 ghost use Rattle.runs.specs.RunFaults.{IsFaultOfState};
@@ -20,10 +21,12 @@ ghost use Rattle.runs.specs.Saves.{AreEarlier};
 ghost use Rattle.client.specs.Clients.{with_promise, IsPromised};
 ghost use Rattle.runs.specs.Runs.{IsSameAsker, StillKeeps};
 
-use asking::Asker;
+use asking::{Asker, Finals, is_final_in};
 use client::Client;
 use hex::FromHexError;
-use memory::{Item, Mark, Memory, Promised, ReadFault, first_line, read_item, read_memory};
+use memory::{
+    FinalSeen, Item, Mark, Memory, Promised, ReadFault, first_line, read_item, read_memory,
+};
 use nodehash::NodeHash;
 use play::push_hex;
 use rootchain::SignedPromise;
@@ -82,6 +85,7 @@ where
     ensures names { IfErr result (IsFaultAt (λ bad. TakesRoots H.digest_of S.verified 2 (lines_of behind.now) (asker.old).client (Err bad))) }
     ensures earlier { (asker.new).earlier ≡ (asker.old).earlier }
     ensures known { ((asker.new).known ≡ (asker.old).known) × ((asker.new).marks ≡ (asker.old).marks) × ((asker.new).changes ≡ (asker.old).changes) }
+    ensures finals { (asker.new).finals ≡ (asker.old).finals }
     ensures err { IfErr result IsFaultOfState }
 {
     let mut rest = behind;
@@ -107,8 +111,8 @@ where
     S: Verifier + Drop,
     ensures same { IsSameAsker asker.old asker.new }
     ensures kept { OnOk result (StillKeeps asker.old asker.new) }
-    ensures keeps { OnOk result (KeepsLines H.digest_of S.verified 1 (lines_of text.now) (asker.old).client (Ok (asker.new).client)) }
-    ensures names { IfErr result (IsFaultAt (λ bad. KeepsLines H.digest_of S.verified 1 (lines_of text.now) (asker.old).client (Err bad))) }
+    ensures keeps { OnOk result (KeepsLines H.digest_of V.accepted S.verified 1 (lines_of text.now) (asker.old).client (Ok (asker.new).client)) }
+    ensures names { IfErr result (IsFaultAt (λ bad. KeepsLines H.digest_of V.accepted S.verified 1 (lines_of text.now) (asker.old).client (Err bad))) }
     ensures spells { IfOk result (λ memory. Spells text.now (Ok memory) × (memory ≡ (asker.new).known)) }
     ensures marks { OnOk result ((asker.new).marks.items ≡ (asker.new).known.marks) }
     ensures earlier { OnOk result ((own : List Signed) × AreOwnOf (lines_of text.now) own × IsPermutation ((asker.old).earlier.items ++ own) (asker.new).earlier.items) }
@@ -117,12 +121,14 @@ where
     ensures chain { (asker.new).client.chain ≡ (asker.old).client.chain }
     ensures changes { (asker.new).changes ≡ (asker.old).changes }
     ensures within { OnOk result (AreWithin (asker.old).client.chain (asker.new).known) }
+    ensures finals { OnOk result (IsKnownIn (asker.new).known (asker.new).finals) }
     ensures once { OnOk result (HasNoRepeat (map name_of (asker.new).known.marks)) }
     ensures err { IfErr result IsFaultOfState }
 {
     let memory = remember_lines(asker, text)?;
     asker.marks = copied_marks(asker.alloc, memory.marks())?;
     asker.known = read_lines(asker.alloc, text)?;
+    asker.finals = Finals::remembered(asker.alloc, &asker.known)?;
     sort_promises(&mut asker.earlier)?;
     Ok(memory)
 }
@@ -135,8 +141,8 @@ where
     S: Verifier + Drop,
     ensures same { IsSameAsker asker.old asker.new }
     ensures kept { OnOk result (StillKeeps asker.old asker.new) }
-    ensures keeps { OnOk result (KeepsLines H.digest_of S.verified 1 (lines_of text.now) (asker.old).client (Ok (asker.new).client)) }
-    ensures names { IfErr result (IsFaultAt (λ bad. KeepsLines H.digest_of S.verified 1 (lines_of text.now) (asker.old).client (Err bad))) }
+    ensures keeps { OnOk result (KeepsLines H.digest_of V.accepted S.verified 1 (lines_of text.now) (asker.old).client (Ok (asker.new).client)) }
+    ensures names { IfErr result (IsFaultAt (λ bad. KeepsLines H.digest_of V.accepted S.verified 1 (lines_of text.now) (asker.old).client (Err bad))) }
     ensures spells { IfOk result (λ memory. Spells text.now (Ok memory)) }
     ensures earlier { OnOk result ((own : List Signed) × AreOwnOf (lines_of text.now) own × ((asker.new).earlier.items ≡ (asker.old).earlier.items ++ own)) }
     ensures chain { (asker.new).client.chain ≡ (asker.old).client.chain }
@@ -171,6 +177,7 @@ where
     ensures names { IfErr result (IsFaultAt (λ bad. (bad ≡ number) × RefusesNext (RefusesRoot H.digest_of S.verified) line.now (asker.old).client)) }
     ensures earlier { (asker.new).earlier ≡ (asker.old).earlier }
     ensures known { ((asker.new).known ≡ (asker.old).known) × ((asker.new).marks ≡ (asker.old).marks) × ((asker.new).changes ≡ (asker.old).changes) }
+    ensures finals { (asker.new).finals ≡ (asker.old).finals }
     ensures err { IfErr result IsFaultOfState }
 {
     if line.is_empty() {
@@ -203,8 +210,8 @@ where
     S: Verifier + Drop,
     ensures same { IsSameAsker asker.old asker.new }
     ensures kept { OnOk result (StillKeeps asker.old asker.new) }
-    ensures keeps { OnOk result (TakesNext (KeepsLine H.digest_of S.verified) line.now (asker.old).client (asker.new).client) }
-    ensures names { IfErr result (IsFaultAt (λ bad. (bad ≡ number) × RefusesNext (RefusesItem H.digest_of S.verified) line.now (asker.old).client)) }
+    ensures keeps { OnOk result (TakesNext (KeepsLine H.digest_of V.accepted S.verified) line.now (asker.old).client (asker.new).client) }
+    ensures names { IfErr result (IsFaultAt (λ bad. (bad ≡ number) × RefusesNext (RefusesItem H.digest_of V.accepted S.verified) line.now (asker.old).client)) }
     ensures takes { OnOk result (TakesLine line.now number memory.old memory.new (Ok tt)) }
     ensures earlier { OnOk result ((own : List Signed) × IsOwnOf line.now own × ((asker.new).earlier.items ≡ (asker.old).earlier.items ++ own)) }
     ensures chain { (asker.new).client.chain ≡ (asker.old).client.chain }
@@ -223,7 +230,8 @@ where
     Ok(())
 }
 
-/// Keeps the promise of an item. Refuses a mark above the chain's head.
+/// Keeps the promise of an item. Refuses a mark above the chain's head, and a reply that does not state a key with Final, or is
+/// not accepted under the chain's root of its epoch.
 fn accept<H, V, S>(asker: &mut Asker<H, V, S>, item: &Item, number: u64) -> Result<(), ProgramFault>
 where
     H: NodeHash + Drop,
@@ -231,8 +239,8 @@ where
     S: Verifier + Drop,
     ensures same { IsSameAsker asker.old asker.new }
     ensures kept { OnOk result (StillKeeps asker.old asker.new) }
-    ensures keeps { OnOk result (IsSound item.now → KeepsItem H.digest_of S.verified item.now (asker.old).client (asker.new).client) }
-    ensures names { IfErr result (IsFaultAt (λ bad. (bad ≡ number) × ¬ IsAccepted H.digest_of S.verified (asker.old).client.chain item.now)) }
+    ensures keeps { OnOk result (IsSound item.now → KeepsItem H.digest_of V.accepted S.verified item.now (asker.old).client (asker.new).client) }
+    ensures names { IfErr result (IsFaultAt (λ bad. (bad ≡ number) × ¬ IsAccepted H.digest_of V.accepted S.verified (asker.old).client.chain item.now)) }
     ensures earlier { OnOk result (IsSound item.now → (asker.new).earlier.items ≡ (asker.old).earlier.items ++ own_of item.now) }
     ensures marks { OnOk result (IsWithin (asker.old).client.chain item.now) }
     ensures chain { (asker.new).client.chain ≡ (asker.old).client.chain }
@@ -243,8 +251,35 @@ where
         Item::Promised(promised) => keep_earlier(asker, promised, number),
         Item::Watched(mark) if asker.head() < mark.epoch => Err(ProgramFault::BadItem(number)),
         Item::Watched(_) => Ok(()),
+        Item::Final(seen) => accept_final(asker, seen, number),
         Item::Alarm(_) => Ok(()),
         Item::Evidence(_) => Ok(()),
+    }
+}
+
+/// Refuses a reply that does not state a key with Final, or is not accepted for its name under the chain's root of its epoch.
+fn accept_final<H, V, S>(
+    asker: &mut Asker<H, V, S>,
+    seen: &FinalSeen,
+    number: u64,
+) -> Result<(), ProgramFault>
+where
+    H: NodeHash + Drop,
+    V: VufCheck + Drop,
+    S: Verifier + Drop,
+    ensures same { IsSameAsker asker.old asker.new }
+    ensures client { (asker.new).client ≡ (asker.old).client }
+    ensures earlier { (asker.new).earlier ≡ (asker.old).earlier }
+    ensures changes { (asker.new).changes ≡ (asker.old).changes }
+    ensures shown { OnOk result (IsFinalIn H.digest_of V.accepted (asker.old).client.chain seen.now) }
+    ensures names { IfErr result (IsFaultAt (λ bad. (bad ≡ number) × ¬ IsFinalIn H.digest_of V.accepted (asker.old).client.chain seen.now)) }
+    ensures err { IfErr result IsFaultOfState }
+{
+    let checks = &mut asker.checks;
+    if is_final_in(asker.client.chain(), checks, seen) {
+        Ok(())
+    } else {
+        Err(ProgramFault::BadItem(number))
     }
 }
 
@@ -260,7 +295,7 @@ where
     S: Verifier + Drop,
     ensures same { IsSameAsker asker.old asker.new }
     ensures kept { OnOk result (StillKeeps asker.old asker.new) }
-    ensures keeps { OnOk result (IsSignedPromise promised.now.signed → KeepsItem H.digest_of S.verified (items.Promised promised.now) (asker.old).client (asker.new).client) }
+    ensures keeps { OnOk result (IsSignedPromise promised.now.signed → KeepsItem H.digest_of V.accepted S.verified (items.Promised promised.now) (asker.old).client (asker.new).client) }
     ensures names { IfErr result (IsFaultAt (λ bad. (bad ≡ number) × ¬ IsPromised H.digest_of S.verified (asker.old).client.chain promised.now.signed)) }
     ensures earlier { OnOk result (IsSignedPromise promised.now.signed → (asker.new).earlier.items ≡ (asker.old).earlier.items ++ own_of (items.Promised promised.now)) }
     ensures chain { (asker.new).client.chain ≡ (asker.old).client.chain }

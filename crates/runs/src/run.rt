@@ -7,6 +7,7 @@ ghost use Rattle.textio.specs.declared.program_fault.ProgramFault.{ProgramFault}
 ghost use Rattle.textio.specs.declared.program_fault.ProgramFault.TheVariants.{CannotWrite, NotACommand, OutOfMemory};
 ghost use Rattle.play.specs.Scripts.{ask_seen, line_of, Ask as Asked};
 ghost use Rattle.runs.specs.AskOptions.{ask_values};
+ghost use Rattle.asking.specs.FinalBindings.{IsKnownIn};
 ghost use Rattle.asking.specs.Asking.{HearsHead};
 ghost use Rattle.asking.specs.Catching.{CatchesSome, StopsBelow};
 ghost use Rattle.runs.specs.Ending.{AdvancesPart, AsksPart, AsksSomeLine, BeginsNone, DoesSome, end_status, EndsEarly, EndsWith, FailsWith, HoldsBack, IsNewFor, LoadsNone, LooksSome, NotesFirst, PreparesSome, RunsLate};
@@ -398,6 +399,7 @@ impl Run {
         ensures begins { IfOk result (λ asker. BeginsAsking H.digest_of V.accepted S.verified (ExchangesFrames T.contents T.remaining) keys.now.signing_key keys.now.token ((self.old).state ≡ None)
             stream.old (background_of asker) asker.client stream.new) }
         ensures knows { IfOk result (λ asker. (asker.key ≡ keys.now.signing_key) × (asker.token ≡ keys.now.token) × (asker.monitors.items ≡ [])) }
+        ensures finals { IfOk result (λ asker. IsKnownIn asker.known asker.finals) }
         ensures said { IfOk result (λ asker. report_of (self.new).said ≡ told_after (report_of (self.old).said) (evidence_again asker.known)) }
         ensures none { OnErr result (BeginsNone S.verified (ExchangesFrames T.contents T.remaining) keys.now.signing_key stream.old (report_of (self.old).said) (report_of (self.new).said)) }
         ensures faults { IfErr result (StopsOr (λ fault. ((¬ ((self.old).state ≡ None)) × IsFaultOfState fault) ⊎ (fault ≡ OutOfMemory))) }
@@ -449,6 +451,7 @@ impl Run {
         ensures knows { IfOk result (λ loaded. IfOk loaded (λ asker. (asker.key ≡ keys.now.signing_key) × (asker.token ≡ keys.now.token) × (asker.monitors.items ≡ []))) }
         ensures sound { IfOk result (λ loaded. IfOk loaded (λ asker. IsSoundFor H.digest_of V.accepted S.verified keys.now.signing_key asker.client)) }
         ensures kept { IfOk result (λ loaded. IfOk loaded (λ asker. KeepsAll asker.client asker.earlier.items)) }
+        ensures finals { IfOk result (λ loaded. IfOk loaded (λ asker. IsKnownIn asker.known asker.finals)) }
         ensures loads { IfOk result (λ loaded. IfOk loaded (λ asker. HasLoaded (K.has keeper.old) (K.has keeper.new) asker (self.new).state)) }
         ensures fresh { IfOk result (λ loaded. IfErr loaded (λ unused. HasBegun (K.has keeper.old) (K.has keeper.new) (self.old).state (self.new).state)) }
         ensures fails { OnErr result (HasFailed (K.has keeper.old) (K.has keeper.new) (self.old).state (self.new).state) }
@@ -480,6 +483,7 @@ impl Run {
         ensures begins { IfOk result (λ asker. StartsAtHead S.verified (ExchangesFrames T.contents T.remaining) keys.now.signing_key stream.old asker.client stream.new) }
         ensures knows { IfOk result (λ asker. (background_of asker ≡ new_background keys.now.signing_key keys.now.token) × (asker.monitors.items ≡ [])) }
         ensures changes { IfOk result (λ asker. asker.changes.items ≡ []) }
+        ensures finals { IfOk result (λ asker. IsKnownIn asker.known asker.finals) }
         ensures said { IfOk result (λ asker. report_of (self.new).said ≡ report_of (self.old).said) }
         ensures none { OnErr result (BeginsNone S.verified (ExchangesFrames T.contents T.remaining) keys.now.signing_key stream.old (report_of (self.old).said) (report_of (self.new).said)) }
         ensures faults { IfErr result (StopsOr (λ fault. fault ≡ OutOfMemory)) }

@@ -10,7 +10,8 @@ ghost use Rattle.memory.specs.Memories.{nothing, signed_of, Memory as Known};
 ghost use Rattle.memory.specs.Texts.{items_text, memory_text, TakesAll};
 ghost use Rattle.memory.specs.declared.item.Item.{Item as Remembered};
 ghost use Rattle.monitor.specs.Monitors.{Monitor as Watcher};
-ghost use Rattle.runs.specs.Keeping.{AreTested, IsNewHead, LearnsAfter, LearnsBefore, LearnsPromises, MayMove};
+ghost use Rattle.runs.specs.Keeping.{AreTested, IsNewHead, LearnsAfter, LearnsBefore, LearnsKept, LearnsPromises, MayMove};
+ghost use Rattle.asking.specs.FinalBindings.{IsKnownIn};
 ghost use Rattle.runs.specs.Remembering.{AreWithin};
 ghost use Rattle.asking.specs.Reports.{report_of};
 ghost use Rattle.runs.specs.RunFaults.{IsFaultOfSaving, IsFaultOfState};
@@ -42,8 +43,9 @@ pub(crate) struct State {
     memory: Memory,
     /// How many bytes are kept of it, if that is known.
     size: Option<usize>,
-    /// How many changes of this run were looked at.
+    /// How many changes of this run were looked at, and how many replies that stated keys with Final.
     changes: usize,
+    finals: usize,
     /// The head, and how many monitors there were, when it was last looked.
     head: u64,
     monitors: usize,
@@ -91,7 +93,7 @@ impl State {
     /// A state that is not loaded.
     pub(crate) fn new(alloc: Global) -> Self
         ensures fresh { (result.memory ≡ nothing) × (result.epoch ≡ 0) × (result.is_loaded ≡ false) }
-        ensures looked { (result.changes ≡ 0) × (result.monitors ≡ 0) }
+        ensures looked { (result.changes ≡ 0) × (result.finals ≡ 0) × (result.monitors ≡ 0) }
     {
         State {
             alloc,
@@ -100,6 +102,7 @@ impl State {
             memory: Memory::new(alloc),
             size: Some(0),
             changes: 0,
+            finals: 0,
             head: 0,
             monitors: 0,
             was_new: false,
@@ -135,6 +138,8 @@ impl State {
         ensures sound { IfOk result (λ loaded. IfOk loaded (λ asker. IsSoundFor H.digest_of V.accepted S.verified key asker.client)) }
         ensures kept { IfOk result (λ loaded. IfOk loaded (λ asker. KeepsAll asker.client asker.earlier.items)) }
         ensures own { IfOk result (λ loaded. IfOk loaded (λ asker. AreEarlier asker.known asker.earlier.items)) }
+        ensures finals { IfOk result (λ loaded. IfOk loaded (λ asker. IsKnownIn asker.known asker.finals × ((self.new).finals ≡ length asker.finals.seen))) }
+        ensures unseen { IfOk result (λ loaded. IfErr loaded (λ unused. (self.new).finals ≡ (self.old).finals)) × OnErr result ((self.new).finals ≡ (self.old).finals) }
         ensures said { report_of said.new ≡ report_of said.old }
         ensures err { IfErr result IsFaultOfState }
     {
@@ -151,6 +156,7 @@ impl State {
                 self.memory = memory;
                 self.size = Some(size);
                 self.head = asker.head();
+                self.finals = asker.finals.seen().len();
                 Ok(Ok(asker))
             }
             Err(unused) => {
@@ -160,8 +166,8 @@ impl State {
         }
     }
 
-    /// Adds the roots, the promises and the evidence that are new to what is kept, and from where names are watched. The
-    /// text is what will be told.
+    /// Adds the roots, the promises, the replies that stated keys with Final and the evidence that are new to what is kept, and
+    /// from where names are watched. The text is what will be told.
     ///
     /// # Errors
     ///
@@ -180,10 +186,12 @@ impl State {
         V: VufCheck + Drop,
         S: Verifier + Drop,
         ensures err { IfErr result IsFaultOfSaving }
-        ensures learns { OnOk result (LearnsBefore (drop (self.old).changes asker.now.changes.items) asker.now.client.promises told.now (drop (self.old).monitors asker.now.monitors.items) (self.old).memory (self.new).memory) }
+        ensures learns { OnOk result (LearnsBefore (drop (self.old).changes asker.now.changes.items) asker.now.client.promises (drop (self.old).finals asker.now.finals.seen) told.now (drop (self.old).monitors asker.now.monitors.items) (self.old).memory (self.new).memory) }
         ensures looked { ((self.new).head ≡ (self.old).head) × ((self.new).monitors ≡ (self.old).monitors) × ((self.new).was_new ≡ (self.old).was_new) }
         ensures changes { OnOk result ((self.new).changes ≡ length asker.now.changes.items) }
+        ensures finals { OnOk result ((self.new).finals ≡ length asker.now.finals.seen) }
         ensures up_to { OnOk result (IsUpTo asker.now.client (self.new).epoch) }
+        ensures loaded { (self.new).is_loaded ≡ (self.old).is_loaded }
         ensures kept { (lines : Option (List (List ℕ))) (key : List ℕ) (start : Found) (old : List ℕ) (acts : List Act) → AreAsked lines start.known asker.now.changes.items × AreLate (self.old).memory (drop (self.old).changes asker.now.changes.items) → IsKept H.digest_of V.accepted S.verified lines key start old (λ done. K.has keeper.old (done ++ acts)) (self.old).epoch (self.old).memory [] (W.contents writer.now)
             → (unsaved : List Remembered) × IsKept H.digest_of V.accepted S.verified lines key start old (λ done. K.has keeper.new (done ++ acts)) (self.new).epoch (self.new).memory unsaved (W.contents writer.now) }
         ensures stands { OnOk result ((lines : Option (List (List ℕ))) (key : List ℕ) (start : Found) (old : List ℕ) (acts : List Act) (said : List ℕ) → AreAsked lines start.known asker.now.changes.items × AreLate (self.old).memory (drop (self.old).changes asker.now.changes.items) → Stands H.digest_of V.accepted S.verified lines key start old (λ done. K.has keeper.old (done ++ acts)) (self.old).epoch (self.old).memory [] (W.contents writer.now) asker.now.changes.items (standing asker.now.client asker.now.monitors.items said)
@@ -198,7 +206,7 @@ impl State {
         self.size = if lines.is_empty() { size } else { None };
         self.hand_roots(keeper, writer, asker)?;
         self.size = None;
-        self.learn_promises(asker, &mut lines)?;
+        self.learn_kept(asker, &mut lines)?;
         let begun = behind(&asker.monitors, self.monitors);
         self.memory.mark_begun(begun, &mut lines)?;
         self.hand_on(keeper, writer, size, &lines)
@@ -227,6 +235,8 @@ impl State {
             × LearnsAfter told.now asker.now.monitors.items some (self.old).memory (self.new).memory) }
         ensures looked { OnOk result (((self.new).monitors ≡ length asker.now.monitors.items) × IsHeadEpoch asker.now.client.chain (self.new).head × IsNewHead asker.now.client.chain (self.old).head (self.new).was_new) }
         ensures changes { (self.new).changes ≡ (self.old).changes }
+        ensures finals { (self.new).finals ≡ (self.old).finals }
+        ensures loaded { (self.new).is_loaded ≡ (self.old).is_loaded }
         ensures kept { (lines : Option (List (List ℕ))) (key : List ℕ) (start : Found) (old : List ℕ) (acts : List Act) → IsUpTo asker.now.client (self.old).epoch
             → Stands H.digest_of V.accepted S.verified lines key start old (λ done. K.has keeper.old (done ++ acts)) (self.old).epoch (self.old).memory [] (W.contents writer.now) asker.now.changes.items (standing asker.now.client asker.now.monitors.items [])
             → (unsaved : List Remembered) × Stands H.digest_of V.accepted S.verified lines key start old (λ done. K.has keeper.new (done ++ acts)) (self.new).epoch (self.new).memory unsaved (W.contents writer.now) asker.now.changes.items (standing asker.now.client asker.now.monitors.items [])
@@ -255,6 +265,8 @@ impl State {
         S: Verifier + Drop,
         ensures err { IfErr result IsFaultOfSaving }
         ensures same { ((self.new).memory ≡ (self.old).memory) × ((self.new).changes ≡ (self.old).changes) × ((self.new).head ≡ (self.old).head) × ((self.new).monitors ≡ (self.old).monitors) × ((self.new).was_new ≡ (self.old).was_new) }
+        ensures finals { (self.new).finals ≡ (self.old).finals }
+        ensures loaded { (self.new).is_loaded ≡ (self.old).is_loaded }
         ensures hands { (acts : List Act) → K.has keeper.old acts → K.has keeper.new (AddsRoots (roots_above (self.old).epoch asker.now.client.chain.roots) (W.contents writer.now) ∷ acts) }
         ensures rises { (self.old).epoch ≤ (self.new).epoch }
         ensures exact { ((self.new).epoch ≡ (self.old).epoch) ⊎ IsHeadEpoch asker.now.client.chain (self.new).epoch }
@@ -280,6 +292,35 @@ impl State {
         count
     }
 
+    /// Learns the promises of the client that are new, with those for its own changes, and then the replies that stated keys
+    /// with Final, and appends their lines.
+    fn learn_kept<H, V, S>(
+        &mut self,
+        asker: &Asker<H, V, S>,
+        lines: &mut Vec<u8>,
+    ) -> Result<(), AllocError>
+    where
+        H: NodeHash + Drop,
+        V: VufCheck + Drop,
+        S: Verifier + Drop,
+        ensures learns { OnOk result ((news : List Remembered) × LearnsKept (drop (self.old).changes asker.now.changes.items) asker.now.client.promises (drop (self.old).finals asker.now.finals.seen) (self.old).memory news (self.new).memory
+            × (lines.new.items ≡ lines.old.items ++ items_text news)) }
+        ensures takes { AllByRecursion IsSignedPromise asker.now.changes.items → OnOk result ((news : List Remembered) × TakesAll news (self.old).memory (self.new).memory × (lines.new.items ≡ lines.old.items ++ items_text news)) }
+        ensures taken { AllByRecursion IsSignedPromise asker.now.changes.items → OnErr result ((news : List Remembered) × TakesAll news (self.old).memory (self.new).memory) }
+        ensures some { OnErr result (KeepsMarks (self.old).memory (self.new).memory) }
+        ensures own { AddsOwn (drop (self.old).changes asker.now.changes.items) (self.old).memory (self.new).memory }
+        ensures changes { OnOk result ((self.new).changes ≡ length asker.now.changes.items) }
+        ensures finals { OnOk result ((self.new).finals ≡ length asker.now.finals.seen) }
+        ensures same { ((self.new).epoch ≡ (self.old).epoch) × ((self.new).head ≡ (self.old).head) × ((self.new).monitors ≡ (self.old).monitors) × ((self.new).was_new ≡ (self.old).was_new) }
+        ensures loaded { (self.new).is_loaded ≡ (self.old).is_loaded }
+    {
+        self.learn_promises(asker, lines)?;
+        let seen = behind(asker.finals.seen(), self.finals);
+        self.memory.learn_finals(seen, lines)?;
+        self.finals = asker.finals.seen().len();
+        Ok(())
+    }
+
     /// Learns the promises of the client that are new, with those for its own changes, and appends their lines.
     fn learn_promises<H, V, S>(
         &mut self,
@@ -298,6 +339,8 @@ impl State {
         ensures own { AddsOwn (drop (self.old).changes asker.now.changes.items) (self.old).memory (self.new).memory }
         ensures changes { OnOk result ((self.new).changes ≡ length asker.now.changes.items) }
         ensures same { ((self.new).epoch ≡ (self.old).epoch) × ((self.new).head ≡ (self.old).head) × ((self.new).monitors ≡ (self.old).monitors) × ((self.new).was_new ≡ (self.old).was_new) }
+        ensures finals { (self.new).finals ≡ (self.old).finals }
+        ensures loaded { (self.new).is_loaded ≡ (self.old).is_loaded }
     {
         let fresh = self.memory.fresh(asker.client.promises());
         let own = behind(&asker.changes, self.changes);
@@ -346,7 +389,8 @@ impl State {
         ensures taken { OnErr result ((news : List Remembered) × TakesAll news (self.old).memory (self.new).memory) }
         ensures some { OnErr result ((done : List Watcher) × (news : List Remembered) × AllByRecursion (Contains asker.now.monitors.items) done × Each (MarksOne asker.now.monitors.items) done (self.old).memory news (self.new).memory) }
         ensures looked { OnOk result (((self.new).monitors ≡ length asker.now.monitors.items) × IsHeadEpoch asker.now.client.chain (self.new).head × IsNewHead asker.now.client.chain (self.old).head (self.new).was_new) }
-        ensures same { ((self.new).epoch ≡ (self.old).epoch) × ((self.new).changes ≡ (self.old).changes) }
+        ensures same { ((self.new).epoch ≡ (self.old).epoch) × ((self.new).changes ≡ (self.old).changes) × ((self.new).finals ≡ (self.old).finals) }
+        ensures loaded { (self.new).is_loaded ≡ (self.old).is_loaded }
     {
         let monitors = &asker.monitors;
         let is_new = self.has_new_head(asker);
@@ -424,6 +468,8 @@ impl State {
     ) -> Result<(), ProgramFault>
         ensures err { IfErr result IsFaultOfSaving }
         ensures same { ((self.new).memory ≡ (self.old).memory) × ((self.new).epoch ≡ (self.old).epoch) × ((self.new).changes ≡ (self.old).changes) × ((self.new).head ≡ (self.old).head) × ((self.new).monitors ≡ (self.old).monitors) × ((self.new).was_new ≡ (self.old).was_new) }
+        ensures finals { (self.new).finals ≡ (self.old).finals }
+        ensures loaded { (self.new).is_loaded ≡ (self.old).is_loaded }
         ensures hands { (acts : List Act) → K.has keeper.old acts → ((lines.now ≡ []) × K.has keeper.new acts) ⊎ K.has keeper.new (AddsLines lines.now (W.contents writer.now) ∷ acts) }
     {
         if !lines.is_empty() {

@@ -9,6 +9,7 @@ ghost use Rattle.textio.specs.Lines.{lines_of};
 ghost use Rattle.memory.specs.Memories.{nothing};
 ghost use Rattle.memory.specs.Texts.{HasWholeLines, Spells};
 ghost use Rattle.runs.specs.Loading.{IsFaultAt, IsSecond, LoadsClient, StartsFrom};
+ghost use Rattle.asking.specs.FinalBindings.{no_finals, IsKnownIn};
 ghost use Rattle.runs.specs.Remembering.{AreWithin};
 ghost use Rattle.asking.specs.Reports.{report_of};
 ghost use Rattle.runs.specs.RunFaults.{IsFaultOfSaving, IsFaultOfState};
@@ -188,6 +189,7 @@ where
     ensures known { IfOk result (λ asker. asker.known ≡ nothing) }
     ensures marks { IfOk result (λ asker. asker.marks.items ≡ []) }
     ensures changes { IfOk result (λ asker. asker.changes.items ≡ []) }
+    ensures finals { IfOk result (λ asker. asker.finals ≡ no_finals) }
     ensures err { IfErr result IsFaultOfState }
 {
     let (line, behind) = first_line(lines);
@@ -240,8 +242,8 @@ impl<F: Files<File = File>> StateFiles<'_, F> {
         V: VufCheck + Drop,
         S: Verifier + Drop,
         requires { 0 < length lines.now }
-        ensures loads { IfOk result (λ found. LoadsClient H.digest_of S.verified key lines.now (option_map (λ file. (file.now).bytes.items) second.entry) (Ok found.asker.client)) }
-        ensures names { IfErr result (IsFaultAt (λ bad. LoadsClient H.digest_of S.verified key lines.now (option_map (λ file. (file.now).bytes.items) second.entry) (Err bad))) }
+        ensures loads { IfOk result (λ found. LoadsClient H.digest_of V.accepted S.verified key lines.now (option_map (λ file. (file.now).bytes.items) second.entry) (Ok found.asker.client)) }
+        ensures names { IfErr result (IsFaultAt (λ bad. LoadsClient H.digest_of V.accepted S.verified key lines.now (option_map (λ file. (file.now).bytes.items) second.entry) (Err bad))) }
         ensures spells { IfOk result (λ found. (text : List ℕ) × IsSecond (option_map (λ file. (file.now).bytes.items) second.entry) text × Spells text (Ok found.asker.known)) }
         ensures knows { IfOk result (λ found. (found.asker.key ≡ key) × (found.asker.token ≡ token) × (found.asker.monitors.items ≡ []) × (found.asker.changes.items ≡ [])) }
         ensures chain { IfOk result (λ found. found.asker.client.chain.key ≡ key) }
@@ -249,6 +251,7 @@ impl<F: Files<File = File>> StateFiles<'_, F> {
         ensures own { IfOk result (λ found. AreEarlier found.asker.known found.asker.earlier.items) }
         ensures memory { IfOk result (λ found. (found.memory ≡ found.asker.known) × (found.asker.marks.items ≡ found.memory.marks)) }
         ensures marks { IfOk result (λ found. AreWithin found.asker.client.chain found.memory × HasOneOfEachName found.memory) }
+        ensures finals { IfOk result (λ found. IsKnownIn found.asker.known found.asker.finals) }
         ensures text { IfOk result (λ found. (text : List ℕ) × HasWholeLines text × Spells text (Ok found.asker.known)) }
         ensures said { report_of said.new ≡ report_of said.old }
         ensures err { IfErr result IsFaultOfState }

@@ -8,4 +8,5 @@ returns c =
     let change : c.args.word.now ≢ codes "change" = search rules in
     let watched : c.args.word.now ≢ codes "watched" = search rules in
     let alarm : c.args.word.now ≢ codes "alarm" = search rules in
-    no_item c.args.word.now c.args.behind.now c.requires promise change watched alarm
+    let final : c.args.word.now ≢ codes "final" = search rules in
+    no_item c.args.word.now c.args.behind.now c.requires promise change watched alarm final

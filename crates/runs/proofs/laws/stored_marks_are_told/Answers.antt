@@ -1,7 +1,7 @@
 use Rattle.runs.specs.Saves.{IsAsked, IsAskedChange, IsDropped, IsOwnPromise}
 use Rattle.runs.specs.StateRuns.{RunOrder}
 use Rattle.runs.proofs.MarkedRuns.{watched-over-runs}
-use Rattle.runs.proofs.StateRuns.{alarms-over-runs, awaited-over-runs, evidence-over-runs, marks-over-runs, own-over-runs, roots-over-runs, spelled-over-runs, told-over-runs}
+use Rattle.runs.proofs.StateRuns.{alarms-over-runs, awaited-over-runs, evidence-over-runs, finals-over-runs, marks-over-runs, own-over-runs, roots-over-runs, spelled-over-runs, told-over-runs}
 use Rattle.runs.proofs.laws.stored_marks_are_told.Goals as goal
 
 pub returns-clause-loads : goal.returns-clause-loads
@@ -18,6 +18,10 @@ returns-clause-stay g c = λ key. marks-over-runs g.H.NodeHash.digest_of g.V.Vuf
 
 pub returns-clause-evidence : goal.returns-clause-evidence
 returns-clause-evidence g c = λ key. evidence-over-runs g.H.NodeHash.digest_of g.V.VufCheck.accepted (λ (order : RunOrder). IsAsked order.lines) (λ (order : RunOrder). IsOwnPromise g.S.Verifier.verified key order.lines) (λ (order : RunOrder). IsAskedChange order.lines)
+    (λ (order : RunOrder). IsDropped order.settled)
+
+pub returns-clause-finals : goal.returns-clause-finals
+returns-clause-finals g c = λ key. finals-over-runs g.H.NodeHash.digest_of g.V.VufCheck.accepted (λ (order : RunOrder). IsAsked order.lines) (λ (order : RunOrder). IsOwnPromise g.S.Verifier.verified key order.lines) (λ (order : RunOrder). IsAskedChange order.lines)
     (λ (order : RunOrder). IsDropped order.settled)
 
 pub returns-clause-alarms : goal.returns-clause-alarms

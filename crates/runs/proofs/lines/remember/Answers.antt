@@ -52,5 +52,5 @@ returns-clause-kept g c keeps =
 pub returns-in_err-asker-2-clause-names : goal.returns-in_err-asker-2-clause-names
 returns-in_err-asker-2-clause-names g c =
     passed_on c.from_residual-in_err-asker-2.result c.in_err-asker-2.field-0.0 (λ bad. Spells c.args.text.now (Err (read.BadItem bad)))
-    (λ bad. KeepsLines g.H.NodeHash.digest_of g.S.Verifier.verified 1 (lines_of c.args.text.now) c.args.asker.now.client (Err bad)) c.from_residual-in_err-asker-2.ensures.1
+    (λ bad. KeepsLines g.H.NodeHash.digest_of g.V.VufCheck.accepted g.S.Verifier.verified 1 (lines_of c.args.text.now) c.args.asker.now.client (Err bad)) c.from_residual-in_err-asker-2.ensures.1
     (λ bad spells. absurd (spelled_so c.args.text.now c.in_ok-memory.memory bad c.in_ok-memory.ensures.spells spells)) c.in_err-asker-2.ensures.names

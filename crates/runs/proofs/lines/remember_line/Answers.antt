@@ -14,23 +14,24 @@ returns-clause-keeps g c =
     let line = c.args.line.now in
     let some : line ≡ [] → ⊥ = λ is. let zero_length = ap length is in search rules in
     let is : IsLineOf line c.in-Some.item = search rules in
-    next_taken (KeepsLine g.H.NodeHash.digest_of g.S.Verifier.verified) line c.args.asker.now.client c.accept.new.asker.client some (c.in-Some.item, is, c.in_ok-accept.ensures.keeps is.0)
+    next_taken (KeepsLine g.H.NodeHash.digest_of g.V.VufCheck.accepted g.S.Verifier.verified) line c.args.asker.now.client c.accept.new.asker.client some (c.in-Some.item, is, c.in_ok-accept.ensures.keeps is.0)
 
 pub returns-in_default-clause-names : goal.returns-in_default-clause-names
 returns-in_default-clause-names g c =
     let line = c.args.line.now in
     let some : line ≡ [] → ⊥ = λ is. let zero_length = ap length is in search rules in
     let none : (item : Item) → ¬ IsLineOf line item = search rules in
-    let refuses = refuses_none g.H.NodeHash.digest_of g.S.Verifier.verified c.args.asker.now.client line none in
-    inr (c.args.number, refl, (refl, next_refused (RefusesItem g.H.NodeHash.digest_of g.S.Verifier.verified) line c.args.asker.now.client some refuses))
+    let refuses = refuses_none g.H.NodeHash.digest_of g.V.VufCheck.accepted g.S.Verifier.verified c.args.asker.now.client line none in
+    inr (c.args.number, refl, (refl, next_refused (RefusesItem g.H.NodeHash.digest_of g.V.VufCheck.accepted g.S.Verifier.verified) line c.args.asker.now.client some refuses))
 
 pub returns-in_err-accept-clause-names : goal.returns-in_err-accept-clause-names
 returns-in_err-accept-clause-names g c =
     let hash = g.H.NodeHash.digest_of in
+    let accepted = g.V.VufCheck.accepted in
     let verified = g.S.Verifier.verified in
     let line = c.args.line.now in
     let client = c.args.asker.now.client in
     let some : line ≡ [] → ⊥ = λ is. let zero_length = ap length is in search rules in
     let is : IsLineOf line c.in-Some.item = search rules in
-    passed_here c.from_residual-in_err-accept.result c.in_err-accept.field-0.0 c.args.number (¬ IsAccepted hash verified client.chain c.in-Some.item) (RefusesNext (RefusesItem hash verified) line client)
-    c.from_residual-in_err-accept.ensures.1 (λ not_accepted. next_refused (RefusesItem hash verified) line client some (refuses_line hash verified client line c.in-Some.item is not_accepted)) c.in_err-accept.ensures.names
+    passed_here c.from_residual-in_err-accept.result c.in_err-accept.field-0.0 c.args.number (¬ IsAccepted hash accepted verified client.chain c.in-Some.item) (RefusesNext (RefusesItem hash accepted verified) line client)
+    c.from_residual-in_err-accept.ensures.1 (λ not_accepted. next_refused (RefusesItem hash accepted verified) line client some (refuses_line hash accepted verified client line c.in-Some.item is not_accepted)) c.in_err-accept.ensures.names

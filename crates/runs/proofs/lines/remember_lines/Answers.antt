@@ -16,7 +16,7 @@ loop-rest-preserved g c =
       same = same_on c.args.asker.now c.loop-rest.asker c.remember_line.new.asker c.loop-rest.invariant.same c.remember_line.ensures.same;
       kept = λ keeps. c.in_ok-remember_line.ensures.kept (c.loop-rest.invariant.kept keeps);
       keeps = λ result rest. c.loop-rest.invariant.keeps result
-          (one_taken (KeepsLine g.H.NodeHash.digest_of g.S.Verifier.verified) (RefusesItem g.H.NodeHash.digest_of g.S.Verifier.verified) (c.loop-rest.number + 1) (lines_of c.loop-rest.rest.now) line behind
+          (one_taken (KeepsLine g.H.NodeHash.digest_of g.V.VufCheck.accepted g.S.Verifier.verified) (RefusesItem g.H.NodeHash.digest_of g.V.VufCheck.accepted g.S.Verifier.verified) (c.loop-rest.number + 1) (lines_of c.loop-rest.rest.now) line behind
           c.loop-rest.asker.client c.remember_line.new.asker.client result c.first_line.ensures.lines c.in_ok-remember_line.ensures.keeps rest);
       spells = λ result recalls. c.loop-rest.invariant.spells result (rw c.first_line.ensures.lines
           (recalls-taken (c.loop-rest.number + 1) line behind c.loop-rest.memory c.remember_line.new.memory result c.in_ok-remember_line.ensures.takes recalls));
@@ -31,8 +31,8 @@ loop-rest-preserved g c =
 
 pub returns-in_err-remember_line-clause-names : goal.returns-in_err-remember_line-clause-names
 returns-in_err-remember_line-clause-names g c =
-    let Keeps = KeepsLine g.H.NodeHash.digest_of g.S.Verifier.verified in
-    let Refuses = RefusesItem g.H.NodeHash.digest_of g.S.Verifier.verified in
+    let Keeps = KeepsLine g.H.NodeHash.digest_of g.V.VufCheck.accepted g.S.Verifier.verified in
+    let Refuses = RefusesItem g.H.NodeHash.digest_of g.V.VufCheck.accepted g.S.Verifier.verified in
     passed_on c.from_residual.result c.in_err-remember_line.field-0.0 (λ bad. (bad ≡ c.loop-rest.number + 1) × RefusesNext Refuses c.first_line.result.0.now c.loop-rest.asker.client)
     (λ bad. TakesLines Keeps Refuses 1 (lines_of c.args.text.now) c.args.asker.now.client (Err bad)) c.from_residual.ensures.1
     (λ bad here. c.loop-rest.invariant.keeps (Err bad) (one_refused Keeps Refuses (c.loop-rest.number + 1) (lines_of c.loop-rest.rest.now) c.first_line.result.0.now (lines_of c.first_line.result.1.now)
@@ -42,4 +42,4 @@ pub returns-clause-keeps : goal.returns-clause-keeps
 returns-clause-keeps g c =
     let none : length c.loop-rest.rest.now ≡ 0 = search rules in
     c.loop-rest.invariant.keeps (Ok c.loop-rest.asker.client)
-    (none_left (KeepsLine g.H.NodeHash.digest_of g.S.Verifier.verified) (RefusesItem g.H.NodeHash.digest_of g.S.Verifier.verified) (c.loop-rest.number + 1) c.loop-rest.rest.now c.loop-rest.asker.client none)
+    (none_left (KeepsLine g.H.NodeHash.digest_of g.V.VufCheck.accepted g.S.Verifier.verified) (RefusesItem g.H.NodeHash.digest_of g.V.VufCheck.accepted g.S.Verifier.verified) (c.loop-rest.number + 1) c.loop-rest.rest.now c.loop-rest.asker.client none)

@@ -15,8 +15,8 @@ abbrev pub invariant-loop-rest : goal.invariant-loop-rest
 invariant-loop-rest g l = record {
   same : IsSameAsker l.fn.asker l.asker;
   kept : StillKeeps l.fn.asker l.asker;
-  keeps : (result : Result Client ℕ) → KeepsLines g.H.NodeHash.digest_of g.S.Verifier.verified (l.number + 1) (lines_of l.rest) l.asker.client result
-      → KeepsLines g.H.NodeHash.digest_of g.S.Verifier.verified 1 (lines_of l.fn.text) l.fn.asker.client result;
+  keeps : (result : Result Client ℕ) → KeepsLines g.H.NodeHash.digest_of g.V.VufCheck.accepted g.S.Verifier.verified (l.number + 1) (lines_of l.rest) l.asker.client result
+      → KeepsLines g.H.NodeHash.digest_of g.V.VufCheck.accepted g.S.Verifier.verified 1 (lines_of l.fn.text) l.fn.asker.client result;
   spells : (result : Result Memory ReadFault) → Recalls (l.number + 1) (lines_of l.rest) l.memory result → Spells l.fn.text result;
   few : l.number + length l.rest ≤ length l.fn.text;
   own : OwnSoFar (lines_of l.fn.text) (lines_of l.rest) l.fn.asker.earlier.items l.asker.earlier.items;

@@ -14,6 +14,7 @@ loop-rest-preserved g c = record {
   few = omega (arith, c.first_line.ensures.less, c.loop-rest.invariant.few);
   earlier = c.take_line.ensures.earlier ∙ c.loop-rest.invariant.earlier;
   known = (c.take_line.ensures.known.0 ∙ c.loop-rest.invariant.known.0, c.take_line.ensures.known.1 ∙ c.loop-rest.invariant.known.1, c.take_line.ensures.known.2 ∙ c.loop-rest.invariant.known.2);
+  finals = c.take_line.ensures.finals ∙ c.loop-rest.invariant.finals;
 }
 
 pub returns-in_err-take_line-clause-names : goal.returns-in_err-take_line-clause-names

@@ -14,6 +14,7 @@ invariant-loop-rest g l = record {
   few : l.number + length l.rest ≤ length l.fn.behind + 1;
   earlier : l.asker.earlier ≡ l.fn.asker.earlier;
   known : (l.asker.known ≡ l.fn.asker.known) × (l.asker.marks ≡ l.fn.asker.marks) × (l.asker.changes ≡ l.fn.asker.changes);
+  finals : l.asker.finals ≡ l.fn.asker.finals;
 }
 
 abbrev pub decreases-loop-rest : goal.decreases-loop-rest

@@ -12,7 +12,7 @@ pub returns-in_ok-tell_client-in-Err-clause-begins : goal.returns-in_ok-tell_cli
 returns-in_ok-tell_client-in-Err-clause-begins g c =
     joins_not g.H.NodeHash.digest_of g.V.VufCheck.accepted g.S.Verifier.verified (ExchangesFrames g.T.Write.contents g.T.Read.remaining) c.args.self.now.key (own_for c.args.self.now.marks.items c.args.name.now c.args.self.now.earlier.items c.args.self.now.changes.items) c.args.name.now
     (option_map (λ key. key.now) c.args.key) c.args.self.now c.args.said.now c.args.stream.now c.args.first.now c.args.self.now.marks.items c.monitor_from.new.self c.tell_client.new.said c.in-Err.why
-    c.monitor_from.ensures.same.0 (ap (λ (all : Vec Monitor Global). all.items) c.monitor_from.ensures.same.1) c.in_ok-tell_client-in-Err.ensures.known (c.in-Err.ensures.refused c.in_ok-tell_client-in-Err.ensures.known) c.in_ok-tell_client-in-Err.ensures.told
+    c.monitor_from.ensures.same.0 (ap (λ (all : Vec Monitor Global). all.items) c.monitor_from.ensures.same.1) c.monitor_from.ensures.finals c.in_ok-tell_client-in-Err.ensures.known (c.in-Err.ensures.refused c.in_ok-tell_client-in-Err.ensures.known) c.in_ok-tell_client-in-Err.ensures.told
 
 pub returns-in_err-push-in-Ok-clause-halts : goal.returns-in_err-push-in-Ok-clause-halts
 returns-in_err-push-in-Ok-clause-halts g c =
@@ -36,5 +36,5 @@ returns-in_ok-push-in-Ok-clause-halts g c =
     let at : c.len-place.result ≡ length c.args.self.now.monitors.items = search rules in
     halts_stepping g.H.NodeHash.digest_of g.V.VufCheck.accepted g.S.Verifier.verified (ExchangesFrames g.T.Write.contents g.T.Read.remaining) c.args.self.now.key (own_for c.args.self.now.marks.items c.args.name.now c.args.self.now.earlier.items c.args.self.now.changes.items) c.args.name.now
     (option_map (λ key. key.now) c.args.key) c.args.self.now c.args.said.now c.args.stream.now c.args.first.now c.args.self.now.marks.items c.step_through.result
-    (record c.monitor_from.new.self { monitors = c.push.new.self }) c.step_through.new.self c.step_through.new.said c.in-Ok.monitor c.len-place.result c.monitor_from.ensures.same.0 added at
+    (record c.monitor_from.new.self { monitors = c.push.new.self }) c.step_through.new.self c.step_through.new.said c.in-Ok.monitor c.len-place.result c.monitor_from.ensures.same.0 c.monitor_from.ensures.finals added at
     c.in-Ok.ensures.begun c.step_through.ensures.halts

@@ -20,7 +20,7 @@ returns-clause-hears g c =
     c.args.self.now.changes.items c.go_on_from.new.self.changes.items (scene c.args.self.now c.args.said.now c.args.stream.now) (scene c.go_on_from.new.self c.go_on_from.new.said c.go_on_from.new.stream)))
     (same_frame c.args.reply.now.bytes.items (frame_seen c.in_ok-frame.frame) frame seen holds)
     (hears_all g.H.NodeHash.digest_of g.V.VufCheck.accepted g.S.Verifier.verified (ExchangesFrames g.T.Write.contents g.T.Read.remaining) c.go_on_from.result c.args.self.now c.answer.new.self c.go_on_from.new.self c.args.said.now c.answer.new.said c.go_on_from.new.said c.args.stream.now c.go_on_from.new.stream
-    (ask_seen c.args.ask.now) (frame_seen c.in_ok-frame.frame) c.args.reply.now.held c.in_ok-answer.ensures.hears.0 c.in_ok-answer.ensures.hears.1 c.in_ok-answer.ensures.hears.2 c.in_ok-answer.ensures.hears.3 c.in_ok-answer.ensures.hears.4
+    (ask_seen c.args.ask.now) (frame_seen c.in_ok-frame.frame) c.args.reply.now.held c.in_ok-answer.ensures.hears.0 c.in_ok-answer.ensures.hears.1 c.in_ok-answer.ensures.hears.2 c.in_ok-answer.ensures.hears.3 c.in_ok-answer.ensures.hears.4 c.in_ok-answer.ensures.hears.5 c.in_ok-answer.ensures.hears.6
     notes c.in_ok-answer.ensures.stays.2 c.go_on_from.ensures.goes)
 
 pub returns-clause-halts : goal.returns-clause-halts
@@ -32,7 +32,7 @@ returns-clause-halts g c =
     c.args.self.now.changes.items c.go_on_from.new.self.changes.items (scene c.args.self.now c.args.said.now c.args.stream.now)) fault c.go_on_from.new.self c.go_on_from.new.said))
     (same_frame c.args.reply.now.bytes.items (frame_seen c.in_ok-frame.frame) frame seen holds)
     (halts_going g.H.NodeHash.digest_of g.V.VufCheck.accepted g.S.Verifier.verified (ExchangesFrames g.T.Write.contents g.T.Read.remaining) (ask_seen c.args.ask.now) (frame_seen c.in_ok-frame.frame) c.args.reply.now.held c.args.self.now c.args.said.now c.args.stream.now c.go_on_from.result c.answer.new.self c.go_on_from.new.self
-    c.answer.new.said c.go_on_from.new.said c.in_ok-answer.ensures.hears.0 c.in_ok-answer.ensures.hears.1 c.in_ok-answer.ensures.hears.2 c.in_ok-answer.ensures.hears.3 c.in_ok-answer.ensures.hears.4
+    c.answer.new.said c.go_on_from.new.said c.in_ok-answer.ensures.hears.0 c.in_ok-answer.ensures.hears.1 c.in_ok-answer.ensures.hears.2 c.in_ok-answer.ensures.hears.3 c.in_ok-answer.ensures.hears.4 c.in_ok-answer.ensures.hears.5 c.in_ok-answer.ensures.hears.6
     notes c.in_ok-answer.ensures.stays.2 c.go_on_from.ensures.halts)
 
 pub returns-in_err-answer-clause-halts : goal.returns-in_err-answer-clause-halts

@@ -22,7 +22,7 @@ returns-clause-takes g c =
     let high : c.in-Some.from ≤ c.head-2.ensures.0.body.epoch = omega (arith, c.head-2.ensures.2) in
     takes_some g.H.NodeHash.digest_of g.S.Verifier.verified (ExchangesFrames g.T.Write.contents g.T.Read.remaining) c.args.self.now c.args.said.now c.args.stream.now
     c.head.ensures.0 c.in-Some.from (frame_seen c.in_ok-frame_in.field-0) c.request.new.stream c.take.new.self c.body_of.new.said c.take.new.said c.in-Some-2.list.now c.head.ensures.1 from
-    (c.in_ok-reply.ensures.sent (frame_seen c.in_ok-frame_in.field-0) (rw c.deref.ensures.value at c.in_ok-frame_in.ensures.ok)) gives c.in_ok-take.ensures.updates c.in_ok-take.ensures.said
+    (c.in_ok-reply.ensures.sent (frame_seen c.in_ok-frame_in.field-0) (rw c.deref.ensures.value at c.in_ok-frame_in.ensures.ok)) gives c.in_ok-take.ensures.updates c.in_ok-take.ensures.said c.in_ok-take.ensures.finals
     c.head-2.ensures.0 c.head-2.ensures.1 high
 
 pub returns-in_default-2-clause-stops : goal.returns-in_default-2-clause-stops
@@ -42,7 +42,7 @@ returns-in_err-take-clause-stops g c =
     let here : c.take.result ≡ Err Stopped = search (rules, sym passed ∙ stopped) in
     stops_refused g.H.NodeHash.digest_of g.S.Verifier.verified (ExchangesFrames g.T.Write.contents g.T.Read.remaining) c.args.self.now c.args.said.now c.args.stream.now
     c.head.ensures.0 c.in-Some.from (frame_seen c.in_ok-frame_in.field-0) c.request.new.stream c.take.new.self c.body_of.new.said c.take.new.said c.in-Some-2.list.now c.head.ensures.1 from
-    (c.in_ok-reply.ensures.sent (frame_seen c.in_ok-frame_in.field-0) (rw c.deref.ensures.value at c.in_ok-frame_in.ensures.ok)) gives (c.take.ensures.refused here)
+    (c.in_ok-reply.ensures.sent (frame_seen c.in_ok-frame_in.field-0) (rw c.deref.ensures.value at c.in_ok-frame_in.ensures.ok)) gives (c.take.ensures.refused here) c.take.ensures.finals
 
 pub returns-then-head-from-clause-stops : goal.returns-then-head-from-clause-stops
 returns-then-head-from-clause-stops g c =
@@ -53,4 +53,4 @@ returns-then-head-from-clause-stops g c =
     λ stopped. stops_other g.H.NodeHash.digest_of g.S.Verifier.verified (ExchangesFrames g.T.Write.contents g.T.Read.remaining) c.args.self.now c.args.said.now c.args.stream.now
     c.head.ensures.0 c.in-Some.from (frame_seen c.in_ok-frame_in.field-0) c.request.new.stream c.take.new.self c.body_of.new.said c.take.new.said c.tell_other.new.said c.in-Some-2.list.now c.head.ensures.1
     from (c.in_ok-reply.ensures.sent (frame_seen c.in_ok-frame_in.field-0) (rw c.deref.ensures.value at c.in_ok-frame_in.ensures.ok)) gives some c.in_ok-take.ensures.updates
-    c.head-2.ensures.0 c.head-2.ensures.1 low c.in_ok-take.ensures.said c.in_ok-tell_other.ensures.tells
+    c.head-2.ensures.0 c.head-2.ensures.1 low c.in_ok-take.ensures.said c.in_ok-take.ensures.finals c.in_ok-tell_other.ensures.tells

@@ -33,7 +33,7 @@ returns-clause-advances g c =
       scene after c.advance-advanced.new.said c.advance-advanced.new.stream,
       went,
       c.in_ok-settle.ensures.writes.0,
-      scene_of after.client after.client after.monitors.items after.monitors.items (report_of c.settle.new.self.said) (emptied c.advance-advanced.new.said.status) c.advance-advanced.new.stream refl refl c.in_ok-settle.ensures.writes.1,
+      scene_of after.client after.client after.monitors.items after.monitors.items after.finals after.finals (report_of c.settle.new.self.said) (emptied c.advance-advanced.new.said.status) c.advance-advanced.new.stream refl refl refl c.in_ok-settle.ensures.writes.1,
     )
 
 pub returns-clause-keeps : goal.returns-clause-keeps

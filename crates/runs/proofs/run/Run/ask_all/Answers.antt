@@ -42,7 +42,7 @@ returns-in-Some-clause-runs g c =
     c.ask_line-asked.result (background_of c.in_ok-asker.asker) (background_of c.prepare.new.asker) c.args.stream.now start ready last (g.R.Read.remaining c.args.reader.now) (g.W.Write.contents c.args.writer.now)
     (g.W.Write.contents c.prepare.new.writer) (g.W.Write.contents c.ask_line-asked.new.writer) (report_of c.args.self.now.said) (IsLimitOf (ask_values c.args.order) c.args.self.now.limit) (λ after last. c.ask_line-asked.new.self.limit.last ≡ Some last)
     (begins_run g.H.NodeHash.digest_of g.V.VufCheck.accepted g.S.Verifier.verified (ExchangesFrames g.T.Write.contents g.T.Read.remaining) c.args.keys.now.signing_key c.args.keys.now.token (c.args.self.now.state ≡ None) (background_of c.in_ok-asker.asker) c.args.stream.now start (report_of c.args.self.now.said)
-    c.in_ok-asker.ensures.said c.in_ok-asker.ensures.begins c.in_ok-asker.ensures.knows)
+    c.in_ok-asker.ensures.said c.in_ok-asker.ensures.begins c.in_ok-asker.ensures.knows c.in_ok-asker.ensures.finals)
     (writes_with g.H.NodeHash.digest_of g.V.VufCheck.accepted g.S.Verifier.verified (ExchangesFrames g.T.Write.contents g.T.Read.remaining) c.args.keys.now.signing_key c.args.keys.now.token (ask_values c.args.order)
     (c.begin.new.self.state ≡ None) (c.args.self.now.state ≡ None) c.begin.ensures.still.1 c.begin.ensures.still.0 (background_of c.in_ok-asker.asker) (scene c.in_ok-asker.asker c.begin.new.self.said c.begin.new.stream)
     (g.W.Write.contents c.args.writer.now) (g.W.Write.contents c.prepare.new.writer) (scene c.prepare.new.asker c.prepare.new.self.said c.prepare.new.stream) c.in_ok-prepare.ensures.prepares) c.in_ok-prepare.ensures.stays asks
@@ -62,7 +62,7 @@ returns-clause-runs g c =
     c.ask_lines-asked.result (background_of c.in_ok-asker.asker) (background_of c.prepare.new.asker) c.args.stream.now start ready last (g.R.Read.remaining c.args.reader.now) (g.W.Write.contents c.args.writer.now)
     (g.W.Write.contents c.prepare.new.writer) (g.W.Write.contents c.ask_lines-asked.new.writer) (report_of c.args.self.now.said) (IsLimitOf (ask_values c.args.order) c.args.self.now.limit) (λ after last. c.ask_lines-asked.new.self.limit.last ≡ Some last)
     (begins_run g.H.NodeHash.digest_of g.V.VufCheck.accepted g.S.Verifier.verified (ExchangesFrames g.T.Write.contents g.T.Read.remaining) c.args.keys.now.signing_key c.args.keys.now.token (c.args.self.now.state ≡ None) (background_of c.in_ok-asker.asker) c.args.stream.now start (report_of c.args.self.now.said)
-    c.in_ok-asker.ensures.said c.in_ok-asker.ensures.begins c.in_ok-asker.ensures.knows)
+    c.in_ok-asker.ensures.said c.in_ok-asker.ensures.begins c.in_ok-asker.ensures.knows c.in_ok-asker.ensures.finals)
     (writes_with g.H.NodeHash.digest_of g.V.VufCheck.accepted g.S.Verifier.verified (ExchangesFrames g.T.Write.contents g.T.Read.remaining) c.args.keys.now.signing_key c.args.keys.now.token (ask_values c.args.order)
     (c.begin.new.self.state ≡ None) (c.args.self.now.state ≡ None) c.begin.ensures.still.1 c.begin.ensures.still.0 (background_of c.in_ok-asker.asker) (scene c.in_ok-asker.asker c.begin.new.self.said c.begin.new.stream)
     (g.W.Write.contents c.args.writer.now) (g.W.Write.contents c.prepare.new.writer) (scene c.prepare.new.asker c.prepare.new.self.said c.prepare.new.stream) c.in_ok-prepare.ensures.prepares) c.in_ok-prepare.ensures.stays asks
@@ -81,6 +81,11 @@ returns-in_err-prepare-clause-faults g c =
     rw passed (stops_more {A = Unit {0}} IsFaultOfSaving
     (IsFaultWith (¬ (c.args.self.now.state ≡ None)) (AsksInput (ask_values c.args.order).words) (λ number. IfSome (lines_asked (ask_values c.args.order).words (g.R.Read.remaining c.args.reader.now)) (λ lines. IsFirstUnasked 1 lines number)))
     (Err c.in_err-prepare.field-0.0) (saving_with _ _ _) c.in_err-prepare.ensures.faults)
+
+pub returns-in_err-line-in-Some-clause-faults : goal.returns-in_err-line-in-Some-clause-faults
+returns-in_err-line-in-Some-clause-faults g c =
+    let passed : c.from_residual-in_err-line-in-Some.result ≡ Err (Program OutOfMemory) = search rules in
+    rw passed tt
 
 pub returns-in-Some-clause-faults : goal.returns-in-Some-clause-faults
 returns-in-Some-clause-faults g c =
@@ -116,7 +121,7 @@ returns-in_err-prepare-clause-part g c = λ none limited.
     let start = scene c.in_ok-asker.asker c.begin.new.self.said c.begin.new.stream in
     early_preparing g.H.NodeHash.digest_of g.V.VufCheck.accepted g.S.Verifier.verified (ExchangesFrames g.T.Write.contents g.T.Read.remaining) c.args.keys.now.signing_key c.args.keys.now.token (ask_values c.args.order) (c.args.self.now.state ≡ None) c.args.stream.now (g.R.Read.remaining c.args.reader.now) (g.W.Write.contents c.args.writer.now) (background_of c.in_ok-asker.asker) start (g.W.Write.contents c.prepare.new.writer) c.prepare.new.self.said
     (report_of c.args.self.now.said) (begins_run g.H.NodeHash.digest_of g.V.VufCheck.accepted g.S.Verifier.verified (ExchangesFrames g.T.Write.contents g.T.Read.remaining) c.args.keys.now.signing_key c.args.keys.now.token (c.args.self.now.state ≡ None) (background_of c.in_ok-asker.asker) c.args.stream.now start (report_of c.args.self.now.said)
-    c.in_ok-asker.ensures.said c.in_ok-asker.ensures.begins c.in_ok-asker.ensures.knows) (c.from_residual-in_err-prepare.result ≡ Err (Program CannotWrite)) (λ after last. c.prepare.new.self.limit.last ≡ Some last) (LoadsNone (c.args.self.now.state ≡ None) c.from_residual-in_err-prepare.result c.args.self.now.limit c.prepare.new.self.limit c.prepare.new.self.said.status)
+    c.in_ok-asker.ensures.said c.in_ok-asker.ensures.begins c.in_ok-asker.ensures.knows c.in_ok-asker.ensures.finals) (c.from_residual-in_err-prepare.result ≡ Err (Program CannotWrite)) (λ after last. c.prepare.new.self.limit.last ≡ Some last) (LoadsNone (c.args.self.now.state ≡ None) c.from_residual-in_err-prepare.result c.args.self.now.limit c.prepare.new.self.limit c.prepare.new.self.said.status)
     (let (reached, some, leaves) = c.in_err-prepare.ensures.part in (
       reached,
       some_prepares_with g.H.NodeHash.digest_of g.V.VufCheck.accepted g.S.Verifier.verified (ExchangesFrames g.T.Write.contents g.T.Read.remaining) c.args.keys.now.signing_key c.args.keys.now.token (ask_values c.args.order)
@@ -140,7 +145,7 @@ returns-in_err-line-in-Some-clause-part g c = λ none limited.
     let ready = scene c.prepare.new.asker c.prepare.new.self.said c.prepare.new.stream in
     early_asking g.H.NodeHash.digest_of g.V.VufCheck.accepted g.S.Verifier.verified (ExchangesFrames g.T.Write.contents g.T.Read.remaining) c.args.keys.now.signing_key c.args.keys.now.token (ask_values c.args.order) (c.args.self.now.state ≡ None) c.args.stream.now (g.R.Read.remaining c.args.reader.now) (g.W.Write.contents c.args.writer.now) (background_of c.in_ok-asker.asker) start (g.W.Write.contents c.prepare.new.writer) c.prepare.new.self.said
     (report_of c.args.self.now.said) (begins_run g.H.NodeHash.digest_of g.V.VufCheck.accepted g.S.Verifier.verified (ExchangesFrames g.T.Write.contents g.T.Read.remaining) c.args.keys.now.signing_key c.args.keys.now.token (c.args.self.now.state ≡ None) (background_of c.in_ok-asker.asker) c.args.stream.now start (report_of c.args.self.now.said)
-    c.in_ok-asker.ensures.said c.in_ok-asker.ensures.begins c.in_ok-asker.ensures.knows) (c.from_residual-in_err-line-in-Some.result ≡ Err (Program CannotWrite)) (λ after last. c.prepare.new.self.limit.last ≡ Some last) (LoadsNone (c.args.self.now.state ≡ None) c.from_residual-in_err-line-in-Some.result c.args.self.now.limit c.prepare.new.self.limit c.prepare.new.self.said.status) (background_of c.prepare.new.asker) ready (g.W.Write.contents c.prepare.new.writer) (writes_with g.H.NodeHash.digest_of g.V.VufCheck.accepted g.S.Verifier.verified (ExchangesFrames g.T.Write.contents g.T.Read.remaining) c.args.keys.now.signing_key c.args.keys.now.token (ask_values c.args.order)
+    c.in_ok-asker.ensures.said c.in_ok-asker.ensures.begins c.in_ok-asker.ensures.knows c.in_ok-asker.ensures.finals) (c.from_residual-in_err-line-in-Some.result ≡ Err (Program CannotWrite)) (λ after last. c.prepare.new.self.limit.last ≡ Some last) (LoadsNone (c.args.self.now.state ≡ None) c.from_residual-in_err-line-in-Some.result c.args.self.now.limit c.prepare.new.self.limit c.prepare.new.self.said.status) (background_of c.prepare.new.asker) ready (g.W.Write.contents c.prepare.new.writer) (writes_with g.H.NodeHash.digest_of g.V.VufCheck.accepted g.S.Verifier.verified (ExchangesFrames g.T.Write.contents g.T.Read.remaining) c.args.keys.now.signing_key c.args.keys.now.token (ask_values c.args.order)
     (c.begin.new.self.state ≡ None) (c.args.self.now.state ≡ None) c.begin.ensures.still.1 c.begin.ensures.still.0 (background_of c.in_ok-asker.asker) (scene c.in_ok-asker.asker c.begin.new.self.said c.begin.new.stream)
     (g.W.Write.contents c.args.writer.now) (g.W.Write.contents c.prepare.new.writer) (scene c.prepare.new.asker c.prepare.new.self.said c.prepare.new.stream) c.in_ok-prepare.ensures.prepares) c.in_ok-prepare.ensures.stays
     (asks_words {E = RunFault} (λ lines. (told : Report) × (next : Option (List ℕ)) × AsksPart g.H.NodeHash.digest_of g.V.VufCheck.accepted g.S.Verifier.verified (ExchangesFrames g.T.Write.contents g.T.Read.remaining) (background_of c.prepare.new.asker) lines ready told (g.W.Write.contents c.prepare.new.writer) next
@@ -161,7 +166,7 @@ returns-in-Some-clause-part g c =
     let noted = rw (c.deref.ensures.value, c.in_ok-line-in-Some.ensures) at c.ask_line-asked.ensures.noted c.in_ok-prepare.ensures.notes in
     early_asking g.H.NodeHash.digest_of g.V.VufCheck.accepted g.S.Verifier.verified (ExchangesFrames g.T.Write.contents g.T.Read.remaining) c.args.keys.now.signing_key c.args.keys.now.token (ask_values c.args.order) (c.args.self.now.state ≡ None) c.args.stream.now (g.R.Read.remaining c.args.reader.now) (g.W.Write.contents c.args.writer.now) (background_of c.in_ok-asker.asker) start (g.W.Write.contents c.ask_line-asked.new.writer) c.ask_line-asked.new.self.said
     (report_of c.args.self.now.said) (begins_run g.H.NodeHash.digest_of g.V.VufCheck.accepted g.S.Verifier.verified (ExchangesFrames g.T.Write.contents g.T.Read.remaining) c.args.keys.now.signing_key c.args.keys.now.token (c.args.self.now.state ≡ None) (background_of c.in_ok-asker.asker) c.args.stream.now start (report_of c.args.self.now.said)
-    c.in_ok-asker.ensures.said c.in_ok-asker.ensures.begins c.in_ok-asker.ensures.knows) (c.ask_line-asked.result ≡ Err (Program CannotWrite)) (λ after last. c.ask_line-asked.new.self.limit.last ≡ Some last) (LoadsNone (c.args.self.now.state ≡ None) c.ask_line-asked.result c.args.self.now.limit c.ask_line-asked.new.self.limit c.ask_line-asked.new.self.said.status) (background_of c.prepare.new.asker) ready (g.W.Write.contents c.prepare.new.writer) (writes_with g.H.NodeHash.digest_of g.V.VufCheck.accepted g.S.Verifier.verified (ExchangesFrames g.T.Write.contents g.T.Read.remaining) c.args.keys.now.signing_key c.args.keys.now.token (ask_values c.args.order)
+    c.in_ok-asker.ensures.said c.in_ok-asker.ensures.begins c.in_ok-asker.ensures.knows c.in_ok-asker.ensures.finals) (c.ask_line-asked.result ≡ Err (Program CannotWrite)) (λ after last. c.ask_line-asked.new.self.limit.last ≡ Some last) (LoadsNone (c.args.self.now.state ≡ None) c.ask_line-asked.result c.args.self.now.limit c.ask_line-asked.new.self.limit c.ask_line-asked.new.self.said.status) (background_of c.prepare.new.asker) ready (g.W.Write.contents c.prepare.new.writer) (writes_with g.H.NodeHash.digest_of g.V.VufCheck.accepted g.S.Verifier.verified (ExchangesFrames g.T.Write.contents g.T.Read.remaining) c.args.keys.now.signing_key c.args.keys.now.token (ask_values c.args.order)
     (c.begin.new.self.state ≡ None) (c.args.self.now.state ≡ None) c.begin.ensures.still.1 c.begin.ensures.still.0 (background_of c.in_ok-asker.asker) (scene c.in_ok-asker.asker c.begin.new.self.said c.begin.new.stream)
     (g.W.Write.contents c.args.writer.now) (g.W.Write.contents c.prepare.new.writer) (scene c.prepare.new.asker c.prepare.new.self.said c.prepare.new.stream) c.in_ok-prepare.ensures.prepares) c.in_ok-prepare.ensures.stays
     (asks_words {E = RunFault} (λ lines. (told : Report) × (next : Option (List ℕ)) × AsksPart g.H.NodeHash.digest_of g.V.VufCheck.accepted g.S.Verifier.verified (ExchangesFrames g.T.Write.contents g.T.Read.remaining) (background_of c.prepare.new.asker) lines ready told (g.W.Write.contents c.prepare.new.writer) next
@@ -180,7 +185,7 @@ returns-clause-part g c =
     let ready = scene c.prepare.new.asker c.prepare.new.self.said c.prepare.new.stream in
     early_asking g.H.NodeHash.digest_of g.V.VufCheck.accepted g.S.Verifier.verified (ExchangesFrames g.T.Write.contents g.T.Read.remaining) c.args.keys.now.signing_key c.args.keys.now.token (ask_values c.args.order) (c.args.self.now.state ≡ None) c.args.stream.now (g.R.Read.remaining c.args.reader.now) (g.W.Write.contents c.args.writer.now) (background_of c.in_ok-asker.asker) start (g.W.Write.contents c.ask_lines-asked.new.writer) c.ask_lines-asked.new.self.said
     (report_of c.args.self.now.said) (begins_run g.H.NodeHash.digest_of g.V.VufCheck.accepted g.S.Verifier.verified (ExchangesFrames g.T.Write.contents g.T.Read.remaining) c.args.keys.now.signing_key c.args.keys.now.token (c.args.self.now.state ≡ None) (background_of c.in_ok-asker.asker) c.args.stream.now start (report_of c.args.self.now.said)
-    c.in_ok-asker.ensures.said c.in_ok-asker.ensures.begins c.in_ok-asker.ensures.knows) (c.ask_lines-asked.result ≡ Err (Program CannotWrite)) (λ after last. c.ask_lines-asked.new.self.limit.last ≡ Some last) (LoadsNone (c.args.self.now.state ≡ None) c.ask_lines-asked.result c.args.self.now.limit c.ask_lines-asked.new.self.limit c.ask_lines-asked.new.self.said.status) (background_of c.prepare.new.asker) ready (g.W.Write.contents c.prepare.new.writer) (writes_with g.H.NodeHash.digest_of g.V.VufCheck.accepted g.S.Verifier.verified (ExchangesFrames g.T.Write.contents g.T.Read.remaining) c.args.keys.now.signing_key c.args.keys.now.token (ask_values c.args.order)
+    c.in_ok-asker.ensures.said c.in_ok-asker.ensures.begins c.in_ok-asker.ensures.knows c.in_ok-asker.ensures.finals) (c.ask_lines-asked.result ≡ Err (Program CannotWrite)) (λ after last. c.ask_lines-asked.new.self.limit.last ≡ Some last) (LoadsNone (c.args.self.now.state ≡ None) c.ask_lines-asked.result c.args.self.now.limit c.ask_lines-asked.new.self.limit c.ask_lines-asked.new.self.said.status) (background_of c.prepare.new.asker) ready (g.W.Write.contents c.prepare.new.writer) (writes_with g.H.NodeHash.digest_of g.V.VufCheck.accepted g.S.Verifier.verified (ExchangesFrames g.T.Write.contents g.T.Read.remaining) c.args.keys.now.signing_key c.args.keys.now.token (ask_values c.args.order)
     (c.begin.new.self.state ≡ None) (c.args.self.now.state ≡ None) c.begin.ensures.still.1 c.begin.ensures.still.0 (background_of c.in_ok-asker.asker) (scene c.in_ok-asker.asker c.begin.new.self.said c.begin.new.stream)
     (g.W.Write.contents c.args.writer.now) (g.W.Write.contents c.prepare.new.writer) (scene c.prepare.new.asker c.prepare.new.self.said c.prepare.new.stream) c.in_ok-prepare.ensures.prepares) c.in_ok-prepare.ensures.stays
     (asks_input {E = RunFault} (λ lines. (told : Report) × (next : Option (List ℕ)) × AsksPart g.H.NodeHash.digest_of g.V.VufCheck.accepted g.S.Verifier.verified (ExchangesFrames g.T.Write.contents g.T.Read.remaining) (background_of c.prepare.new.asker) lines ready told (g.W.Write.contents c.prepare.new.writer) next
@@ -280,7 +285,7 @@ returns-in-Some-clause-marks g c =
     (background_of asker) (background_of c.prepare.new.asker) c.args.stream.now start ready last (g.R.Read.remaining c.args.reader.now) (g.W.Write.contents c.args.writer.now)
     (g.W.Write.contents c.prepare.new.writer) (g.W.Write.contents c.ask_line-asked.new.writer) old happened' c.ask_line-asked.new.self.state found
     (begins_run g.H.NodeHash.digest_of g.V.VufCheck.accepted g.S.Verifier.verified (ExchangesFrames g.T.Write.contents g.T.Read.remaining) c.args.keys.now.signing_key c.args.keys.now.token (c.args.self.now.state ≡ None) (background_of asker) c.args.stream.now start (report_of c.args.self.now.said)
-    c.in_ok-asker.ensures.said c.in_ok-asker.ensures.begins c.in_ok-asker.ensures.knows none)
+    c.in_ok-asker.ensures.said c.in_ok-asker.ensures.begins c.in_ok-asker.ensures.knows c.in_ok-asker.ensures.finals none)
     (writes_with g.H.NodeHash.digest_of g.V.VufCheck.accepted g.S.Verifier.verified (ExchangesFrames g.T.Write.contents g.T.Read.remaining) c.args.keys.now.signing_key c.args.keys.now.token (ask_values c.args.order)
     (c.begin.new.self.state ≡ None) (c.args.self.now.state ≡ None) c.begin.ensures.still.1 c.begin.ensures.still.0 (background_of asker) start
     (g.W.Write.contents c.args.writer.now) (g.W.Write.contents c.prepare.new.writer) ready c.in_ok-prepare.ensures.prepares) c.in_ok-prepare.ensures.stays all
@@ -313,7 +318,7 @@ returns-clause-marks g c =
     (background_of asker) (background_of c.prepare.new.asker) c.args.stream.now start ready last (g.R.Read.remaining c.args.reader.now) (g.W.Write.contents c.args.writer.now)
     (g.W.Write.contents c.prepare.new.writer) (g.W.Write.contents c.ask_lines-asked.new.writer) old happened' c.ask_lines-asked.new.self.state found
     (begins_run g.H.NodeHash.digest_of g.V.VufCheck.accepted g.S.Verifier.verified (ExchangesFrames g.T.Write.contents g.T.Read.remaining) c.args.keys.now.signing_key c.args.keys.now.token (c.args.self.now.state ≡ None) (background_of asker) c.args.stream.now start (report_of c.args.self.now.said)
-    c.in_ok-asker.ensures.said c.in_ok-asker.ensures.begins c.in_ok-asker.ensures.knows none)
+    c.in_ok-asker.ensures.said c.in_ok-asker.ensures.begins c.in_ok-asker.ensures.knows c.in_ok-asker.ensures.finals none)
     (writes_with g.H.NodeHash.digest_of g.V.VufCheck.accepted g.S.Verifier.verified (ExchangesFrames g.T.Write.contents g.T.Read.remaining) c.args.keys.now.signing_key c.args.keys.now.token (ask_values c.args.order)
     (c.begin.new.self.state ≡ None) (c.args.self.now.state ≡ None) c.begin.ensures.still.1 c.begin.ensures.still.0 (background_of asker) start
     (g.W.Write.contents c.args.writer.now) (g.W.Write.contents c.prepare.new.writer) ready c.in_ok-prepare.ensures.prepares) c.in_ok-prepare.ensures.stays all

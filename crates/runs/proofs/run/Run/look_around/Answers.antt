@@ -17,7 +17,7 @@ returns-clause-looks g c =
     let (told, hears, tells) = c.in_ok-hear_head.ensures.finds frame holds in
     ok_then c.test_promises.result c.test_promises.ensures.tests (λ tests. (
       middle,
-      record { told = told; hears = hears; tells = tells; same = (c.in_ok-hear_head.ensures.monitors, refl) },
+      record { told = told; hears = hears; tells = tells; same = (c.in_ok-hear_head.ensures.monitors, refl, c.in_ok-hear_head.ensures.finals) },
       subst (λ (all : Vec Mark Global). TestsAll g.H.NodeHash.digest_of g.V.VufCheck.accepted (ExchangesFrames g.T.Write.contents g.T.Read.remaining) all.items middle (scene c.test_promises.new.self c.test_promises.new.said c.test_promises.new.stream)) c.in_ok-hear_head.ensures.stays.2 tests,
     ))
 
@@ -28,7 +28,7 @@ returns-clause-reaches g c =
     looked_reaches g.H.NodeHash.digest_of g.V.VufCheck.accepted g.S.Verifier.verified (ExchangesFrames g.T.Write.contents g.T.Read.remaining) (background_of c.args.asker.now) c.args.reply.now.held frame c.hear_head.new.self.marks.items c.test_promises.result
     (scene c.args.asker.now c.args.self.now.said c.args.stream.now) (scene c.hear_head.new.self c.hear_head.new.said c.args.stream.now)
     (scene c.test_promises.new.self c.test_promises.new.said c.test_promises.new.stream) c.test_promises.new.self c.test_promises.new.said refl
-    (ap (λ (all : Vec Mark Global). all.items) c.in_ok-hear_head.ensures.stays.2) (record { told = told; hears = hears; tells = tells; same = (c.in_ok-hear_head.ensures.monitors, refl) })
+    (ap (λ (all : Vec Mark Global). all.items) c.in_ok-hear_head.ensures.stays.2) (record { told = told; hears = hears; tells = tells; same = (c.in_ok-hear_head.ensures.monitors, refl, c.in_ok-hear_head.ensures.finals) })
     c.test_promises.ensures.tests c.test_promises.ensures.halts
 
 pub returns-in_err-hear_head-clause-reaches : goal.returns-in_err-hear_head-clause-reaches
@@ -41,7 +41,7 @@ returns-clause-stands g c =
     looked_stands g.H.NodeHash.digest_of g.V.VufCheck.accepted g.S.Verifier.verified (ExchangesFrames g.T.Write.contents g.T.Read.remaining) (background_of c.args.asker.now) c.args.reply.now.held frame c.hear_head.new.self.marks.items c.test_promises.result
     (scene c.args.asker.now c.args.self.now.said c.args.stream.now) (scene c.hear_head.new.self c.hear_head.new.said c.args.stream.now)
     c.test_promises.new.self c.test_promises.new.said c.test_promises.new.stream
-    (ap (λ (all : Vec Mark Global). all.items) c.in_ok-hear_head.ensures.stays.2) (record { told = told; hears = hears; tells = tells; same = (c.in_ok-hear_head.ensures.monitors, refl) })
+    (ap (λ (all : Vec Mark Global). all.items) c.in_ok-hear_head.ensures.stays.2) (record { told = told; hears = hears; tells = tells; same = (c.in_ok-hear_head.ensures.monitors, refl, c.in_ok-hear_head.ensures.finals) })
     c.test_promises.ensures.tests c.test_promises.ensures.err c.test_promises.ensures.halts enough
 
 pub returns-in_err-hear_head-clause-stands : goal.returns-in_err-hear_head-clause-stands

@@ -9,7 +9,7 @@ use Rattle.runs.proofs.run.Run.save.Goals as goal
 pub returns-in-Some-clause-saves : goal.returns-in-Some-clause-saves
 returns-in-Some-clause-saves g c =
     let was : c.args.self.now.state ≡ Some c.in-Some.state.now = search rules in
-    rw was (saved (c.args.asked.now ≢ Err NoMemory) c.save.result c.args.asker.now c.args.told.now c.in-Some.state.now c.save.new.self c.save.ensures.learns c.save.ensures.looked c.save.ensures.changes)
+    rw was (saved (c.args.asked.now ≢ Err NoMemory) c.save.result c.args.asker.now c.args.told.now c.in-Some.state.now c.save.new.self c.save.ensures.learns c.save.ensures.looked c.save.ensures.changes c.save.ensures.finals)
 
 pub returns-in-Some-clause-kept : goal.returns-in-Some-clause-kept
 returns-in-Some-clause-kept g c =

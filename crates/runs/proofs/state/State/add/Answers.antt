@@ -7,7 +7,7 @@ use Rattle.memory.proofs.Learned.{text_grows}
 use Rattle.monitor.specs.Monitors.{Monitor}
 use Rattle.runs.specs.Saves.{Act}
 use Rattle.runs.specs.Standing.{standing}
-use Rattle.runs.proofs.Adding.{begun-among, learns-stay}
+use Rattle.runs.proofs.Adding.{begun-among, kept-stay}
 use Rattle.runs.proofs.AskedOwn.{asked-formed, begun-promises, changes-add, changes-asked, late-stays, lines-promises, some-begun-promises, some-lines-promises}
 use Rattle.runs.proofs.Earlier.{ok_so}
 use Rattle.runs.proofs.Keeping.{learned_before}
@@ -19,22 +19,23 @@ use Rattle.runs.proofs.state.State.add.Goals as goal
 pub returns-clause-learns : goal.returns-clause-learns
 returns-clause-learns g c =
     let (shown, shows, grown) = c.in_ok-learn_told.ensures.ok in
-    let (promised, learns, longer) = c.in_ok-learn_promises.ensures.learns in
+    let (promised, learns, longer) = c.in_ok-learn_kept.ensures.learns in
     let (marked, marks, longest) = c.in_ok-mark_begun.ensures.ok in
     let (memory, changes, head, known, was) = c.hand_roots.ensures.same in
-    let (epoch', head', known', was') = c.learn_promises.ensures.same in
+    let (epoch', head', known', was') = c.learn_kept.ensures.same in
     let all = c.args.asker.now.monitors.items in
     let own = ap (λ (count : ℕ). drop count c.args.asker.now.changes.items) changes in
-    let begun = c.behind-begun.ensures ∙ ap (λ (ms : List Monitor). drop c.learn_promises.new.self.monitors ms) c.deref.ensures.value ∙ ap (λ (count : ℕ). drop count all) (known' ∙ known) in
+    let seen = ap (λ (count : ℕ). drop count c.args.asker.now.finals.seen) c.hand_roots.ensures.finals in
+    let begun = c.behind-begun.ensures ∙ ap (λ (ms : List Monitor). drop c.learn_kept.new.self.monitors ms) c.deref.ensures.value ∙ ap (λ (count : ℕ). drop count all) (known' ∙ known) in
     ok_so c.hand_on.result (learned_before (drop c.args.self.now.changes c.args.asker.now.changes.items) (drop c.hand_roots.new.self.changes c.args.asker.now.changes.items)
-    c.args.asker.now.client.promises c.args.told.now (drop c.args.self.now.monitors all) c.behind-begun.result.now
-    c.args.self.now.memory c.learn_told.new.self c.hand_roots.new.self.memory c.learn_promises.new.self.memory c.mark_begun.new.self c.hand_on.new.self.memory shown promised marked
-    shows memory own learns begun marks c.hand_on.ensures.same.0)
+    c.args.asker.now.client.promises (drop c.args.self.now.finals c.args.asker.now.finals.seen) (drop c.hand_roots.new.self.finals c.args.asker.now.finals.seen) c.args.told.now (drop c.args.self.now.monitors all) c.behind-begun.result.now
+    c.args.self.now.memory c.learn_told.new.self c.hand_roots.new.self.memory c.learn_kept.new.self.memory c.mark_begun.new.self c.hand_on.new.self.memory shown promised marked
+    shows memory own seen learns begun marks c.hand_on.ensures.same.0)
 
 pub returns-clause-looked : goal.returns-clause-looked
 returns-clause-looked g c =
     let (memory, changes, head, known, was) = c.hand_roots.ensures.same in
-    let (epoch', head', known', was') = c.learn_promises.ensures.same in
+    let (epoch', head', known', was') = c.learn_kept.ensures.same in
     let (last, epoch'', changes'', head'', known'', was'') = c.hand_on.ensures.same in
     (head'' ∙ head' ∙ head, known'' ∙ known' ∙ known, was'' ∙ was' ∙ was)
 
@@ -64,8 +65,8 @@ returns-in_err-hand_roots-clause-kept g c = λ lines key start old acts (asked, 
     (kept-roots g.H.NodeHash.digest_of g.V.VufCheck.accepted g.S.Verifier.verified lines key start old before c.args.self.now.epoch c.learn_told.new.self evidence out first after c.hand_roots.new.self.epoch c.args.asker.now.client.chain.roots c.hand_roots.ensures.rises (λ done has. c.hand_roots.ensures.hands (done ++ acts) has)) in
     (evidence, rooted)
 
-pub returns-in_err-learn_promises-clause-kept : goal.returns-in_err-learn_promises-clause-kept
-returns-in_err-learn_promises-clause-kept g c = λ lines key start old acts (asked, late) kept.
+pub returns-in_err-learn_kept-clause-kept : goal.returns-in_err-learn_kept-clause-kept
+returns-in_err-learn_kept-clause-kept g c = λ lines key start old acts (asked, late) kept.
     let known = c.args.self.now.memory in
     let out = g.W.Write.contents c.args.writer.now in
     let before : List Act → Type 0 = λ done. g.K.Keeper.has c.args.keeper.now (done ++ acts) in
@@ -79,11 +80,11 @@ returns-in_err-learn_promises-clause-kept g c = λ lines key start old acts (ask
     let formed = asked-formed lines start.known c.args.asker.now.changes.items asked in
     let new = late-stays known c.hand_roots.new.self.memory c.args.asker.now.changes.items c.args.self.now.changes c.hand_roots.new.self.changes
     (ap (λ (m : Memory). m.marks) c.hand_roots.ensures.same.0 ∙ lines-stay EvidenceLines (lines_of c.args.told.now) known c.learn_told.new.self shown shows) c.hand_roots.ensures.same.1 late in
-    let (promises, taken') = c.in_err-learn_promises.ensures.taken formed in (
+    let (promises, taken') = c.in_err-learn_kept.ensures.taken formed in (
       evidence ++ promises,
-      kept-so g.H.NodeHash.digest_of g.V.VufCheck.accepted g.S.Verifier.verified lines key start old after c.hand_roots.new.self.epoch c.learn_promises.new.self.epoch c.learn_promises.new.self.memory c.learn_promises.new.self.memory (evidence ++ promises) out c.learn_promises.ensures.same.0 refl
-          (kept-known g.H.NodeHash.digest_of g.V.VufCheck.accepted g.S.Verifier.verified lines key start old after c.hand_roots.new.self.epoch c.hand_roots.new.self.memory evidence out rooted c.learn_promises.new.self.memory promises taken' c.in_err-learn_promises.ensures.some
-          (changes-asked lines start.known c.args.asker.now.changes.items c.hand_roots.new.self.changes c.hand_roots.new.self.memory c.learn_promises.new.self.memory asked new c.learn_promises.ensures.own)),
+      kept-so g.H.NodeHash.digest_of g.V.VufCheck.accepted g.S.Verifier.verified lines key start old after c.hand_roots.new.self.epoch c.learn_kept.new.self.epoch c.learn_kept.new.self.memory c.learn_kept.new.self.memory (evidence ++ promises) out c.learn_kept.ensures.same.0 refl
+          (kept-known g.H.NodeHash.digest_of g.V.VufCheck.accepted g.S.Verifier.verified lines key start old after c.hand_roots.new.self.epoch c.hand_roots.new.self.memory evidence out rooted c.learn_kept.new.self.memory promises taken' c.in_err-learn_kept.ensures.some
+          (changes-asked lines start.known c.args.asker.now.changes.items c.hand_roots.new.self.changes c.hand_roots.new.self.memory c.learn_kept.new.self.memory asked new c.learn_kept.ensures.own)),
     )
 
 pub returns-in_err-mark_begun-clause-kept : goal.returns-in_err-mark_begun-clause-kept
@@ -101,16 +102,16 @@ returns-in_err-mark_begun-clause-kept g c = λ lines key start old acts (asked, 
     let formed = asked-formed lines start.known c.args.asker.now.changes.items asked in
     let new = late-stays known c.hand_roots.new.self.memory c.args.asker.now.changes.items c.args.self.now.changes c.hand_roots.new.self.changes
     (ap (λ (m : Memory). m.marks) c.hand_roots.ensures.same.0 ∙ lines-stay EvidenceLines (lines_of c.args.told.now) known c.learn_told.new.self shown shows) c.hand_roots.ensures.same.1 late in
-    let (promised, learns, longer) = c.in_ok-learn_promises.ensures.learns in
-    let (promises, taken', more-lines) = c.in_ok-learn_promises.ensures.takes formed in
-    let stays = learns-stay (drop c.hand_roots.new.self.changes c.args.asker.now.changes.items) c.args.asker.now.client.promises c.hand_roots.new.self.memory c.learn_promises.new.self.memory promised learns in
-    let told = kept-so g.H.NodeHash.digest_of g.V.VufCheck.accepted g.S.Verifier.verified lines key start old after c.hand_roots.new.self.epoch c.learn_promises.new.self.epoch c.learn_promises.new.self.memory c.learn_promises.new.self.memory (evidence ++ promises) out c.learn_promises.ensures.same.0 refl
-    (kept-known g.H.NodeHash.digest_of g.V.VufCheck.accepted g.S.Verifier.verified lines key start old after c.hand_roots.new.self.epoch c.hand_roots.new.self.memory evidence out rooted c.learn_promises.new.self.memory promises taken' (same-marks c.hand_roots.new.self.memory c.learn_promises.new.self.memory stays)
-    (changes-asked lines start.known c.args.asker.now.changes.items c.hand_roots.new.self.changes c.hand_roots.new.self.memory c.learn_promises.new.self.memory asked new c.learn_promises.ensures.own)) in
+    let (promised, learns, longer) = c.in_ok-learn_kept.ensures.learns in
+    let (promises, taken', more-lines) = c.in_ok-learn_kept.ensures.takes formed in
+    let stays = kept-stay (drop c.hand_roots.new.self.changes c.args.asker.now.changes.items) c.args.asker.now.client.promises (drop c.hand_roots.new.self.finals c.args.asker.now.finals.seen) c.hand_roots.new.self.memory c.learn_kept.new.self.memory promised learns in
+    let told = kept-so g.H.NodeHash.digest_of g.V.VufCheck.accepted g.S.Verifier.verified lines key start old after c.hand_roots.new.self.epoch c.learn_kept.new.self.epoch c.learn_kept.new.self.memory c.learn_kept.new.self.memory (evidence ++ promises) out c.learn_kept.ensures.same.0 refl
+    (kept-known g.H.NodeHash.digest_of g.V.VufCheck.accepted g.S.Verifier.verified lines key start old after c.hand_roots.new.self.epoch c.hand_roots.new.self.memory evidence out rooted c.learn_kept.new.self.memory promises taken' (same-marks c.hand_roots.new.self.memory c.learn_kept.new.self.memory stays)
+    (changes-asked lines start.known c.args.asker.now.changes.items c.hand_roots.new.self.changes c.hand_roots.new.self.memory c.learn_kept.new.self.memory asked new c.learn_kept.ensures.own)) in
     let (begins, begun') = c.in_err-mark_begun.ensures.some in (
       evidence ++ promises ++ begins,
-      kept-known g.H.NodeHash.digest_of g.V.VufCheck.accepted g.S.Verifier.verified lines key start old after c.learn_promises.new.self.epoch c.learn_promises.new.self.memory (evidence ++ promises) out told c.mark_begun.new.self begins begun' (some-monitors-marks c.behind-begun.result.now c.learn_promises.new.self.memory c.mark_begun.new.self c.in_err-mark_begun.ensures.err)
-          (unchanged-own lines start.known c.learn_promises.new.self.memory c.mark_begun.new.self (some-begun-promises c.behind-begun.result.now c.learn_promises.new.self.memory c.mark_begun.new.self c.in_err-mark_begun.ensures.err)),
+      kept-known g.H.NodeHash.digest_of g.V.VufCheck.accepted g.S.Verifier.verified lines key start old after c.learn_kept.new.self.epoch c.learn_kept.new.self.memory (evidence ++ promises) out told c.mark_begun.new.self begins begun' (some-monitors-marks c.behind-begun.result.now c.learn_kept.new.self.memory c.mark_begun.new.self c.in_err-mark_begun.ensures.err)
+          (unchanged-own lines start.known c.learn_kept.new.self.memory c.mark_begun.new.self (some-begun-promises c.behind-begun.result.now c.learn_kept.new.self.memory c.mark_begun.new.self c.in_err-mark_begun.ensures.err)),
     )
 
 pub returns-clause-kept : goal.returns-clause-kept
@@ -128,21 +129,21 @@ returns-clause-kept g c = λ lines key start old acts (asked, late) kept.
     let formed = asked-formed lines start.known c.args.asker.now.changes.items asked in
     let new = late-stays known c.hand_roots.new.self.memory c.args.asker.now.changes.items c.args.self.now.changes c.hand_roots.new.self.changes
     (ap (λ (m : Memory). m.marks) c.hand_roots.ensures.same.0 ∙ lines-stay EvidenceLines (lines_of c.args.told.now) known c.learn_told.new.self shown shows) c.hand_roots.ensures.same.1 late in
-    let (promised, learns, longer) = c.in_ok-learn_promises.ensures.learns in
-    let (promises, taken', more-lines) = c.in_ok-learn_promises.ensures.takes formed in
-    let stays = learns-stay (drop c.hand_roots.new.self.changes c.args.asker.now.changes.items) c.args.asker.now.client.promises c.hand_roots.new.self.memory c.learn_promises.new.self.memory promised learns in
-    let told = kept-so g.H.NodeHash.digest_of g.V.VufCheck.accepted g.S.Verifier.verified lines key start old after c.hand_roots.new.self.epoch c.learn_promises.new.self.epoch c.learn_promises.new.self.memory c.learn_promises.new.self.memory (evidence ++ promises) out c.learn_promises.ensures.same.0 refl
-    (kept-known g.H.NodeHash.digest_of g.V.VufCheck.accepted g.S.Verifier.verified lines key start old after c.hand_roots.new.self.epoch c.hand_roots.new.self.memory evidence out rooted c.learn_promises.new.self.memory promises taken' (same-marks c.hand_roots.new.self.memory c.learn_promises.new.self.memory stays)
-    (changes-asked lines start.known c.args.asker.now.changes.items c.hand_roots.new.self.changes c.hand_roots.new.self.memory c.learn_promises.new.self.memory asked new c.learn_promises.ensures.own)) in
+    let (promised, learns, longer) = c.in_ok-learn_kept.ensures.learns in
+    let (promises, taken', more-lines) = c.in_ok-learn_kept.ensures.takes formed in
+    let stays = kept-stay (drop c.hand_roots.new.self.changes c.args.asker.now.changes.items) c.args.asker.now.client.promises (drop c.hand_roots.new.self.finals c.args.asker.now.finals.seen) c.hand_roots.new.self.memory c.learn_kept.new.self.memory promised learns in
+    let told = kept-so g.H.NodeHash.digest_of g.V.VufCheck.accepted g.S.Verifier.verified lines key start old after c.hand_roots.new.self.epoch c.learn_kept.new.self.epoch c.learn_kept.new.self.memory c.learn_kept.new.self.memory (evidence ++ promises) out c.learn_kept.ensures.same.0 refl
+    (kept-known g.H.NodeHash.digest_of g.V.VufCheck.accepted g.S.Verifier.verified lines key start old after c.hand_roots.new.self.epoch c.hand_roots.new.self.memory evidence out rooted c.learn_kept.new.self.memory promises taken' (same-marks c.hand_roots.new.self.memory c.learn_kept.new.self.memory stays)
+    (changes-asked lines start.known c.args.asker.now.changes.items c.hand_roots.new.self.changes c.hand_roots.new.self.memory c.learn_kept.new.self.memory asked new c.learn_kept.ensures.own)) in
     let (marked, marks, longest) = c.in_ok-mark_begun.ensures.ok in
     let (begins, begun', last-lines) = c.in_ok-mark_begun.ensures.takes in
-    let begun = kept-known g.H.NodeHash.digest_of g.V.VufCheck.accepted g.S.Verifier.verified lines key start old after c.learn_promises.new.self.epoch c.learn_promises.new.self.memory (evidence ++ promises) out told c.mark_begun.new.self begins begun'
-    (begun-marks c.behind-begun.result.now c.learn_promises.new.self.memory c.mark_begun.new.self (monitors-put c.behind-begun.result.now c.learn_promises.new.self.memory c.mark_begun.new.self marked marks))
-    (unchanged-own lines start.known c.learn_promises.new.self.memory c.mark_begun.new.self (begun-promises c.behind-begun.result.now c.learn_promises.new.self.memory c.mark_begun.new.self marked marks)) in
-    let whole = c.deref-2.ensures.value ∙ text_grows [] c.learn_promises.new.lines.items c.mark_begun.new.lines.items (evidence ++ promises) begins
-    (text_grows [] c.learn_told.new.lines.items c.learn_promises.new.lines.items evidence promises (first-lines ∙ ap (λ (t : List ℕ). t ++ items_text evidence) c.new-lines.ensures.items) more-lines) last-lines in (
+    let begun = kept-known g.H.NodeHash.digest_of g.V.VufCheck.accepted g.S.Verifier.verified lines key start old after c.learn_kept.new.self.epoch c.learn_kept.new.self.memory (evidence ++ promises) out told c.mark_begun.new.self begins begun'
+    (begun-marks c.behind-begun.result.now c.learn_kept.new.self.memory c.mark_begun.new.self (monitors-put c.behind-begun.result.now c.learn_kept.new.self.memory c.mark_begun.new.self marked marks))
+    (unchanged-own lines start.known c.learn_kept.new.self.memory c.mark_begun.new.self (begun-promises c.behind-begun.result.now c.learn_kept.new.self.memory c.mark_begun.new.self marked marks)) in
+    let whole = c.deref-2.ensures.value ∙ text_grows [] c.learn_kept.new.lines.items c.mark_begun.new.lines.items (evidence ++ promises) begins
+    (text_grows [] c.learn_told.new.lines.items c.learn_kept.new.lines.items evidence promises (first-lines ∙ ap (λ (t : List ℕ). t ++ items_text evidence) c.new-lines.ensures.items) more-lines) last-lines in (
       [],
-      kept-on g.H.NodeHash.digest_of g.V.VufCheck.accepted g.S.Verifier.verified lines key start old after (λ (done : List Act). g.K.Keeper.has c.hand_on.new.keeper (done ++ acts)) c.learn_promises.new.self.epoch c.hand_on.new.self.epoch c.mark_begun.new.self c.hand_on.new.self.memory (evidence ++ promises ++ begins) c.deref-2.result.now out
+      kept-on g.H.NodeHash.digest_of g.V.VufCheck.accepted g.S.Verifier.verified lines key start old after (λ (done : List Act). g.K.Keeper.has c.hand_on.new.keeper (done ++ acts)) c.learn_kept.new.self.epoch c.hand_on.new.self.epoch c.mark_begun.new.self c.hand_on.new.self.memory (evidence ++ promises ++ begins) c.deref-2.result.now out
           c.hand_on.ensures.same.1 c.hand_on.ensures.same.0 whole (λ done has. c.hand_on.ensures.hands (done ++ acts) has) begun,
     )
 
@@ -164,19 +165,19 @@ returns-clause-stands g c = ok_so c.hand_on.result (λ lines key start old acts 
     let formed = asked-formed lines start.known c.args.asker.now.changes.items asked in
     let new = late-stays known c.hand_roots.new.self.memory c.args.asker.now.changes.items c.args.self.now.changes c.hand_roots.new.self.changes
     (ap (λ (m : Memory). m.marks) c.hand_roots.ensures.same.0 ∙ lines-stay EvidenceLines (lines_of c.args.told.now) known c.learn_told.new.self shown shows) c.hand_roots.ensures.same.1 late in
-    let (promised, learns, longer) = c.in_ok-learn_promises.ensures.learns in
-    let (promises, taken', more-lines) = c.in_ok-learn_promises.ensures.takes formed in
-    let stays = learns-stay (drop c.hand_roots.new.self.changes c.args.asker.now.changes.items) c.args.asker.now.client.promises c.hand_roots.new.self.memory c.learn_promises.new.self.memory promised learns in
-    let told = stands-so g.H.NodeHash.digest_of g.V.VufCheck.accepted g.S.Verifier.verified lines key start old after c.hand_roots.new.self.epoch c.learn_promises.new.self.epoch c.learn_promises.new.self.memory c.learn_promises.new.self.memory (evidence ++ promises) out c.args.asker.now.changes.items now c.learn_promises.ensures.same.0 refl
-    (stands-same g.H.NodeHash.digest_of g.V.VufCheck.accepted g.S.Verifier.verified lines key start old after c.hand_roots.new.self.epoch c.hand_roots.new.self.memory evidence out c.args.asker.now.changes.items now rooted c.learn_promises.new.self.memory promises taken' stays (same-marks c.hand_roots.new.self.memory c.learn_promises.new.self.memory stays)
-    (changes-asked lines start.known c.args.asker.now.changes.items c.hand_roots.new.self.changes c.hand_roots.new.self.memory c.learn_promises.new.self.memory asked new c.learn_promises.ensures.own)
-    (changes-add c.args.asker.now.changes.items c.hand_roots.new.self.changes c.hand_roots.new.self.memory c.learn_promises.new.self.memory c.learn_promises.ensures.own)) in
+    let (promised, learns, longer) = c.in_ok-learn_kept.ensures.learns in
+    let (promises, taken', more-lines) = c.in_ok-learn_kept.ensures.takes formed in
+    let stays = kept-stay (drop c.hand_roots.new.self.changes c.args.asker.now.changes.items) c.args.asker.now.client.promises (drop c.hand_roots.new.self.finals c.args.asker.now.finals.seen) c.hand_roots.new.self.memory c.learn_kept.new.self.memory promised learns in
+    let told = stands-so g.H.NodeHash.digest_of g.V.VufCheck.accepted g.S.Verifier.verified lines key start old after c.hand_roots.new.self.epoch c.learn_kept.new.self.epoch c.learn_kept.new.self.memory c.learn_kept.new.self.memory (evidence ++ promises) out c.args.asker.now.changes.items now c.learn_kept.ensures.same.0 refl
+    (stands-same g.H.NodeHash.digest_of g.V.VufCheck.accepted g.S.Verifier.verified lines key start old after c.hand_roots.new.self.epoch c.hand_roots.new.self.memory evidence out c.args.asker.now.changes.items now rooted c.learn_kept.new.self.memory promises taken' stays (same-marks c.hand_roots.new.self.memory c.learn_kept.new.self.memory stays)
+    (changes-asked lines start.known c.args.asker.now.changes.items c.hand_roots.new.self.changes c.hand_roots.new.self.memory c.learn_kept.new.self.memory asked new c.learn_kept.ensures.own)
+    (changes-add c.args.asker.now.changes.items c.hand_roots.new.self.changes c.hand_roots.new.self.memory c.learn_kept.new.self.memory c.learn_kept.ensures.own)) in
     let (marked, marks, longest) = c.in_ok-mark_begun.ensures.ok in
     let (begins, begun', last-lines) = c.in_ok-mark_begun.ensures.takes in
-    let among = begun-among c.args.asker.now.monitors.items c.behind-begun.result.now c.learn_promises.new.self.monitors (c.behind-begun.ensures ∙ ap (drop c.learn_promises.new.self.monitors) c.deref.ensures.value) in
-    let begun = stands-begun g.H.NodeHash.digest_of g.V.VufCheck.accepted g.S.Verifier.verified lines key start old after c.learn_promises.new.self.epoch c.learn_promises.new.self.memory (evidence ++ promises) out c.args.asker.now.changes.items now told c.behind-begun.result.now c.mark_begun.new.self begins begun' among
-    (monitors-put c.behind-begun.result.now c.learn_promises.new.self.memory c.mark_begun.new.self marked marks) (begun-promises c.behind-begun.result.now c.learn_promises.new.self.memory c.mark_begun.new.self marked marks) in
-    let whole = c.deref-2.ensures.value ∙ text_grows [] c.learn_promises.new.lines.items c.mark_begun.new.lines.items (evidence ++ promises) begins
-    (text_grows [] c.learn_told.new.lines.items c.learn_promises.new.lines.items evidence promises (first-lines ∙ ap (λ (t : List ℕ). t ++ items_text evidence) c.new-lines.ensures.items) more-lines) last-lines in
-    stands-on g.H.NodeHash.digest_of g.V.VufCheck.accepted g.S.Verifier.verified lines key start old after (λ (done : List Act). g.K.Keeper.has c.hand_on.new.keeper (done ++ acts)) c.learn_promises.new.self.epoch c.hand_on.new.self.epoch c.mark_begun.new.self c.hand_on.new.self.memory (evidence ++ promises ++ begins) c.deref-2.result.now out c.args.asker.now.changes.items now
+    let among = begun-among c.args.asker.now.monitors.items c.behind-begun.result.now c.learn_kept.new.self.monitors (c.behind-begun.ensures ∙ ap (drop c.learn_kept.new.self.monitors) c.deref.ensures.value) in
+    let begun = stands-begun g.H.NodeHash.digest_of g.V.VufCheck.accepted g.S.Verifier.verified lines key start old after c.learn_kept.new.self.epoch c.learn_kept.new.self.memory (evidence ++ promises) out c.args.asker.now.changes.items now told c.behind-begun.result.now c.mark_begun.new.self begins begun' among
+    (monitors-put c.behind-begun.result.now c.learn_kept.new.self.memory c.mark_begun.new.self marked marks) (begun-promises c.behind-begun.result.now c.learn_kept.new.self.memory c.mark_begun.new.self marked marks) in
+    let whole = c.deref-2.ensures.value ∙ text_grows [] c.learn_kept.new.lines.items c.mark_begun.new.lines.items (evidence ++ promises) begins
+    (text_grows [] c.learn_told.new.lines.items c.learn_kept.new.lines.items evidence promises (first-lines ∙ ap (λ (t : List ℕ). t ++ items_text evidence) c.new-lines.ensures.items) more-lines) last-lines in
+    stands-on g.H.NodeHash.digest_of g.V.VufCheck.accepted g.S.Verifier.verified lines key start old after (λ (done : List Act). g.K.Keeper.has c.hand_on.new.keeper (done ++ acts)) c.learn_kept.new.self.epoch c.hand_on.new.self.epoch c.mark_begun.new.self c.hand_on.new.self.memory (evidence ++ promises ++ begins) c.deref-2.result.now out c.args.asker.now.changes.items now
     c.hand_on.ensures.same.1 c.hand_on.ensures.same.0 whole (λ done has. c.hand_on.ensures.hands (done ++ acts) has) begun)
