@@ -393,6 +393,12 @@ def memory_runs_out_for(epoch):
     return lambda provider, request, reply: response_frame(REFUSED, 14) if words_of(request)[0] == epoch else reply
 
 
+def memory_runs_out_but_once_for(epoch):
+    """Only the first look-up of an epoch finds memory."""
+    refuse = memory_runs_out_for(epoch)
+    return lambda provider, request, reply: reply if is_first_of(epoch, provider, request) else refuse(provider, request, reply)
+
+
 def proof_is_altered_at(epoch, distance=1):
     """The first proof of an epoch is altered, in the byte that is so far from its end."""
     return lambda provider, request, reply: flipped(reply, len(reply) - distance) if is_first_of(epoch, provider, request) else reply
@@ -646,6 +652,18 @@ def robbed_there():
     return directory
 
 
+def robbed_later():
+    """A directory whose name has an open key in epoch 2, a final one in epoch 3, and another key in epoch 4."""
+    directory = keyed_directory(1, ZERO32, SIGNING_KEY, VUF_KEY, SALT_KEY)
+    directory.register(b"a", b"k1")
+    directory.close(2)
+    directory.change2(b"a", b"k1", FINAL, None)
+    directory.close(3)
+    directory.let_wait(b"a", EVIL, None, None)
+    directory.close(4)
+    return directory
+
+
 def final_between():
     """The directory of `other_final_key_between`, and the promise that it broke."""
     directory = keyed_directory(1, ZERO32, SIGNING_KEY, VUF_KEY, SALT_KEY)
@@ -698,6 +716,7 @@ GONE_FINAL = change_in(final_directory(without_names), final_directory())
 LATER_FINAL = change_in(final_directory(stays, becomes(EVIL, FINAL)), later=4)
 MOVED_FINAL = change_in(moved_final())
 ROBBED_THERE = change_in(robbed_there(), first=3, later=4)
+ROBBED_LATER = change_in(robbed_later(), first=3, later=4)
 TWO_FINALS = [change_in(two_finals(), name=name) for name in (b"a", b"b")]
 BEGUN_TWO_FINALS = run_of_lines("register2 61 6b31 final", "register2 62 6b31 final", "close 2")
 LOOK_AT_TWO = "lookup 61 0", "lookup 62 0"
@@ -1434,6 +1453,13 @@ STORED_LIES = {
         lies((1, None, binding_becomes(b"k1", FINAL)), (2, None, binding_becomes(EVIL, None))),
         [run_of_lines("close 2"), run_of_lines("close 3", "lookup 61 3", "lookup 61 2", "lookup 61 2")],
         Ending(["root 3 after 2", "present 3 6576", "present 2 6b31 final", ROBBED_FINAL, "present 2 6b31 final"], 3, [FINAL_CHANGED]),
+    ),
+    "a final key that its monitor sees first, between two look-ups": (
+        lies((2, "close", key_is_robbed), (2, "lookup", memory_runs_out_but_once_for(4))),
+        [BEGUN, run_of_lines("change2 61 6b31 final", "close 3", "close 4", "lookup 61 4", "watch2 61 6b31 final", "lookup 61 3")],
+        Ending(
+            ["promise 2", "root 3 after 2", "root 4 after 3", "present 4 6576", "kept 61 3", "refused 14", "present 3 6b31 final", ROBBED_LATER],
+            3, [NO_MEMORY, FINAL_CHANGED]),
     ),
     "a final key that gets another index, and is changed there": (
         lies((1, None, binding_becomes(b"k1", FINAL)), (2, "close", names_move), (3, None, key_is_robbed)),

@@ -1,18 +1,15 @@
 -- What replies show of final bindings.
-use Rattle.std.proofs.Common.{Bor, not, ◌≡◌, ◌≢◌, ◌⊎◌, ◌↔◌, Bool, true, false, ◌∙◌, ◌<◌, ◌≤◌, ◌+◌, ◌++◌, ◌∷◌, [], ℕ, zero, suc, List, Option, None, Some, Result, Ok, Err, ap, arith, append-nil, append_assoc, get_or, inl, inr, length, refl, subst, sym}
-use Rattle.std.specs.Option.{is_some}
-use Rattle.std.specs.Prelude.{Contains, IsTrue, MatchOption, OnOk}
+use Rattle.std.proofs.Common.{◌≡◌, ◌≢◌, ◌⊎◌, ◌↔◌, Bool, true, false, ◌∙◌, ◌<◌, ◌≤◌, ◌++◌, ◌∷◌, [], ℕ, zero, suc, List, Option, None, Some, Result, Ok, Err, ap, arith, append-nil, append_assoc, get_or, inl, inr, length, refl, subst, sym}
+use Rattle.std.specs.Prelude.{Contains, IsTrue, OnOk}
 use Rattle.audits.specs.Files.{evidence_text}
 use Rattle.auditor.specs.declared.evidence.Evidence.{Evidence}
 use Rattle.auditor.specs.declared.evidence.Evidence.TheVariants as evidence
 use Rattle.proofs.specs.declared.broken_final.BrokenFinal.{BrokenFinal}
 use Rattle.client.specs.Finality.{IsFirstChange}
 use Rattle.rootchain.specs.Chains.{KeyedRoots}
-use Rattle.rootchain.specs.declared.body.Body.{Body}
-use Rattle.proofs.proofs.Passing.{one_reply}
 use Rattle.proofs.specs.Replies.{Reply, SpellsReply}
 use Rattle.memory.specs.declared.final_seen.FinalSeen.{FinalSeen}
-use Rattle.asking.specs.FinalBindings.{change_told, listed, with_change, AreChanged, Finals, HasOtherKey, IsKeptFor, KeepsFinal, LooksShow, MayShowMore, NotesHeard, NotesLooked, NotesReply, NotesSeen, Show, ShowsChange}
+use Rattle.asking.specs.FinalBindings.{change_told, listed, with_change, AreChanged, Finals, IsKeptFor, KeepsFinal, LooksShow, NotesHeard, NotesLooked, NotesReply, NotesSeen, Show, ShowsChange}
 use Rattle.asking.specs.Reports.{caught, report_of, silent, told_after, worse, Report, Tells}
 use Rattle.asking.specs.declared.said.Said.{Said}
 use Rattle.encoding.specs.Limits.{IsName}
@@ -95,61 +92,6 @@ tells-both said said' said″ one other (lines, status) (more, other-status) = (
   other-status ∙ ap (λ (n : ℕ). worse n other.status) status ∙ worse-worse said.status one.status other.status,
 )
 
--- one reply is kept for a name
-pub one-kept : (name : List ℕ) (seen : List FinalSeen) (found other : Option FinalSeen) → IsKeptFor name seen found → IsKeptFor name seen other → found ≡ other
-one-kept name [] found other is also = is ∙ sym also
-one-kept name (x ∷ seen) found other (inl (named, is)) (inl (too, also)) = is ∙ sym also
-one-kept name (x ∷ seen) found other (inl (named, is)) (inr (not, also)) = absurd (not named)
-one-kept name (x ∷ seen) found other (inr (not, is)) (inl (too, also)) = absurd (not too)
-one-kept name (x ∷ seen) found other (inr (not, is)) (inr (none, also)) = one-kept name seen found other is also
-
-no-kept : (name : List ℕ) (seen : List FinalSeen) (kept : FinalSeen) → IsKeptFor name seen None → ¬ IsKeptFor name seen (Some kept)
-no-kept name seen kept none is = let same : ◌≡◌ {A = Option FinalSeen} None (Some kept) = one-kept name seen None (Some kept) none is in absurd cc
-
--- what was found says whether none is kept
-pub none-kept : (name : List ℕ) (seen : List FinalSeen) (found : Option (Bor FinalSeen)) → MatchOption found (IsKeptFor name seen None) (λ kept. IsKeptFor name seen (Some kept.now)) → (test : Bool) → is_some found ≡ not test
-    → IsTrue test ↔ IsKeptFor name seen None
-none-kept name seen None is true exact = (λ tested. is, λ none. refl)
-none-kept name seen None is false exact = absurd cc
-none-kept name seen (Some kept) is true exact = absurd cc
-none-kept name seen (Some kept) is false exact = (λ tested. absurd cc, λ none. absurd (no-kept name seen kept.now none is))
-
--- ---- whether the looks may show more
-
-module _ (name bytes : List ℕ) (finals : Finals) where
-  pub none-to-show : IsKeptFor name finals.seen None → (before : Finals) → IsTrue false ↔ MayShowMore name bytes before finals
-  none-to-show none before = (λ never. absurd cc, λ (new, (reply, kept, spelled, is, why)). absurd (no-kept name finals.seen kept none is))
-
-  pub unread-to-show : ((reply : Reply) → ¬ SpellsReply bytes reply) → (before : Finals) → IsTrue false ↔ MayShowMore name bytes before finals
-  unread-to-show unread before = (λ never. absurd cc, λ (new, (reply, kept, spelled, is, why)). absurd (unread reply spelled))
-
-  module _ (new : ¬ Contains finals.changed name) (read : Reply) (spelled : SpellsReply bytes read) (kept : FinalSeen) (is : IsKeptFor name finals.seen (Some kept)) (had_none : Bool) (before : Finals)
-      (exact : IsTrue had_none ↔ IsKeptFor name before.seen None) where
-    pub first-to-show : had_none ≡ true → IsTrue had_none ↔ MayShowMore name bytes before finals
-    first-to-show had = (λ also. (new, (read, kept, spelled, is, inl (exact.0 had))), λ may. had)
-
-    pub apart-to-show : had_none ≡ false → (test : Bool) → IsTrue test ↔ ((read.body.epoch < kept.epoch) ⊎ HasOtherKey kept read.body) → IsTrue test ↔ MayShowMore name bytes before finals
-    apart-to-show never test apart = (λ is-apart. (new, (read, kept, spelled, is, inr (apart.0 is-apart))), by)
-      where
-        by : MayShowMore name bytes before finals → IsTrue test
-        by (also, (reply, other, spells, other-is, inl none)) = absurd (not-both had_none (exact.1 none) never)
-        by (also, (reply, other, spells, other-is, inr why)) =
-            let same : ◌≡◌ {A = Option FinalSeen} (Some other) (Some kept) = one-kept name finals.seen (Some other) (Some kept) other-is is in
-            let one : other ≡ kept = cc in
-            apart.1 (subst (λ (s : FinalSeen). (read.body.epoch < s.epoch) ⊎ HasOtherKey s read.body) one
-            (subst (λ (r : Reply). (r.body.epoch < other.epoch) ⊎ HasOtherKey other r.body) (one_reply bytes reply read spells spelled) why))
-
--- ---- whether a reply is of another key
-
-pub read-key : (kept : FinalSeen) (body : Body) (read : Reply) → SpellsReply kept.reply read → (test : Bool) → IsTrue test ↔ (read.body.vuf_key ≢ body.vuf_key) → IsTrue test ↔ HasOtherKey kept body
-read-key kept body read spelled test exact = (
-  λ other reply spells. subst (λ (r : Reply). r.body.vuf_key ≢ body.vuf_key) (one_reply kept.reply read reply spelled spells) (exact.0 other),
-  λ other. exact.1 (other read spelled),
-)
-
-pub unread-key : (kept : FinalSeen) (body : Body) → ((reply : Reply) → ¬ SpellsReply kept.reply reply) → IsTrue true ↔ HasOtherKey kept body
-unread-key kept body unread = (λ other reply spells. absurd (unread reply spells), λ other. refl)
-
 module _ (hash : List ℕ → List ℕ) (accepted : List ℕ → List ℕ → List ℕ → Type 0) (client : Client) where
   -- a look-up whose reply was refused
   pub looked-not : (name bytes : List ℕ) (status : ℕ) (finals : Finals) (said : Said) → (status ≢ 0) ⊎ (¬ IsName name)
@@ -158,27 +100,27 @@ module _ (hash : List ℕ → List ℕ) (accepted : List ℕ → List ℕ → Li
 
   module _ (name given bytes : List ℕ) (status : ℕ) (before middle : Finals) (said said' : Said) (fine : status ≡ 0) (is : IsName given) (same : name ≡ given)
       (noted : (told : Report) × NotesReply hash accepted client.chain name bytes before told middle × Tells said told said') (test : Bool)
-      (tests : IsTrue test ↔ MayShowMore name bytes before middle) where
-    -- one whose reply was not, and shows no more
-    pub looked : test ≡ false → (shown : Report) × NotesLooked hash accepted client given bytes status before shown middle × Tells said shown said'
-    looked no-more = (
+      (tests : IsTrue test ↔ Contains middle.changed name) where
+    -- one of a name of which a change was told
+    pub looked : test ≡ true → (shown : Report) × NotesLooked hash accepted client given bytes status before shown middle × Tells said shown said'
+    looked known = (
       noted.0,
       subst (λ (n : List ℕ). NotesLooked hash accepted client n bytes status before noted.0 middle) same
-          (inl (fine, subst IsName (sym same) is, (noted.0, middle, noted.1, inr ((λ more. not-both test (tests.1 more) no-more), refl, refl)))),
+          (inl (fine, subst IsName (sym same) is, (noted.0, middle, noted.1, inr (tests.0 known, refl, refl)))),
       noted.2,
     )
 
-    -- one that may show more
-    pub looked-more : {A E : Type 0} (result : Result A E) (after : Finals) (said″ : Said) → test ≡ true
+    -- one of another name
+    pub looked-more : {A E : Type 0} (result : Result A E) (after : Finals) (said″ : Said) → test ≡ false
         → OnOk result ((made : Option Evidence) × LooksShow hash client name made × (after ≡ with_change name made middle) × Tells said' (change_told made) said″)
         → OnOk result ((shown : Report) × NotesLooked hash accepted client given bytes status before shown after × Tells said shown said″)
-    looked-more (Ok done) after said″ more (made, shows, is-after, tells) = (
+    looked-more (Ok done) after said″ new (made, shows, is-after, tells) = (
       told_after noted.0 (change_told made),
       subst (λ (n : List ℕ). NotesLooked hash accepted client n bytes status before (told_after noted.0 (change_told made)) after) same
-          (inl (fine, subst IsName (sym same) is, (noted.0, middle, noted.1, inl (tests.0 more, (made, shows, refl, is-after))))),
+          (inl (fine, subst IsName (sym same) is, (noted.0, middle, noted.1, inl ((λ known. not-both test (tests.1 known) new), (made, shows, refl, is-after))))),
       tells-both said said' said″ noted.0 (change_told made) noted.2 tells,
     )
-    looked-more (Err fault) after said″ more tells = tt
+    looked-more (Err fault) after said″ new tells = tt
 
 -- the looks show a change, which is told
 pub told-looks : {A E : Type 0} (hash : List ℕ → List ℕ) (client : Client) (result : Result A E) (name : List ℕ) (broken : BrokenFinal) (before after : Finals) (said said' : Said)

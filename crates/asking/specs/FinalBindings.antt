@@ -6,7 +6,6 @@ use Rattle.audits.specs.Files.{evidence_text, IsFileOf}
 use Rattle.encoding.specs.Limits.{IsName}
 use Rattle.commands.specs.Operations.{Lookup}
 use Rattle.rootchain.specs.Chains.{IsAt, KeyedRoots}
-use Rattle.rootchain.specs.declared.body.Body.{Body}
 use Rattle.rootchain.specs.declared.signed_root.SignedRoot.{SignedRoot}
 use Rattle.proofs.specs.Accepts.{stated}
 use Rattle.proofs.specs.BrokenFinals.{states_final, Changes}
@@ -115,28 +114,18 @@ abbrev pub LooksShow : (List ℕ → List ℕ) → Client → List ℕ → Optio
 LooksShow hash client name None = NoneStandSo (IsChangedBy hash) (looks_for name client.looks)
 LooksShow hash client name (Some made) = (broken : BrokenFinal) × (made ≡ evidence.Final broken) × IsFirstChange hash client name broken
 
--- a reply that is kept is of another key of the provider's verifiable function than this body, so it may have another index
-abbrev pub HasOtherKey : FinalSeen → Body → Type 0
-HasOtherKey kept body = (reply : Reply) → SpellsReply kept.reply reply → reply.body.vuf_key ≢ body.vuf_key
-
--- No change was told of a name, and the bytes of a look may show one that the reply kept for it does not: that one was kept for
--- them, or they are older, or of another key.
-abbrev pub MayShowMore : List ℕ → List ℕ → Finals → Finals → Type 0
-MayShowMore name bytes before after = (¬ Contains after.changed name) × ((reply : Reply) × (kept : FinalSeen) × SpellsReply bytes reply × IsKeptFor name after.seen (Some kept)
-    × (IsKeptFor name before.seen None ⊎ (reply.body.epoch < kept.epoch) ⊎ HasOtherKey kept reply.body))
-
 module _ (hash : List ℕ → List ℕ) (accepted : List ℕ → List ℕ → List ℕ → Type 0) (client : Client) where
-  -- then what the client's looks for the name show is told too, and this was told before
-  abbrev pub NotesMore : List ℕ → List ℕ → Finals → Finals → Report → Report → Finals → Type 0
-  NotesMore name bytes before middle first told after =
-      (MayShowMore name bytes before middle × ((made : Option Evidence) × LooksShow hash client name made × (told ≡ told_after first (change_told made)) × (after ≡ with_change name made middle)))
-      ⊎ ((¬ MayShowMore name bytes before middle) × (told ≡ first) × (after ≡ middle))
+  -- then what the client's looks for the name show is told too, unless a change of it was told
+  abbrev pub NotesMore : List ℕ → Finals → Report → Report → Finals → Type 0
+  NotesMore name middle first told after =
+      ((¬ Contains middle.changed name) × ((made : Option Evidence) × LooksShow hash client name made × (told ≡ told_after first (change_told made)) × (after ≡ with_change name made middle)))
+      ⊎ (Contains middle.changed name × (told ≡ first) × (after ≡ middle))
 
   -- What is told of bytes that came back for a look-up of a name, which the client now has among its looks: what they show with
-  -- the reply that is kept, or more. Nothing is where they were refused, which this status says.
+  -- the reply that is kept, and what the looks show. Nothing is where they were refused, which this status says.
   abbrev pub NotesLooked : List ℕ → List ℕ → ℕ → Finals → Report → Finals → Type 0
   NotesLooked name bytes status before told after =
-      ((status ≡ 0) × IsName name × ((first : Report) × (middle : Finals) × NotesReply hash accepted client.chain name bytes before first middle × NotesMore name bytes before middle first told after))
+      ((status ≡ 0) × IsName name × ((first : Report) × (middle : Finals) × NotesReply hash accepted client.chain name bytes before first middle × NotesMore name middle first told after))
       ⊎ (((status ≢ 0) ⊎ (¬ IsName name)) × (told ≡ silent) × (after ≡ before))
 
   -- what is told of a frame that came back for what was asked, where what was told of it before has this status

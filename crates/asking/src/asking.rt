@@ -261,10 +261,8 @@ where
         let Ok(name) = Name::new(name) else {
             return Ok(());
         };
-        let had_none = self.finals.has_none(&name);
         self.note(&name, reply, said)?;
-        // The kept reply shows all that two looks in the order of their epochs do.
-        if !self.finals.may_show_more(had_none, &name, reply) {
+        if self.finals.is_told(&name) {
             return Ok(());
         }
         self.tell_looks(name, said)

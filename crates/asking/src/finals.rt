@@ -1,6 +1,6 @@
 // What replies show of final bindings: the first that stated a key with Final is kept for each name, and each later one is
 // compared with it.
-ghost use Rattle.std.specs.Prelude.{◌≡◌, ◌≢◌, ◌⊎◌, ◌<◌, ◌↔◌, ◌++◌, true, IfOk, IsTrue, MatchOption, None, OnErr, OnOk, Some};
+ghost use Rattle.std.specs.Prelude.{◌≡◌, ◌↔◌, ◌++◌, true, Contains, IfOk, IsTrue, MatchOption, None, OnErr, OnOk, Some};
 ghost use Rattle.audits.specs.Files.{evidence_text};
 ghost use Rattle.auditor.specs.declared.evidence.Evidence.TheVariants as evidence;
 ghost use Rattle.proofs.specs.Accepts.{stated};
@@ -9,7 +9,7 @@ ghost use Rattle.proofs.specs.Comparisons.{IsAcceptedReply};
 ghost use Rattle.proofs.specs.Replies.{Reply, SpellsReply};
 ghost use Rattle.proofs.specs.declared.broken_final.BrokenFinal.{BrokenFinal as Broken};
 ghost use Rattle.asking.specs.FinalBindings as bindings;
-ghost use Rattle.asking.specs.FinalBindings.{listed, no_finals, with_change, AreChanged, HasOtherKey, IsFinalChange, IsFinalIn, IsKeptFor, IsKnownIn, KeepsFinal, MayShowMore, NotesReply, NotesSeen, Show, ShowsChange};
+ghost use Rattle.asking.specs.FinalBindings.{listed, no_finals, with_change, AreChanged, IsFinalChange, IsFinalIn, IsKeptFor, IsKnownIn, KeepsFinal, NotesReply, NotesSeen, Show, ShowsChange};
 ghost use Rattle.asking.specs.Reports.{caught, Report, Tells};
 
 use crate::checking::tell_evidence;
@@ -21,7 +21,7 @@ use encoding::{Name, ProofText};
 use memory::{EvidenceLine, FinalSeen, Memory};
 use nodehash::NodeHash;
 use proofs::{BrokenFinal, ReplyView, accept};
-use rootchain::{Body, Chain, SignedRoot};
+use rootchain::{Chain, SignedRoot};
 use sigiface::Verifier;
 use std::alloc::{AllocError, Global};
 use std::marker::Model;
@@ -95,7 +95,7 @@ impl Finals {
         let Ok(view) = ReplyView::read(reply) else {
             return Ok(());
         };
-        let (name, epoch, reply) = (name.copied(), view.body().epoch, proof_text(reply));
+        let (name, epoch, reply) = (name.copied(), view.body().epoch, ProofText::of(reply));
         self.note_seen(alloc, chain, checks, FinalSeen { name, epoch, reply }, said)
     }
 
@@ -143,29 +143,11 @@ impl Finals {
         Ok(())
     }
 
-    /// Whether no reply is kept for a name.
-    pub(crate) fn has_none(&self, name: &Name) -> bool
-        ensures { IsTrue result ↔ IsKeptFor name.now self.now.seen None }
+    /// Whether a change of the final binding of a name was told.
+    pub(crate) fn is_told(&self, name: &Name) -> bool
+        ensures { IsTrue result ↔ Contains self.now.changed name.now }
     {
-        kept_for(&self.seen, name).is_none()
-    }
-
-    /// Whether nothing was told of a name yet, and bytes that came back for it may show a change with others than the
-    /// reply that is kept: that one was kept for them, as none was there before, or they are older, or of another key.
-    pub(crate) fn may_show_more(&self, had_none: bool, name: &Name, reply: &[u8]) -> bool
-        ensures { (before : bindings.Finals) → (IsTrue had_none ↔ IsKeptFor name.now before.seen None)
-            → IsTrue result ↔ MayShowMore name.now reply.now before self.now }
-    {
-        if self.changed.contains(name) {
-            return false;
-        }
-        let Some(kept) = kept_for(&self.seen, name) else {
-            return false;
-        };
-        match ReplyView::read(reply) {
-            Ok(view) => had_none || is_apart(kept, view.body()),
-            Err(_) => false,
-        }
+        self.changed.contains(name)
     }
 
     /// Keeps a reply if it states a key with Final, and is accepted.
@@ -245,30 +227,6 @@ fn kept_for<'a>(seen: &'a [FinalSeen], name: &Name) -> Option<&'a FinalSeen>
         }
     }
     None
-}
-
-/// Whether a reply that is kept is later than this body, or of another key of the provider's verifiable function.
-fn is_apart(kept: &FinalSeen, body: &Body) -> bool
-    ensures { IsTrue result ↔ ((body.now.epoch < kept.now.epoch) ⊎ HasOtherKey kept.now body.now) }
-{
-    body.epoch < kept.epoch || has_other_key(kept, body)
-}
-
-/// Whether a reply that is kept is of another key of the provider's verifiable function than this body.
-fn has_other_key(kept: &FinalSeen, body: &Body) -> bool
-    ensures { IsTrue result ↔ HasOtherKey kept.now body.now }
-{
-    match ReplyView::read(kept.reply.bytes()) {
-        Ok(view) => have_other_keys(view.body(), body),
-        Err(_) => true,
-    }
-}
-
-/// Whether two bodies have different keys of the provider's verifiable function.
-fn have_other_keys(one: &Body, other: &Body) -> bool
-    ensures { IsTrue result ↔ (one.now.vuf_key ≢ other.now.vuf_key) }
-{
-    one.vuf_key != other.vuf_key
 }
 
 /// The evidence that one of two replies for a name changes the other.
@@ -405,16 +363,6 @@ where
         Ok(reply) => reply.statement().is_final(),
         Err(_) => false,
     }
-}
-
-/// The bytes of a reply as the text of a proof.
-fn proof_text(bytes: &[u8]) -> ProofText
-    requires { (reply : Reply) × SpellsReply bytes.now reply }
-    ensures { result ≡ bytes.now }
-{
-    let mut proof = ProofText::new();
-    proof.push_slice(bytes);
-    proof
 }
 
 /// Tells that the final binding of a name was changed, by the evidence of it.

@@ -12,7 +12,7 @@ pub mod Others
 pub mod Passed
 pub mod Unlikes
 pub mod Changed
-pub mod Latest
+pub mod Greatest
 pub mod Telling
 pub mod InBytes
 pub mod InPieces

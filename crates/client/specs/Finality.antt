@@ -39,6 +39,10 @@ IsChangedBy hash look later = (look.epoch < later.epoch) × HaveOneIndex hash lo
 abbrev pub NoneStandSo : {A : Type 0} → (A → A → Type 0) → List A → Type 0
 NoneStandSo {A} So xs = (k l : ℕ) (v w : A) → slice_get xs k ≡ Some v → slice_get xs l ≡ Some w → ¬ So v w
 
+-- one does
+abbrev pub SomeStandSo : {A : Type 0} → (A → A → Type 0) → List A → Type 0
+SomeStandSo {A} So xs = (k l : ℕ) × (v w : A) × (slice_get xs k ≡ Some v) × (slice_get xs l ≡ Some w) × So v w
+
 -- the first element of a list that stands so to one of them, and the first to which it does
 pub record AreFirst {A : Type 0} (So : A → A → Type 0) (xs : List A) (x y : A) : Type 0 where
   pub i : ℕ

@@ -1,12 +1,13 @@
 pub mod Agreements
 pub mod Clients
 pub mod Dues
+pub mod Extremes
 pub mod Finality
-pub mod Latest
 pub mod Looking
 pub mod Numbered
 pub mod Promising
 pub mod Refusals
+pub mod Several
 pub mod Starting
 pub mod Testing
 pub mod Updating

@@ -1,13 +1,11 @@
 //! The accepted replies for each name, in order of acceptance, so that what is asked of one name takes no time
 //! for the others.
-ghost use Rattle.std.specs.Prelude.{◌≡◌, ◌++◌, ◌∷◌, [], ℕ, List, Some, None, IfOk, OnErr, OnOk, option_map, slice_get};
-ghost use Rattle.std.specs.List.{AllByRecursion};
+ghost use Rattle.std.specs.Prelude.{◌≡◌, ◌<◌, ◌^◌, ◌++◌, ◌∷◌, [], ℕ, List, None, IfOk, MatchOption, OnErr, OnOk, option_map};
 ghost use Rattle.encoding.specs.Maps.{at};
 ghost use Rattle.client.specs.Agreements.{SpellsOne};
 ghost use Rattle.client.specs.Finality.{ByName, HasOneMore, HaveTheSame, IndexedReply as Reply};
-ghost use Rattle.client.specs.Latest.{IsLatest};
 
-use crate::changes::Latest;
+use crate::several::Several;
 use encoding::{Index, Name};
 use std::alloc::{AllocError, Global};
 use std::collections::BTreeMap;
@@ -42,7 +40,8 @@ impl IndexedReply {
     }
 
     pub(crate) fn epoch(&self) -> u64
-        ensures { result ≡ self.now.epoch }
+        ensures value { result ≡ self.now.epoch }
+        ensures fits { self.now.epoch < 2 ^ 64 }
     {
         self.epoch
     }
@@ -59,6 +58,16 @@ impl IndexedReply {
         self.bytes.as_slice()
     }
 
+    /// A copy, with the same bytes.
+    fn copied(&self) -> Result<IndexedReply, AllocError>
+        ensures { IfOk result (λ reply. reply ≡ self.now) }
+    {
+        Ok(IndexedReply {
+            bytes: self.shared()?,
+            ..*self
+        })
+    }
+
     /// The bytes, to be kept elsewhere too.
     pub(crate) fn shared(&self) -> Result<Rc<Vec<u8>>, AllocError>
         ensures { IfOk result (λ bytes. bytes.value.items ≡ self.now.bytes) }
@@ -67,96 +76,66 @@ impl IndexedReply {
     }
 }
 
-/// The replies for one name, in order of acceptance, and the latest of those with each index.
+/// Most names have one reply, which is kept without more.
+#[derive(Drop)]
+pub(crate) enum OneOrSeveral {
+    One(IndexedReply),
+    Several(Box<Several>),
+}
+
+/// The replies for one name, in order of acceptance.
 #[derive(Drop)]
 pub(crate) struct RepliesOfName {
-    list: Vec<IndexedReply>,
-    /// The index of the first.
-    index: Index,
-    /// The latest of those with this index.
-    own: Latest,
-    /// The latest of those with each other index. It is empty where the provider keeps its VUF key.
-    others: BTreeMap<Index, Latest>,
+    kept: OneOrSeveral,
 }
 
 impl Model for RepliesOfName {
     ghost use Rattle.std.specs.Prelude.{List};
     ghost use Rattle.client.specs.Finality as finality;
-    ghost use Rattle.client.specs.Latest.{AreByIndex};
+    ghost use Rattle.client.specs.Several.{listed, AreSpelled};
 
     ghost Value = { List finality.IndexedReply };
 
-    ghost view = { λ replies. replies.list.items };
+    ghost view = { λ replies. listed replies.kept };
 
-    ghost invariant = { λ replies. AreByIndex replies.list.items replies.index replies.own replies.others.entries };
+    ghost invariant = { λ replies. AreSpelled replies.kept };
 }
 
 impl RepliesOfName {
     /// One reply.
-    fn new(alloc: Global, reply: IndexedReply) -> Result<Self, AllocError>
+    fn new(reply: IndexedReply) -> Self
         requires { SpellsOne reply.bytes }
-        ensures { IfOk result (λ replies. replies ≡ reply ∷ []) }
+        ensures { result ≡ reply ∷ [] }
     {
-        let index = reply.index();
-        let own = Latest::of(&reply)?;
-        let mut list = Vec::with_capacity(alloc, 1)?;
-        list.push_reserved(reply);
-        Ok(RepliesOfName {
-            list,
-            index,
-            own,
-            others: BTreeMap::new(alloc),
-        })
+        RepliesOfName {
+            kept: OneOrSeveral::One(reply),
+        }
     }
 
-    /// All of them.
-    pub(crate) fn all(&self) -> &[IndexedReply]
-        ensures all { result.now ≡ self.now }
-        ensures spelled { AllByRecursion (λ reply. SpellsOne reply.bytes) self.now }
+    /// The replies, if there are several.
+    pub(crate) fn several(&self) -> Option<&Several>
+        ensures { MatchOption result ((reply : Reply) × (self.now ≡ reply ∷ [])) (λ replies. replies.now ≡ self.now) }
     {
-        &self.list
-    }
-
-    /// The latest of those with the index of one of them.
-    pub(crate) fn latest(&self, reply: &IndexedReply) -> &Latest
-        requires { (place : ℕ) × (slice_get self.now place ≡ Some reply.now) }
-        ensures { IsLatest self.now reply.now.index result.now }
-    {
-        match self.others.get(&reply.index()) {
-            Some(latest) => latest,
-            None => &self.own,
+        match &self.kept {
+            OneOrSeveral::One(_) => None,
+            OneOrSeveral::Several(replies) => Some(replies),
         }
     }
 
     /// Puts a reply behind the others. An `Err` leaves them as they were.
-    fn push(&mut self, reply: IndexedReply) -> Result<(), AllocError>
+    fn push(&mut self, alloc: Global, reply: IndexedReply) -> Result<(), AllocError>
         requires { SpellsOne reply.bytes }
         ensures ok { OnOk result (self.new ≡ self.old ++ reply ∷ []) }
         ensures err { OnErr result (self.new ≡ self.old) }
     {
-        let latest = self.latest_with(&reply)?;
-        if reply.index() == self.index {
-            self.list.push(reply)?;
-            self.own = latest;
-            return Ok(());
-        }
-        self.list.reserve(1)?;
-        self.others.insert(reply.index(), latest)?;
-        self.list.push_reserved(reply);
-        Ok(())
-    }
-
-    /// The latest of those with the index of this reply, once it is behind them.
-    fn latest_with(&self, reply: &IndexedReply) -> Result<Latest, AllocError>
-        requires { SpellsOne reply.now.bytes }
-        ensures { IfOk result (IsLatest (self.now ++ reply.now ∷ []) reply.now.index) }
-    {
-        if reply.index() == self.index {
-            return self.own.with(reply);
-        }
-        match self.others.get(&reply.index()) {
-            Some(latest) => latest.with(reply),
-            None => Latest::of(reply),
+        match &mut self.kept {
+            OneOrSeveral::One(first) => {
+                let mut replies = Several::of(alloc, first.copied()?)?;
+                replies.push(reply)?;
+                self.kept = OneOrSeveral::Several(Box::new(alloc, replies)?);
+                Ok(())
+            }
+            OneOrSeveral::Several(replies) => replies.push(reply),
         }
     }
 }
@@ -201,7 +180,7 @@ impl RepliesByName {
         ensures err { OnErr result (HaveTheSame self.old self.new) }
     {
         match self.lists.get_mut(name.bytes()) {
-            Some(replies) => replies.push(reply),
+            Some(replies) => replies.push(self.alloc, reply),
             None => self.push_first(name, reply),
         }
     }
@@ -214,8 +193,7 @@ impl RepliesByName {
         ensures err { OnErr result (HaveTheSame self.old self.new) }
     {
         let key = Vec::from_slice(self.alloc, name.bytes())?;
-        let replies = RepliesOfName::new(self.alloc, reply)?;
-        self.lists.insert(key, replies)?;
+        self.lists.insert(key, RepliesOfName::new(reply))?;
         Ok(())
     }
 }

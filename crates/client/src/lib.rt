@@ -20,6 +20,7 @@ mod changes;
 mod client;
 mod client_refusal;
 mod due;
+mod extremes;
 mod kept;
 mod kept_looks;
 mod laws;
@@ -28,6 +29,7 @@ mod outcome;
 mod promises;
 mod reconciling;
 mod roots;
+mod several;
 
 pub use changes::state_a_change;
 pub use client::Client;

@@ -42,6 +42,16 @@ impl<const ROOM: usize> FixedText<ROOM> {
         }
     }
 
+    /// The text of these bytes.
+    pub fn of(bytes: &[u8]) -> Self
+        requires { length bytes.now ≤ ROOM }
+        ensures { result ≡ bytes.now }
+    {
+        let mut text = FixedText::new();
+        text.push_slice(bytes);
+        text
+    }
+
     /// The bytes so far.
     pub fn bytes(&self) -> &[u8]
         ensures value { result.now ≡ self.now }
@@ -55,9 +65,7 @@ impl<const ROOM: usize> FixedText<ROOM> {
         requires { length self.now ≤ TO }
         ensures { result ≡ self.now }
     {
-        let mut copy = FixedText::new();
-        copy.push_slice(self.bytes());
-        copy
+        FixedText::of(self.bytes())
     }
 
     /// Appends one byte.

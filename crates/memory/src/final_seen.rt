@@ -36,13 +36,11 @@ fn fitting(epoch: u64) -> u64
     epoch
 }
 
-/// These bytes as the text of a proof.
-pub(crate) fn text_of(bytes: &[u8]) -> ProofText
+/// These bytes as the text of a proof, with what its contract leaves out: that they are bytes.
+fn text_of(bytes: &[u8]) -> ProofText
     requires { length bytes.now ≤ PROOF_TEXT_ROOM }
     ensures value { result ≡ bytes.now }
     ensures sound { HasRoom bytes.now }
 {
-    let mut text = ProofText::new();
-    text.push_slice(bytes);
-    text
+    ProofText::of(bytes)
 }

@@ -10,7 +10,6 @@ ghost use Rattle.memory.specs.Finding.{Finds};
 ghost use Rattle.memory.specs.Lines.{HasRoom};
 ghost use Rattle.memory.specs.Words.{HasNoSpace, IsFoundText, IsHexOf, IsNameWord, IsNumberWord, IsPromiseWord, IsReplyWord};
 
-use crate::final_seen::text_of;
 use encoding::{BoundKey, KeyData, Name, PROOF_TEXT_ROOM, Policy, ProofText};
 use hex::FromHexError;
 use itoa::Buffer;
@@ -185,5 +184,5 @@ fn reply_of(bytes: &[u8]) -> Option<ProofText>
     if PROOF_TEXT_ROOM < bytes.len() {
         return None;
     }
-    Some(text_of(bytes))
+    Some(ProofText::of(bytes))
 }

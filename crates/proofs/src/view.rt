@@ -126,8 +126,8 @@ impl<'a> ReplyView<'a> {
         &self.parts.body
     }
 
-    /// The value of the name.
-    pub(crate) fn value(&self) -> &'a [u8]
+    /// The value that the provider's verifiable function has for the name.
+    pub fn value(&self) -> &'a [u8]
         ensures { result.now ≡ self.now.value }
     {
         self.parts.value

@@ -51,9 +51,9 @@ fn broken_final<H: NodeHash, S: Verifier>(
     BrokenFinal {
         name: name.copied(),
         root: root_at(chain, reply.epoch()),
-        proof: proof_text(reply.bytes()),
+        proof: ProofText::of(reply.bytes()),
         later_root: root_at(chain, later.epoch()),
-        later_proof: proof_text(later.bytes()),
+        later_proof: ProofText::of(later.bytes()),
     }
 }
 
@@ -66,14 +66,4 @@ fn root_at<H: NodeHash, S: Verifier>(chain: &Chain<H, S>, epoch: u64) -> SignedR
         unreachable!()
     };
     root.copied()
-}
-
-/// The bytes of a reply as a proof.
-fn proof_text(bytes: &[u8]) -> ProofText
-    requires { SpellsOne bytes.now }
-    ensures { result ≡ bytes.now }
-{
-    let mut proof = ProofText::new();
-    proof.push_slice(bytes);
-    proof
 }

@@ -1,32 +1,8 @@
-use Rattle.std.proofs.Common.{◌≡◌, Some, List, length, slice_get, refl, sym, subst, arith}
-use Rattle.std.proofs.lemmas.Option.{slice_get_read}
+use Rattle.std.proofs.Common.{List, MatchOption, subst}
 use Rattle.client.specs.Finality.{AreFirst, IndexedReply, IsChangedByReply, NoneStandSo}
-use Rattle.client.proofs.Changed.{all-none, is-first, more-none}
 use Rattle.client.proofs.changes.first_change.Goals as goal
-
-pub unreachable-requires : goal.unreachable-requires
-unreachable-requires c =
-    let tells = c.changes.ensures c.args.replies.now c.all-all.ensures.spelled c.latest.ensures in
-    let is = tells.0 c.if-changes.true in
-    c.in_default.ensures is.0 is.1 (subst (λ (replies : List IndexedReply). slice_get replies is.0 ≡ Some is.1) (sym c.all-all.ensures.all) is.2) is.3
-
-pub returns-then-changes : goal.returns-then-changes
-returns-then-changes c =
-    let all : List IndexedReply = c.all-all.result.now in
-    let at = slice_get_read all (length all) c.loop-reply.reply-index c.reply-item.result refl c.loop-reply-test.true c.reply-item.is in
-    let first = c.in-Some.ensures in
-    subst (λ (replies : List IndexedReply). AreFirst IsChangedByReply replies c.reply-item.result c.in-Some.later.now) c.all-all.ensures.all
-    (is-first IsChangedByReply all c.loop-reply.reply-index first.j c.reply-item.result c.in-Some.later.now c.loop-reply.invariant at first.at-other first.so first.before)
-
-pub loop-reply-preserved : goal.loop-reply-preserved
-loop-reply-preserved c =
-    let all : List IndexedReply = c.all-all.result.now in
-    let at = slice_get_read all (length all) c.loop-reply.reply-index c.reply-item.result refl c.loop-reply-test.true c.reply-item.is in
-    let tells = c.changes.ensures c.args.replies.now c.all-all.ensures.spelled c.latest.ensures in
-    more-none IsChangedByReply all c.loop-reply.reply-index c.reply-item.result c.loop-reply.invariant at
-    (λ k later there is. let yes = tells.1 (k, later, subst (λ (replies : List IndexedReply). slice_get replies k ≡ Some later) c.all-all.ensures.all there, is) in let no = c.if-changes.false in cc)
 
 pub returns : goal.returns
 returns c =
-    let all : List IndexedReply = c.all-all.result.now in
-    subst (NoneStandSo IsChangedByReply) c.all-all.ensures.all (all-none IsChangedByReply all c.loop-reply.reply-index (omega (arith, c.loop-reply-test.false)) c.loop-reply.invariant)
+    subst (λ (replies : List IndexedReply). MatchOption c.first_of_several.result (NoneStandSo IsChangedByReply replies) (λ pair. AreFirst IsChangedByReply replies pair.0.now pair.1.now)) c.in_ok-several.ensures
+    c.first_of_several.ensures

@@ -1,4 +1,4 @@
-use Rattle.std.proofs.Common.{◌≡◌, ◌∙◌, ◌++◌, ◌∷◌, [], ℕ, List, None, Some, ap, rules, subst}
+use Rattle.std.proofs.Common.{◌≡◌, ◌∙◌, ℕ, List, None, Some, ap, rules, subst}
 use Rattle.std.specs.Prelude.{Contains}
 use Rattle.memory.specs.declared.final_seen.FinalSeen.{FinalSeen}
 use Rattle.asking.specs.FinalBindings.{Finals, IsKeptFor}
