@@ -242,9 +242,10 @@ def crates():
     """The crates of crates.txt, each with those of them that it uses."""
     listed = {}
     for line in (TOP / "crates.txt").read_text().splitlines():
+        # A static library says so behind its name.
         name, _, uses = line.partition(":")
         if name.strip():
-            listed[name.strip()] = uses.split()
+            listed[name.split()[0]] = uses.split()
     return {name: [used for used in uses if used in listed] for name, uses in listed.items()}
 
 

@@ -1,0 +1,5 @@
+pub mod Comparing
+pub mod Exports
+pub mod Finals
+pub mod Parts
+pub mod Told
