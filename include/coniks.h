@@ -28,9 +28,9 @@
  *
  * Of every call:
  *
- *   - Bytes are a pointer and a length. A pointer is never null, also where the length is 0. Buffers of one call do not
- *     overlap. Bytes do not change during a call, nor between the call that reads them and the one that checks them.
- *     Nothing is read or written outside of them.
+ *   - Bytes are a pointer and a length. A pointer is never null, also where the length is 0. What a call writes to
+ *     overlaps nothing else that it is given. Bytes do not change during a call, nor between the call that reads them and
+ *     the one that checks them. Nothing is read or written outside of them.
  *   - The library allocates nothing, keeps nothing between two calls, and may be called from several threads.
  *   - A part of bytes that were given is where it starts in them, and how long it is. It lies within them.
  *   - An answer is 0, or the number of a refusal: the first that applies. After a refusal the output is unchanged.
