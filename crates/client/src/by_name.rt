@@ -76,7 +76,7 @@ impl IndexedReply {
     }
 }
 
-/// Most names have one reply, which is kept without more.
+/// The one reply for a name, which is kept without more, as most names have one; or several.
 #[derive(Drop)]
 pub(crate) enum OneOrSeveral {
     One(IndexedReply),
