@@ -76,7 +76,7 @@ impl IndexedReply {
     }
 }
 
-/// The one reply for a name, which is kept without more, as most names have one; or several.
+/// Most names have one reply, which is kept without more.
 #[derive(Drop)]
 pub(crate) enum OneOrSeveral {
     One(IndexedReply),

@@ -1,6 +1,6 @@
-//! The latest of the replies for one name with one index, and the earliest of those that state a key with Final. Beside
-//! each stands the latest, or earliest, of those that state anything else. So whether one more reply changes one of them,
-//! or is changed by one, is known without going through them.
+//! The latest of the replies for one name with one index, and the earliest of those that state a key with Final. Of
+//! each also those that do not state the same: so one more reply is known to change one of them, or to be changed by one,
+//! without going through them.
 ghost use Rattle.std.specs.Prelude.{◌≡◌, ◌≢◌, ◌⊎◌, ◌↔◌, ◌<◌, ◌++◌, ◌∷◌, [], List, Option, IfOk, IsTrue};
 ghost use Rattle.std.specs.List.{AllByRecursion};
 ghost use Rattle.encoding.specs.declared.bound_key.BoundKey.{BoundKey};
@@ -20,7 +20,7 @@ use std::rc::Rc;
 #[derive(Drop)]
 pub(crate) struct Greatest {
     number: u64,
-    /// A reply of this number, or any where the number is 0.
+    /// A reply of this number.
     bytes: Rc<Vec<u8>>,
     /// The greatest of those that do not state what this reply does.
     other: u64,

@@ -1,4 +1,4 @@
-//! The accepted replies for one name, once there are two, in order of acceptance. Whether one of them changes what another states
+//! Two or more accepted replies for one name, in order of acceptance. Whether one of them changes what another states
 //! to be final is known at once, from the extremes of each index, which are kept as they come.
 ghost use Rattle.std.specs.Prelude.{◌≡◌, ◌↔◌, ◌++◌, ◌∷◌, [], ℕ, Some, IfOk, IsTrue, MatchOption, OnErr, OnOk, slice_get};
 ghost use Rattle.std.specs.List.{AllByRecursion};
