@@ -93,7 +93,7 @@ typedef struct {
 #define CONIKS_MALFORMED 1    /* the bytes are not of the form */
 #define CONIKS_TRAILING 2     /* more bytes follow a reply */
 #define CONIKS_OTHER_ROOT 3   /* the reply is of another root */
-#define CONIKS_BAD_VALUE 4    /* coniks_check: the caller says that the value is not accepted */
+#define CONIKS_BAD_VALUE 4    /* of a reply: the caller says that the value is not accepted */
 #define CONIKS_BAD_LINK 4     /* coniks_follows: the later root does not name the earlier one */
 #define CONIKS_SAME_INDEX 5   /* the leaf that should show absence is that of the name's own index */
 #define CONIKS_OTHER_PREFIX 6 /* the leaf that should show absence is not on the way of the name's index */
@@ -158,6 +158,7 @@ typedef struct {
  * state the same binding, or the two texts that are put into the buffers have one SHA-256 value. values_are_accepted:
  * whether both values are accepted for the name under the body's key. Each buffer has 2,400 bytes or more.
  * SHORT_BUFFER, BAD_BODY, BAD_NAME, then MALFORMED to BAD_PATH of the first reply, and of the second with OF_SECOND added.
+ * If the values are not both accepted, the first reply is refused, with BAD_VALUE at most.
  */
 uint8_t coniks_compare(const uint8_t *body, size_t body_len, const uint8_t *name, size_t name_len, const uint8_t *first,
                        size_t first_len, const uint8_t *second, size_t second_len, bool values_are_accepted, uint8_t *one,
@@ -170,20 +171,23 @@ uint8_t coniks_read_promise(const uint8_t *promise, size_t promise_len, coniks_p
  * Tests a promise, whose signature the caller verified, against a reply for its name under the signed root that follows
  * the root of the promise's epoch: 0 if the promised key stands there, BROKEN, OTHER_INDEX. The caller verified that
  * root too, and value_is_accepted says whether the reply's value is accepted for the promise's name under the key of the
- * root's body. If it was, BROKEN is evidence: keep the promise, the root and the reply, and show them to others.
+ * root's body. If it was, BROKEN is evidence, if promise and root verify under one
+ * provider's key: keep the promise, the root and the reply, and show them to others.
  * BAD_PROMISE, BAD_ROOT, NOT_NEXT, then MALFORMED to BAD_PATH, of the reply, in their order.
  */
 uint8_t coniks_test_promise(const uint8_t *promise, size_t promise_len, const uint8_t *root, size_t root_len,
                             const uint8_t *reply, size_t reply_len, bool value_is_accepted);
 
 #define CONIKS_NOT_LATER 14 /* the second root is not of a later epoch */
-#define CONIKS_CHANGED 23   /* the first reply states a key that is never changed, and the second anything else */
+#define CONIKS_CHANGED 23   /* the first reply states a key that is never changed, and the second, with its index, anything else */
 
 /*
  * Whether the second of two replies for a name, each under a signed root that the caller verified, changes what the
  * first states to be final: CHANGED, or 0. values_are_accepted: whether the value of each is accepted for the name under
- * the key of its root's body. If they are, CHANGED is evidence: keep both roots and both replies, and show them to others.
- * BAD_NAME, BAD_ROOT, NOT_LATER, then MALFORMED to BAD_PATH of the first reply, and of the second with OF_SECOND added.
+ * the key of its root's body. If they are, CHANGED is evidence, if both roots verify under one
+ * provider's key: keep both roots and both replies, and show them to others. Of two replies with two indices it says 0.
+ * BAD_NAME, BAD_ROOT, NOT_LATER, then MALFORMED to BAD_PATH of the first reply, and of the second with OF_SECOND added. If
+ * the values are not both accepted, the first reply is refused, with BAD_VALUE at most.
  */
 uint8_t coniks_test_final(const uint8_t *name, size_t name_len, const uint8_t *root, size_t root_len,
                           const uint8_t *reply, size_t reply_len, const uint8_t *later_root, size_t later_root_len,

@@ -46,8 +46,10 @@ module _ (hash : List ℕ → List ℕ) where
       (((b : Body) → ¬ Spells body_bytes IsBody body b) × (answer ≡ 9) × (after ≡ before))
       ⊎ ((b : Body) × Spells body_bytes IsBody body b × (
       ((¬ IsName name) × (answer ≡ 8) × (after ≡ before))
-      ⊎ ((refusal : Refusal) × Refuses hash (told is_accepted) b name bytes refusal × (answer ≡ reply_refusal_number refusal) × (after ≡ before))
+      ⊎ (IsName name × (
+      ((refusal : Refusal) × Refuses hash (told is_accepted) b name bytes refusal × (answer ≡ reply_refusal_number refusal) × (after ≡ before))
       ⊎ ((statement : Option BoundKey) × Accepts hash (told is_accepted) b name bytes statement × (answer ≡ 0) × ShowsStatement bytes statement after)
+      ))
       ))
 
 -- two signed roots, of which this answer says this; or 1, where one is none
@@ -87,16 +89,19 @@ Judges hash promise reply statement answer =
     ⊎ ((hash reply.value ≡ promise.index) × (statement ≡ Some promise.key) × (answer ≡ 0))
     ⊎ ((hash reply.value ≡ promise.index) × (statement ≢ Some promise.key) × (answer ≡ 19))
 
--- A promise is tested: the first that applies of 10, the promise is none; 11, the root is none; 12, it is not the one that
--- follows; the refusals of the reply.
+-- A promise is tested against a reply under a root: the first that applies of 12, the root is not the one that follows; the
+-- refusals of the reply; else it is judged.
+abbrev pub TestsUnder : (List ℕ → List ℕ) → Promise → SignedRoot → List ℕ → Bool → ℕ → Type 0
+TestsUnder hash promise root bytes is_accepted answer =
+    ((¬ IsNext promise root) × (answer ≡ 12))
+    ⊎ (IsNext promise root × ((refusal : Refusal) × Refuses hash (told is_accepted) root.body promise.name bytes refusal × (answer ≡ reply_refusal_number refusal)))
+    ⊎ (IsNext promise root × ((reply : Reply) × (is_accepted ≡ true) × IsAcceptedReply hash any root.body promise.name bytes reply × Judges hash promise reply (stated reply.end) answer))
+
+-- so for bytes: 10, the promise is none, and 11, the root is none, come before
 abbrev pub TestsPromise : (List ℕ → List ℕ) → List ℕ → List ℕ → List ℕ → Bool → ℕ → Type 0
 TestsPromise hash promise root bytes is_accepted answer =
     (((signed : SignedPromise) → ¬ SpellsPromise promise signed) × (answer ≡ 10))
     ⊎ ((signed : SignedPromise) × SpellsPromise promise signed × (
     (((next : SignedRoot) → ¬ SpellsRoot root next) × (answer ≡ 11))
-    ⊎ ((next : SignedRoot) × SpellsRoot root next × (
-    ((¬ IsNext signed.promise next) × (answer ≡ 12))
-    ⊎ (IsNext signed.promise next × ((refusal : Refusal) × Refuses hash (told is_accepted) next.body signed.promise.name bytes refusal × (answer ≡ reply_refusal_number refusal)))
-    ⊎ (IsNext signed.promise next × ((reply : Reply) × (is_accepted ≡ true) × IsAcceptedReply hash any next.body signed.promise.name bytes reply × Judges hash signed.promise reply (stated reply.end) answer))
-    ))
+    ⊎ ((next : SignedRoot) × SpellsRoot root next × TestsUnder hash signed.promise next bytes is_accepted answer)
     ))

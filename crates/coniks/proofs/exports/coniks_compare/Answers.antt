@@ -16,18 +16,22 @@ pub returns-in-Err : goal.returns-in-Err
 returns-in-Err c =
     let one = c.if-one-lt-TEXT_LEN.false in
     let other = c.if-other-lt-TEXT_LEN.false in
+    let is : IsName c.args.name.now = search rules in
     inr (
       omega (arith, one),
       omega (arith, other),
       inr (
         c.in-Ok.body,
         c.in-Ok.ensures.exact,
-        inr (inl (
-          c.in-Err.why,
-          subst (λ (name : List ℕ). Refuses sha256 (told c.args.values_are_accepted) c.in-Ok.body name c.args.first.now c.in-Err.why) c.in-Ok-new.ensures.value c.in-Err.ensures.refused,
-          c.number.ensures,
-          (refl, refl, refl),
-        )),
+        inr (
+          is,
+          inl (
+            c.in-Err.why,
+            subst (λ (name : List ℕ). Refuses sha256 (told c.args.values_are_accepted) c.in-Ok.body name c.args.first.now c.in-Err.why) c.in-Ok-new.ensures.value c.in-Err.ensures.refused,
+            c.number.ensures,
+            (refl, refl, refl),
+          ),
+        ),
       ),
     )
 
@@ -37,21 +41,25 @@ returns-in-Err-accept_told c =
     let other = c.if-other-lt-TEXT_LEN.false in
     let (holds, fits) = c.in-Ok-accept_told.ensures.accepted in
     let reply = c.in-Ok-accept_told.first.reply in
+    let is : IsName c.args.name.now = search rules in
     inr (
       omega (arith, one),
       omega (arith, other),
       inr (
         c.in-Ok.body,
         c.in-Ok.ensures.exact,
-        inr (inr (inl (
-          reply,
-          c.in-Err-accept_told.why,
-          holds,
-          subst (λ (name : List ℕ). IsAcceptedReply sha256 any c.in-Ok.body name c.args.first.now reply) c.in-Ok-new.ensures.value fits,
-          subst (λ (name : List ℕ). Refuses sha256 (told c.args.values_are_accepted) c.in-Ok.body name c.args.second.now c.in-Err-accept_told.why) c.in-Ok-new.ensures.value c.in-Err-accept_told.ensures.refused,
-          ap (λ (n : ℕ). 32 + n) c.number-in-Err-accept_told.ensures,
-          (refl, refl, refl),
-        ))),
+        inr (
+          is,
+          inr (inl (
+            reply,
+            c.in-Err-accept_told.why,
+            holds,
+            subst (λ (name : List ℕ). IsAcceptedReply sha256 any c.in-Ok.body name c.args.first.now reply) c.in-Ok-new.ensures.value fits,
+            subst (λ (name : List ℕ). Refuses sha256 (told c.args.values_are_accepted) c.in-Ok.body name c.args.second.now c.in-Err-accept_told.why) c.in-Ok-new.ensures.value c.in-Err-accept_told.ensures.refused,
+            ap (λ (n : ℕ). 32 + n) c.number-in-Err-accept_told.ensures,
+            (refl, refl, refl),
+          )),
+        ),
       ),
     )
 
@@ -61,19 +69,23 @@ returns c =
     let other = c.if-other-lt-TEXT_LEN.false in
     let (holds, fits) = c.in-Ok-accept_told.ensures.accepted in
     let (also, later) = c.in-Ok-accept_told-2.ensures.accepted in
+    let is : IsName c.args.name.now = search rules in
     inr (
       omega (arith, one),
       omega (arith, other),
       inr (
         c.in-Ok.body,
         c.in-Ok.ensures.exact,
-        inr (inr (inr (
-          c.in-Ok-accept_told.first.reply,
-          c.in-Ok-accept_told-2.second.reply,
-          holds,
-          subst (λ (name : List ℕ). IsAcceptedReply sha256 any c.in-Ok.body name c.args.first.now c.in-Ok-accept_told.first.reply) c.in-Ok-new.ensures.value fits,
-          subst (λ (name : List ℕ). IsAcceptedReply sha256 any c.in-Ok.body name c.args.second.now c.in-Ok-accept_told-2.second.reply) c.in-Ok-new.ensures.value later,
-          c.tell.ensures,
-        ))),
+        inr (
+          is,
+          inr (inr (
+            c.in-Ok-accept_told.first.reply,
+            c.in-Ok-accept_told-2.second.reply,
+            holds,
+            subst (λ (name : List ℕ). IsAcceptedReply sha256 any c.in-Ok.body name c.args.first.now c.in-Ok-accept_told.first.reply) c.in-Ok-new.ensures.value fits,
+            subst (λ (name : List ℕ). IsAcceptedReply sha256 any c.in-Ok.body name c.args.second.now c.in-Ok-accept_told-2.second.reply) c.in-Ok-new.ensures.value later,
+            c.tell.ensures,
+          )),
+        ),
       ),
     )
