@@ -75,6 +75,22 @@ module _ (replies : List IndexedReply) (x : IndexedReply) where
       by (inr (inl (k, w, here, is))) = absurd (all-at (λ (reply : IndexedReply). reply.index ≢ x.index) replies k w none here (sym is.1))
       by (inr (inr (k, w, here, is))) = absurd (all-at (λ (reply : IndexedReply). reply.index ≢ x.index) replies k w none here is.1)
 
+-- those of one reply
+pub one-alone : (x : IndexedReply) → SpellsOne x.bytes → (own : Extremes) → AreExtremes (x ∷ []) x.index own → AreByIndex (x ∷ []) x.index own [] false
+one-alone x spelled own is = record {
+  spelled = (spelled, tt);
+  first = is;
+  apart = refl;
+  rest = λ other extremes found. absurd cc;
+  whole = ((λ none. refl), tt);
+  changed = (λ never. absurd cc, λ some. no-two (some-split [] x some));
+}
+  where
+    no-two : SomeStandSo IsChangedByReply [] ⊎ (IsChangedAmong [] x ⊎ ChangesAmong [] x) → IsTrue false
+    no-two (inl (k, l, v, w, here, there, is)) = absurd cc
+    no-two (inr (inl (k, w, here, is))) = absurd cc
+    no-two (inr (inr (k, w, here, is))) = absurd cc
+
 -- ---- the extremes of each index
 
 module _ (replies : List IndexedReply) (index : List ℕ) (own : Extremes) (others : Map Extremes) (is_changed : Bool) (are : AreByIndex replies index own others is_changed) where

@@ -202,20 +202,12 @@ lt-tells n m = (λ is. ltb-true n m is, λ low. search rules)
 
 -- ---- one of these that does not state what a reply does, above a number
 
-record HasOther (Is : IndexedReply → Type 0) (number : IndexedReply → ℕ) (replies : List IndexedReply) (n : ℕ) (t : Option BoundKey) : Type 0 where
-  pub place : ℕ
-  pub reply : IndexedReply
-  pub at : slice_get replies place ≡ Some reply
-  pub is : Is reply
-  pub above : n < number reply
-  pub other : ¬ BytesState reply.bytes t
-
 -- a test tells whether there is one
 abbrev pub TellsAbove : Greatest → ℕ → Option BoundKey → Option BoundKey → Bool → Type 0
 TellsAbove greatest n t s test = ((t ≡ s) × (IsTrue test ↔ (n < greatest.other))) ⊎ ((t ≢ s) × (IsTrue test ↔ (n < greatest.number)))
 
 has-other : {Is : IndexedReply → Type 0} {number : IndexedReply → ℕ} {replies : List IndexedReply} {greatest : Greatest} (n : ℕ) (t : Option BoundKey) (test : Bool) → (is : IsGreatest Is number replies greatest)
-    → TellsAbove greatest n t is.statement test → IsTrue test ↔ HasOther Is number replies n t
+    → TellsAbove greatest n t is.statement test → IsTrue test ↔ IsReachedByOther Is number replies t n
 has-other {Is} {number} {replies} {greatest} n t test is (inl (same, tells)) = (
   λ yes. let r = is.are.other_reached n (tells.0 yes) in record { place = r.place; reply = r.reply; at = r.at; is = r.is; above = r.above; other = λ it. r.other (subst (BytesState r.reply.bytes) same it) },
   λ has.
@@ -287,3 +279,14 @@ module _ (replies : List IndexedReply) (spelled : AllByRecursion (λ reply. Spel
           other = λ it. change.changed (one-statement x.bytes (stated change.other.end) t (change.other, change.later_spelled, refl) says ∙ one-statement w.bytes t (stated change.one.end) it (change.one, change.spelled, refl));
         }),
       )
+
+-- none is earlier than the earliest
+pub none-earlier : (replies : List IndexedReply) (x : IndexedReply) (earliest : Greatest) → IsEarliest replies x.index earliest → x.epoch < 2 ^ 64 → (n : ℕ) → n ≡ below_last x.epoch → earliest.number ≤ n
+    → IsTrue false ↔ ChangesAmong replies x
+none-earlier replies x earliest is fits n n-is low = (
+  λ never. absurd cc,
+  λ (k, w, at, (later, index, change)).
+      let final : StatesFinal w = (stated change.one.end, (change.one, change.spelled, refl), change.final) in
+      let high = (all-at _ replies k w is.are.upper at (index, final)).0 in
+      absurd (omega (arith, high, low, later, n-is, fits)),
+)

@@ -1,5 +1,4 @@
--- The latest of the replies with one index, and the earliest of those that state a key with Final, as they are gone
--- through.
+-- The latest of the replies with one index, and the earliest of those that state a key with Final.
 use Rattle.std.specs.Prelude.{◌≡◌, ◌≢◌, ◌↔◌, ℕ, ◌<◌, ◌≤◌, ◌-◌, ◌^◌, Bool, true, IsTrue, List, Option, Some, None, slice_get}
 use Rattle.std.specs.List.{AllByRecursion}
 use Rattle.encoding.specs.Maps.{Map, at}

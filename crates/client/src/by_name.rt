@@ -2,11 +2,15 @@
 //! for the others.
 ghost use Rattle.std.specs.Prelude.{◌≡◌, ◌<◌, ◌^◌, ◌++◌, ◌∷◌, [], ℕ, List, None, IfOk, MatchOption, OnErr, OnOk, option_map};
 ghost use Rattle.encoding.specs.Maps.{at};
+ghost use Rattle.proofs.specs.Views.{key_stated};
 ghost use Rattle.client.specs.Agreements.{SpellsOne};
+ghost use Rattle.client.specs.Extremes.{BytesState};
 ghost use Rattle.client.specs.Finality.{ByName, HasOneMore, HaveTheSame, IndexedReply as Reply};
 
+use crate::looks::statement;
 use crate::several::Several;
 use encoding::{Index, Name};
+use proofs::Statement;
 use std::alloc::{AllocError, Global};
 use std::collections::BTreeMap;
 use std::marker::Model;
@@ -58,6 +62,14 @@ impl IndexedReply {
         self.bytes.as_slice()
     }
 
+    /// What it states.
+    pub(crate) fn statement(&self) -> Statement<'_>
+        requires { SpellsOne self.now.bytes }
+        ensures { BytesState self.now.bytes (key_stated result) }
+    {
+        statement(self.bytes())
+    }
+
     /// A copy, with the same bytes.
     fn copied(&self) -> Result<IndexedReply, AllocError>
         ensures { IfOk result (λ reply. reply ≡ self.now) }
@@ -76,7 +88,7 @@ impl IndexedReply {
     }
 }
 
-/// Most names have one reply, which is kept without more.
+/// The one reply for a name, which is kept without more, as most names have one; or several.
 #[derive(Drop)]
 pub(crate) enum OneOrSeveral {
     One(IndexedReply),

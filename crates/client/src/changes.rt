@@ -29,7 +29,10 @@ fn first_of_several<'a>(replies: &'a Several) -> Option<(&'a IndexedReply, &'a I
     }
     let all = replies.all();
     for reply in all {
-        if replies.extremes(reply).change(reply) {
+        if replies
+            .extremes(reply)
+            .has_change_of(reply, reply.statement())
+        {
             let Some(later) = first_to_change(all, reply) else {
                 unreachable!()
             };

@@ -1,6 +1,6 @@
-//! The latest of the replies for one name with one index, and the earliest of those that state a key with Final. Of
-//! each also those that do not state the same: so one more reply is known to change one of them, or to be changed by one,
-//! without going through them.
+//! The latest of the replies for one name with one index, and the earliest of those that state a key with Final. Beside
+//! each stands the latest, or earliest, of those that state anything else. So whether one more reply changes one of them,
+//! or is changed by one, is known without going through them.
 ghost use Rattle.std.specs.Prelude.{◌≡◌, ◌≢◌, ◌⊎◌, ◌↔◌, ◌<◌, ◌++◌, ◌∷◌, [], List, Option, IfOk, IsTrue};
 ghost use Rattle.std.specs.List.{AllByRecursion};
 ghost use Rattle.encoding.specs.declared.bound_key.BoundKey.{BoundKey};
@@ -20,7 +20,7 @@ use std::rc::Rc;
 #[derive(Drop)]
 pub(crate) struct Greatest {
     number: u64,
-    /// A reply of this number.
+    /// A reply of this number, or any where the number is 0.
     bytes: Rc<Vec<u8>>,
     /// The greatest of those that do not state what this reply does.
     other: u64,
@@ -57,13 +57,18 @@ impl Greatest {
     }
 
     /// The greatest once this reply, of this number, is behind the others.
-    fn with(&self, number: u64, reply: &IndexedReply) -> Result<Greatest, AllocError>
+    fn with(
+        &self,
+        number: u64,
+        reply: &IndexedReply,
+        stated: Statement<'_>,
+    ) -> Result<Greatest, AllocError>
         requires spelled { SpellsOne (self.now).bytes.value.items }
-        requires reply_spelled { SpellsOne reply.now.bytes }
+        requires stated { BytesState reply.now.bytes (key_stated stated) }
         ensures latest { IfOk result (λ greatest. (before : List Reply) → number ≡ reply.now.epoch → IsLatest before reply.now.index self.now → IsLatest (before ++ reply.now ∷ []) reply.now.index greatest) }
         ensures earliest { IfOk result (λ greatest. (before : List Reply) → number ≡ below_last reply.now.epoch → StatesFinal reply.now → IsEarliest before reply.now.index self.now → IsEarliest (before ++ reply.now ∷ []) reply.now.index greatest) }
     {
-        let same = statement(reply.bytes()) == self.statement();
+        let same = stated == self.statement();
         if number <= self.number {
             let bytes = self.bytes.clone()?;
             if same || number <= self.other {
@@ -114,11 +119,11 @@ pub(crate) struct Extremes {
 
 impl Extremes {
     /// Those of one reply, where no other has its index.
-    pub(crate) fn of(reply: &IndexedReply) -> Result<Extremes, AllocError>
-        requires { SpellsOne reply.now.bytes }
+    pub(crate) fn of(reply: &IndexedReply, stated: Statement<'_>) -> Result<Extremes, AllocError>
+        requires { BytesState reply.now.bytes (key_stated stated) }
         ensures { IfOk result (λ extremes. (before : List Reply) → HasNoSuch before reply.now.index → AreExtremes (before ++ reply.now ∷ []) reply.now.index extremes) }
     {
-        let number = if statement(reply.bytes()).is_final() {
+        let number = if stated.is_final() {
             u64::MAX - reply.epoch()
         } else {
             0
@@ -130,15 +135,19 @@ impl Extremes {
     }
 
     /// Those once this reply, with the same index, is behind the others.
-    pub(crate) fn with(&self, reply: &IndexedReply) -> Result<Extremes, AllocError>
+    pub(crate) fn with(
+        &self,
+        reply: &IndexedReply,
+        stated: Statement<'_>,
+    ) -> Result<Extremes, AllocError>
         requires latest { SpellsOne (self.now).latest.bytes.value.items }
         requires earliest { SpellsOne (self.now).earliest.bytes.value.items }
-        requires spelled { SpellsOne reply.now.bytes }
+        requires stated { BytesState reply.now.bytes (key_stated stated) }
         ensures { IfOk result (λ extremes. (before : List Reply) → AreExtremes before reply.now.index self.now → AreExtremes (before ++ reply.now ∷ []) reply.now.index extremes) }
     {
-        let latest = self.latest.with(reply.epoch(), reply)?;
-        let earliest = if statement(reply.bytes()).is_final() {
-            self.earliest.with(u64::MAX - reply.epoch(), reply)?
+        let latest = self.latest.with(reply.epoch(), reply, stated)?;
+        let earliest = if stated.is_final() {
+            self.earliest.with(u64::MAX - reply.epoch(), reply, stated)?
         } else {
             self.earliest.copied()?
         };
@@ -146,36 +155,38 @@ impl Extremes {
     }
 
     /// Whether a reply with the index states a key with Final, and one of these changes it.
-    pub(crate) fn change(&self, reply: &IndexedReply) -> bool
+    pub(crate) fn has_change_of(&self, reply: &IndexedReply, stated: Statement<'_>) -> bool
         requires latest { SpellsOne (self.now).latest.bytes.value.items }
-        requires spelled { SpellsOne reply.now.bytes }
+        requires stated { BytesState reply.now.bytes (key_stated stated) }
         ensures { (replies : List Reply) → AllByRecursion (λ reply. SpellsOne reply.bytes) replies
             → AreExtremes replies reply.now.index self.now → IsTrue result ↔ IsChangedAmong replies reply.now }
     {
-        let stated = statement(reply.bytes());
         stated.is_final() && self.latest.has_other_above(reply.epoch(), stated)
     }
 
     /// Whether a reply with the index changes one of these, or one of these changes it.
-    pub(crate) fn change_with(&self, reply: &IndexedReply) -> bool
+    pub(crate) fn has_change_with(&self, reply: &IndexedReply, stated: Statement<'_>) -> bool
         requires latest { SpellsOne (self.now).latest.bytes.value.items }
         requires earliest { SpellsOne (self.now).earliest.bytes.value.items }
-        requires spelled { SpellsOne reply.now.bytes }
+        requires stated { BytesState reply.now.bytes (key_stated stated) }
         ensures { (replies : List Reply) → AllByRecursion (λ reply. SpellsOne reply.bytes) replies
             → AreExtremes replies reply.now.index self.now → IsTrue result ↔ (IsChangedAmong replies reply.now ⊎ ChangesAmong replies reply.now) }
     {
-        self.change(reply) || self.are_changed_by(reply)
+        self.has_change_of(reply, stated) || self.are_changed_by(reply, stated)
     }
 
     /// Whether a reply with the index changes one of these.
-    fn are_changed_by(&self, reply: &IndexedReply) -> bool
+    fn are_changed_by(&self, reply: &IndexedReply, stated: Statement<'_>) -> bool
         requires earliest { SpellsOne (self.now).earliest.bytes.value.items }
-        requires spelled { SpellsOne reply.now.bytes }
+        requires stated { BytesState reply.now.bytes (key_stated stated) }
         ensures { (replies : List Reply) → AllByRecursion (λ reply. SpellsOne reply.bytes) replies
             → AreExtremes replies reply.now.index self.now → IsTrue result ↔ ChangesAmong replies reply.now }
     {
         let number = u64::MAX - reply.epoch();
-        self.earliest
-            .has_other_above(number, statement(reply.bytes()))
+        // Where nothing is final, nothing is read.
+        if self.earliest.number <= number {
+            return false;
+        }
+        self.earliest.has_other_above(number, stated)
     }
 }

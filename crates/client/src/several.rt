@@ -1,5 +1,5 @@
-//! Two or more accepted replies for one name, in order of acceptance. Whether one of them changes what another states
-//! to be final is known at once, from the extremes of each index, which are kept as they come.
+//! The accepted replies for one name, once there are two, in order of acceptance. Whether one of them changes what
+//! another states to be final is known at once, from the extremes of each index, which are kept as they come.
 ghost use Rattle.std.specs.Prelude.{◌≡◌, ◌↔◌, ◌++◌, ◌∷◌, [], ℕ, Some, IfOk, IsTrue, MatchOption, OnErr, OnOk, slice_get};
 ghost use Rattle.std.specs.List.{AllByRecursion};
 ghost use Rattle.client.specs.Agreements.{SpellsOne};
@@ -46,7 +46,7 @@ impl Several {
         ensures { IfOk result (λ replies. replies ≡ reply ∷ []) }
     {
         let index = reply.index();
-        let own = Extremes::of(&reply)?;
+        let own = Extremes::of(&reply, reply.statement())?;
         let mut list = Vec::with_capacity(alloc, 2)?;
         list.push_reserved(reply);
         Ok(Several {
@@ -110,12 +110,13 @@ impl Several {
         requires { SpellsOne reply.now.bytes }
         ensures { IfOk result (λ pair. AreExtremes (self.now ++ reply.now ∷ []) reply.now.index pair.0 × (IsTrue pair.1 ↔ SomeStandSo IsChangedByReply (self.now ++ reply.now ∷ []))) }
     {
+        let stated = reply.statement();
         match self.known(reply) {
             Some(known) => {
-                let is_changed = self.is_changed || known.change_with(reply);
-                Ok((known.with(reply)?, is_changed))
+                let is_changed = self.is_changed || known.has_change_with(reply, stated);
+                Ok((known.with(reply, stated)?, is_changed))
             }
-            None => Ok((Extremes::of(reply)?, self.is_changed)),
+            None => Ok((Extremes::of(reply, stated)?, self.is_changed)),
         }
     }
 

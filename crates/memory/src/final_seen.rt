@@ -36,7 +36,7 @@ fn fitting(epoch: u64) -> u64
     epoch
 }
 
-/// These bytes as the text of a proof, with what its contract leaves out: that they are bytes.
+/// These bytes as the text of a proof. What `ProofText::of` does not say of it: its elements are bytes.
 fn text_of(bytes: &[u8]) -> ProofText
     requires { length bytes.now ≤ PROOF_TEXT_ROOM }
     ensures value { result ≡ bytes.now }

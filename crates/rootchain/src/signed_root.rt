@@ -83,9 +83,10 @@ impl SignedRoot {
         verifier.verify(key, self.body.write().bytes(), self.signature.bytes())
     }
 
-    /// Whether it names the earlier root as the one before it.
+    /// Whether it names the earlier root as the one before it, by its epoch and the hash of its body (CONIKS, section 3).
+    /// Neither signature is verified. Takes at most one digest, and none where the epoch is another.
     #[tactic(auto, unfolding(crate::specs::Chains::Names))]
-    pub(crate) fn names<H: NodeHash>(&self, hash: &mut H, earlier: &SignedRoot) -> bool
+    pub fn names<H: NodeHash>(&self, hash: &mut H, earlier: &SignedRoot) -> bool
         ensures value { IsTrue result ↔ Names H.digest_of earlier.now self.now }
         ensures counted { H.digests hash.new ≤ H.digests hash.old + 1 }
         ensures spared { self.now.body.previous_epoch ≢ earlier.now.body.epoch → H.digests hash.new ≡ H.digests hash.old }

@@ -9,12 +9,12 @@ use Rattle.client.proofs.changes.first_of_several.Goals as goal
 
 pub unreachable-requires : goal.unreachable-requires
 unreachable-requires c =
-    let tells = c.change.ensures c.args.replies.now c.all-all.ensures.spelled c.extremes.ensures in
-    let is = tells.0 c.if-change.true in
+    let tells = c.has_change_of.ensures c.args.replies.now c.all-all.ensures.spelled c.extremes.ensures in
+    let is = tells.0 c.if-has_change_of.true in
     c.in_default.ensures is.0 is.1 (subst (λ (replies : List IndexedReply). slice_get replies is.0 ≡ Some is.1) (sym c.all-all.ensures.all) is.2) is.3
 
-pub returns-then-change : goal.returns-then-change
-returns-then-change c =
+pub returns-then-has_change_of : goal.returns-then-has_change_of
+returns-then-has_change_of c =
     let all : List IndexedReply = c.all-all.result.now in
     let at = slice_get_read all (length all) c.loop-reply.reply-index c.reply-item.result refl c.loop-reply-test.true c.reply-item.is in
     let first = c.in-Some.ensures in
@@ -25,9 +25,9 @@ pub loop-reply-preserved : goal.loop-reply-preserved
 loop-reply-preserved c =
     let all : List IndexedReply = c.all-all.result.now in
     let at = slice_get_read all (length all) c.loop-reply.reply-index c.reply-item.result refl c.loop-reply-test.true c.reply-item.is in
-    let tells = c.change.ensures c.args.replies.now c.all-all.ensures.spelled c.extremes.ensures in
+    let tells = c.has_change_of.ensures c.args.replies.now c.all-all.ensures.spelled c.extremes.ensures in
     more-none IsChangedByReply all c.loop-reply.reply-index c.reply-item.result c.loop-reply.invariant at
-    (λ k later there is. let yes = tells.1 (k, later, subst (λ (replies : List IndexedReply). slice_get replies k ≡ Some later) c.all-all.ensures.all there, is) in let no = c.if-change.false in cc)
+    (λ k later there is. let yes = tells.1 (k, later, subst (λ (replies : List IndexedReply). slice_get replies k ≡ Some later) c.all-all.ensures.all there, is) in let no = c.if-has_change_of.false in cc)
 
 pub returns : goal.returns
 returns c =
@@ -43,11 +43,11 @@ extremes-requires c =
     let at = slice_get_read all (length all) c.loop-reply.reply-index c.reply-item.result refl c.loop-reply-test.true c.reply-item.is in
     (c.loop-reply.reply-index, subst (λ (replies : List IndexedReply). slice_get replies c.loop-reply.reply-index ≡ Some c.reply-item.result) c.all-all.ensures.all at)
 
-pub change-requires-clause-latest : goal.change-requires-clause-latest
-change-requires-clause-latest c = greatest-spelled c.extremes.ensures.0
+pub has_change_of-requires-clause-latest : goal.has_change_of-requires-clause-latest
+has_change_of-requires-clause-latest c = greatest-spelled c.extremes.ensures.0
 
-pub change-requires-clause-spelled : goal.change-requires-clause-spelled
-change-requires-clause-spelled c =
+pub statement-requires : goal.statement-requires
+statement-requires c =
     let all : List IndexedReply = c.all-all.result.now in
     let at = slice_get_read all (length all) c.loop-reply.reply-index c.reply-item.result refl c.loop-reply-test.true c.reply-item.is in
     all-at (λ (reply : IndexedReply). SpellsOne reply.bytes) all c.loop-reply.reply-index c.reply-item.result (rw (← c.all-all.ensures.all) at c.all-all.ensures.spelled) at

@@ -2,11 +2,11 @@ use Rattle.client.proofs.ByIndex.{greatest-spelled, some-alone, some-kept, some-
 use Rattle.client.proofs.several.Several.with.Goals as goal
 use Rattle.client.proofs.several.Several.with.Goals.{then-self, else-self}
 
-pub change_with-is_changed-requires-clause-latest : goal.change_with-is_changed-requires-clause-latest
-change_with-is_changed-requires-clause-latest c = greatest-spelled c.in-Some.ensures.0
+pub has_change_with-is_changed-requires-clause-latest : goal.has_change_with-is_changed-requires-clause-latest
+has_change_with-is_changed-requires-clause-latest c = greatest-spelled c.in-Some.ensures.0
 
-pub change_with-is_changed-requires-clause-earliest : goal.change_with-is_changed-requires-clause-earliest
-change_with-is_changed-requires-clause-earliest c = greatest-spelled c.in-Some.ensures.1
+pub has_change_with-is_changed-requires-clause-earliest : goal.has_change_with-is_changed-requires-clause-earliest
+has_change_with-is_changed-requires-clause-earliest c = greatest-spelled c.in-Some.ensures.1
 
 pub with-requires-clause-latest : goal.with-requires-clause-latest
 with-requires-clause-latest c = greatest-spelled c.in-Some.ensures.0
@@ -21,7 +21,7 @@ returns-in_ok-with-in-Some c =
       c.in_ok-with-in-Some.ensures c.args.self.now c.in-Some.ensures,
       elim c.if-self.branch [
         | then-self w ↦ rw (w.is_changed-is) (some-kept c.args.self.now c.args.reply.now c.self.inside.is_changed exact w.if-self.true)
-        | else-self w ↦ rw (w.is_changed-is) (some-more c.args.self.now c.args.reply.now c.self.inside.is_changed w.change_with-is_changed.result exact w.if-self.false (w.change_with-is_changed.ensures c.args.self.now spelled c.in-Some.ensures))
+        | else-self w ↦ rw (w.is_changed-is) (some-more c.args.self.now c.args.reply.now c.self.inside.is_changed w.has_change_with-is_changed.result exact w.if-self.false (w.has_change_with-is_changed.ensures c.args.self.now spelled c.in-Some.ensures))
       ],
     )
 
