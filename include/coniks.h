@@ -6,7 +6,9 @@
  * docs/FORMATS.md has the bytes. What each call answers is proved for whatever bytes it is given.
  *
  * Two things are the caller's, since they need the provider's real cryptography: whether a signature verifies, and
- * whether a value of the verifiable function is accepted for a name. The calls say which bytes to ask about.
+ * whether a value of the verifiable function is accepted for a name. The calls say which bytes to ask about. At most one
+ * value may be accepted for a name under a key, since the name's index is its SHA-256: with a scheme that accepts two, a
+ * provider can show two keys under one root. Proofs of ECVRF (RFC 9381) are not such values, as there are several for a name.
  *
  * To check a reply under a root:
  *
@@ -16,15 +18,19 @@
  *   4. coniks_check with the body of the root of step 1, and that answer. Never with the reply's own body: OTHER_ROOT is
  *      what ties the reply, and its vuf_key, to the root whose signature you verified.
  *
+ * To take a promise: coniks_read_promise; verify promise.signature of promise.promise; compare name, key and policy with
+ * what you asked for, and body_hash with the SHA-256 of the body of your root of that epoch, by a SHA-256 of your own. Once
+ * you have the next root, coniks_test_promise.
+ *
  * The library keeps no root. A client keeps those that it took, its chain. A root whose signature verifies is taken
  *
  *   - as the first, if the client has none;
  *   - if coniks_follows with the last one answers 0.
  *
- * Any other is not taken. If its body is that of one in the chain, it is known, and only the last one is the latest. If
- * its previous_epoch is above the epoch of the last one, ask the provider for the roots between. Else ask coniks_evidence
- * with it and its neighbours in the chain: 0 says only that these two show nothing. docs/FORMATS.md, "Where a root stands
- * to a chain", has every case.
+ * Any other is not taken. If its body is that of one in the chain, it is known, and is the latest only if that is the last
+ * one. If its previous_epoch is above the epoch of the last one, ask the provider for the roots between. Else ask
+ * coniks_evidence with it and its neighbours in the chain: 0 says only that these two show nothing. docs/FORMATS.md, "Where
+ * a root stands to a chain", has every case.
  *
  * Of every call:
  *
@@ -76,6 +82,7 @@ typedef struct {
 /* A signed promise: up to 2,640 bytes. */
 typedef struct {
     uint64_t epoch;        /* the epoch in which the provider made it */
+    coniks_part body_hash; /* the SHA-256 of the body of the root of that epoch: 32 bytes */
     coniks_part promise;   /* what is signed */
     coniks_part signature; /* 1 to 256 bytes */
     coniks_part name;      /* 1 to 255 bytes */
@@ -103,7 +110,7 @@ typedef struct {
 
 #define CONIKS_BAD_PROMISE 10  /* the promise is not of the form */
 #define CONIKS_BAD_ROOT 11     /* the root is not of the form */
-#define CONIKS_NOT_NEXT 12     /* the root does not name that of the promise as the one before it */
+#define CONIKS_NOT_NEXT 12     /* the root does not name that of the promise as the one before it: give the root that does */
 
 #define CONIKS_FORK 16 /* two bodies of one epoch */
 #define CONIKS_LINK 17 /* the second names the epoch of the first as the one before, but not its hash */
@@ -139,11 +146,11 @@ uint8_t coniks_check(const uint8_t *body, size_t body_len, const uint8_t *name, 
                      size_t reply_len, bool value_is_accepted, coniks_binding *binding);
 
 #define CONIKS_BROKEN 19      /* the reply does not state what was promised */
-#define CONIKS_OTHER_INDEX 20 /* the name has another index than the promise says */
+#define CONIKS_OTHER_INDEX 20 /* the name has another index than the promise says: it shows nothing */
 
-#define CONIKS_SHORT_BUFFER 13 /* a buffer has fewer than 2,400 bytes */
+#define CONIKS_SHORT_BUFFER 13 /* a buffer has fewer than 2,400 bytes, or fewer than 64 parts */
 #define CONIKS_OF_SECOND 32    /* what is added to a refusal of the second reply */
-#define CONIKS_TWO_VALUES 21   /* the replies state two things, and have two indices */
+#define CONIKS_TWO_VALUES 21   /* they state two things, and have two indices: two values were accepted */
 #define CONIKS_COLLISION 22    /* they state two things, and two different texts have one SHA-256 value */
 
 /* How long the two texts of a collision are. */
@@ -155,14 +162,15 @@ typedef struct {
 /*
  * Compares two replies for a name under the body of one root, of which the caller verified the signature: 0 if they state
  * the same, TWO_VALUES, COLLISION. There is no other answer to two replies that are accepted: so with one index they
- * state the same binding, or the two texts that are put into the buffers have one SHA-256 value. values_are_accepted:
- * whether both values are accepted for the name under the body's key. Each buffer has 2,400 bytes or more.
+ * state the same binding, or the two texts that are put into the buffers have one SHA-256 value. first_is_accepted and
+ * second_is_accepted: whether the value of that reply is accepted for the name under the body's key. Each buffer has 2,400
+ * bytes or more.
  * SHORT_BUFFER, BAD_BODY, BAD_NAME, then MALFORMED to BAD_PATH of the first reply, and of the second with OF_SECOND added.
- * If the values are not both accepted, the first reply is refused, with BAD_VALUE at most.
  */
 uint8_t coniks_compare(const uint8_t *body, size_t body_len, const uint8_t *name, size_t name_len, const uint8_t *first,
-                       size_t first_len, const uint8_t *second, size_t second_len, bool values_are_accepted, uint8_t *one,
-                       size_t one_len, uint8_t *other, size_t other_len, coniks_lens *lens);
+                       size_t first_len, const uint8_t *second, size_t second_len, bool first_is_accepted,
+                       bool second_is_accepted, uint8_t *one, size_t one_len, uint8_t *other, size_t other_len,
+                       coniks_lens *lens);
 
 /* Reads a signed promise. Its signature is the caller's to verify. MALFORMED. */
 uint8_t coniks_read_promise(const uint8_t *promise, size_t promise_len, coniks_promise *parts);
@@ -183,15 +191,89 @@ uint8_t coniks_test_promise(const uint8_t *promise, size_t promise_len, const ui
 
 /*
  * Whether the second of two replies for a name, each under a signed root that the caller verified, changes what the
- * first states to be final: CHANGED, or 0. values_are_accepted: whether the value of each is accepted for the name under
- * the key of its root's body. If they are, CHANGED is evidence, if both roots verify under one
+ * first states to be final: CHANGED, or 0. value_is_accepted and later_value_is_accepted: whether the value of that reply is
+ * accepted for the name under the key of its root's body. If both are, CHANGED is evidence, if both roots verify under one
  * provider's key: keep both roots and both replies, and show them to others. Of two replies with two indices it says 0.
- * BAD_NAME, BAD_ROOT, NOT_LATER, then MALFORMED to BAD_PATH of the first reply, and of the second with OF_SECOND added. If
- * the values are not both accepted, the first reply is refused, with BAD_VALUE at most.
+ * BAD_NAME, BAD_ROOT, NOT_LATER, then MALFORMED to BAD_PATH of the first reply, and of the second with OF_SECOND added.
  */
 uint8_t coniks_test_final(const uint8_t *name, size_t name_len, const uint8_t *root, size_t root_len,
                           const uint8_t *reply, size_t reply_len, const uint8_t *later_root, size_t later_root_len,
-                          const uint8_t *later_reply, size_t later_reply_len, bool values_are_accepted);
+                          const uint8_t *later_reply, size_t later_reply_len, bool value_is_accepted,
+                          bool later_value_is_accepted);
+
+/*
+ * The frames of this repository's directory: 4 bytes with the length of what follows, a byte with the kind, and the body.
+ * A client of another protocol does not need them. What a client has to test of each answer, beside what these calls do,
+ * has docs/FORMATS.md, "What a client tests of a response".
+ *
+ * Each of these writes a request to the front of a buffer of 2,400 bytes or more, and its length to len. A name has 1 to
+ * 255 bytes, a key 1 to 2,048. SHORT_BUFFER, then BAD_NAME, BAD_KEY, BAD_POLICY, BAD_TOKEN, BAD_NONCE.
+ */
+#define CONIKS_BAD_KEY 24    /* the key has no or more than 2,048 bytes */
+#define CONIKS_BAD_POLICY 25 /* the byte is neither 0, nor 1, nor 2 */
+#define CONIKS_BAD_TOKEN 26  /* the token does not have 32 bytes */
+#define CONIKS_BAD_NONCE 27  /* the nonce has neither 32 bytes nor none */
+
+/*
+ * To bind a key to a name, or to change the key that it has, with a policy, or with 0 for none. Answered by PROMISED. This
+ * and each other request may be answered by REFUSED.
+ */
+uint8_t coniks_write_put(bool is_change, const uint8_t *name, size_t name_len, const uint8_t *key, size_t key_len,
+                         uint8_t policy, uint8_t *frame, size_t frame_len, size_t *len);
+
+/* To get the promise for a name, of which an operation waits for the next epoch. Answered by PROMISED. */
+uint8_t coniks_write_promise(const uint8_t *name, size_t name_len, uint8_t *frame, size_t frame_len, size_t *len);
+
+/* To look a name up at an epoch, or at the latest with 0. Answered by PROOF. */
+uint8_t coniks_write_lookup(const uint8_t *name, size_t name_len, uint64_t epoch, uint8_t *frame, size_t frame_len,
+                            size_t *len);
+
+/*
+ * To get up to count signed roots, from the first one of this epoch or later on. A directory refuses a count of 0 or above
+ * 64. Answered by ROOTS.
+ */
+uint8_t coniks_write_history(uint64_t from, uint16_t count, uint8_t *frame, size_t frame_len, size_t *len);
+
+/* To get the latest signed root. Answered by ROOT. */
+uint8_t coniks_write_head(uint8_t *frame, size_t frame_len, size_t *len);
+
+/*
+ * The operator's order to end the epoch. The next one has this number, above the latest, and its tree this nonce; or that of
+ * the last tree, if nonce_len is 0. Answered by ROOT.
+ */
+uint8_t coniks_write_turn(const uint8_t *token, size_t token_len, uint64_t epoch, const uint8_t *nonce,
+                          size_t nonce_len, uint8_t *frame, size_t frame_len, size_t *len);
+
+/* The kinds of answers, and which call reads the body of each. */
+#define CONIKS_PROMISED 129 /* a signed promise: coniks_read_promise */
+#define CONIKS_PROOF 130    /* a reply: coniks_read_reply */
+#define CONIKS_ROOTS 131    /* a list of signed roots: coniks_read_roots */
+#define CONIKS_ROOT 132     /* a signed root: coniks_read_root */
+#define CONIKS_REFUSED 255  /* the directory refuses: coniks_read_refused */
+
+#define CONIKS_SHORT_FRAME 28 /* the bytes end within a frame: more have to come */
+
+/* A frame at the front of bytes: 5 + body.len of them. */
+typedef struct {
+    uint8_t kind;
+    coniks_part body; /* at most 65,535 bytes */
+} coniks_frame;
+
+/*
+ * Reads the frame at the front of bytes that came. SHORT_FRAME; MALFORMED if its length, in the first four bytes, is 0 or
+ * above 65,536: then nothing that comes can be read, and the connection is to be closed.
+ */
+uint8_t coniks_read_frame(const uint8_t *bytes, size_t len, coniks_frame *frame);
+
+/*
+ * Reads a list of signed roots: count of them, root n at roots[n], to be read by coniks_read_root and taken as above, in
+ * order. A known root is passed over; if one is neither known nor taken, none of the list is. roots_len counts parts, not
+ * bytes: 64 or more. Those behind the last root are as they were. SHORT_BUFFER, MALFORMED.
+ */
+uint8_t coniks_read_roots(const uint8_t *list, size_t list_len, coniks_part *roots, size_t roots_len, size_t *count);
+
+/* Reads the body of a refusal: the directory's number, which is none of those above. docs/FORMATS.md has them. MALFORMED. */
+uint8_t coniks_read_refused(const uint8_t *body, size_t body_len, uint8_t *number);
 
 /*
  * The stand-ins that this repository's directory runs with, for trying. They give no security. A key of another length

@@ -140,6 +140,12 @@ module _ (promise : Promise) (is : IsPromise promise) where
       ∙ ap (λ (xs : List ℕ). policy ++ xs) (append_assoc (counted_bytes promise.name) (counted_bytes promise.key.value) more)))
       ∙ sym (append_assoc promise.body_hash promise.index (policy ++ (counted_bytes promise.name ++ (counted_bytes promise.key.value ++ more)))))
 
+  pub hash-at : (more : List ℕ) → IsPart (promise_bytes promise ++ more) (record { start = 10; len = 32 }) promise.body_hash
+  hash-at more =
+      let rest = promise.index ++ (policy ++ (counted_bytes promise.name ++ counted_bytes promise.key.value)) in
+      piece-at (promise_bytes promise ++ more) (promise_kind ∷ version_of promise.key.policy ∷ big_bytes 8 promise.epoch) promise.body_hash (rest ++ more) 10 32
+      (ap (λ (xs : List ℕ). promise_kind ∷ version_of promise.key.policy ∷ (big_bytes 8 promise.epoch ++ xs)) (append_assoc promise.body_hash rest more)) refl (sym is.1.0)
+
   module _ (more : List ℕ) (len : ℕ) (len-is : len ≡ length policy) (name : ℕ) (name-is : name ≡ length promise.name) (key : ℕ) (key-is : key ≡ length promise.key.value) where
     abbrev bytes : List ℕ
     bytes = promise_bytes promise ++ more

@@ -1,3 +1,5 @@
 pub mod Cuts
+pub mod Framing
+pub mod Listing
 pub mod Standing
 pub mod Verdicts

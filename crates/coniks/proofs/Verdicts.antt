@@ -3,13 +3,15 @@ use Rattle.std.proofs.Common.{◌≡◌, ◌⊎◌, ◌↔◌, Option, inl, inr,
 use Rattle.prefixtree.specs.Paths.{Way}
 use Rattle.encoding.specs.declared.bound_key.BoundKey.{BoundKey}
 use Rattle.rootchain.specs.declared.body.Body.{Body}
-use Rattle.proofs.specs.Accepts.{stated, Accepts, EndStates}
+use Rattle.proofs.specs.Accepts.{stated, Accepts, EndStates, NamedReply}
 use Rattle.proofs.specs.Comparisons.{IsAcceptedReply, Refuses}
 use Rattle.proofs.specs.Refusals.{reply_refusal_number, Passes}
 use Rattle.proofs.specs.Replies.{Reply, SpellsReply}
 use Rattle.proofs.specs.declared.reply_refusal.Refusal.{Refusal}
 use Rattle.proofs.specs.declared.reply_refusal.Refusal.TheVariants.{Malformed, Trailing, OtherRoot, BadVuf, SameIndex, OtherPrefix, PathMismatch}
+use Rattle.coniks.specs.Comparing.{Tells}
 use Rattle.coniks.specs.Told.{any, told, IsRight}
+use Rattle.coniks.specs.declared.parts.Lens.{Lens}
 
 module _ (hash : List ℕ → List ℕ) (body : Body) (name bytes : List ℕ) where
   -- a test that is passed where everything is accepted is passed where this is said
@@ -100,3 +102,10 @@ module _ (hash : List ℕ → List ℕ) (accepted : List ℕ → List ℕ → Li
       from : Refuses hash accepted body name bytes refusal → Refuses hash (told is_accepted) body name bytes refusal
       from (inl reads) = inl reads
       from (inr (reply, spelled, first)) = inr (reply, spelled, record { fails = λ is. first.fails (there reply spelled refusal is); before = λ other low. back reply spelled other (first.before other low) })
+
+-- what is told of two replies is told of them by their names
+pub told-by-name : (hash : List ℕ → List ℕ) (first second : NamedReply) (name : List ℕ) → first.name ≡ name → second.name ≡ name → (answer : ℕ) (one one' other other' : List ℕ) (lens lens' : Lens) → Tells hash first second answer one one' other other' lens lens'
+    → Tells hash (record { name = name; reply = first.reply }) (record { name = name; reply = second.reply }) answer one one' other other' lens lens'
+told-by-name hash first second name one-is other-is answer one one' other other' lens lens' tells =
+    subst (λ (n : List ℕ). Tells hash (record { name = name; reply = first.reply }) (record { name = n; reply = second.reply }) answer one one' other other' lens lens') other-is
+    (subst (λ (n : List ℕ). Tells hash (record { name = n; reply = first.reply }) second answer one one' other other' lens lens') one-is tells)

@@ -46,6 +46,7 @@ ShowsStatement bytes (Some key) binding = (binding.is_present ≡ true) × (bind
 -- the parts of a signed promise that the bytes spell
 pub record ShowsPromise (bytes : List ℕ) (signed : SignedPromise) (parts : PromiseParts) : Type 0 where
   pub epoch : parts.epoch ≡ signed.promise.epoch
+  pub body_hash : IsPart bytes parts.body_hash signed.promise.body_hash
   pub promise : IsPart bytes parts.promise (promise_bytes signed.promise)
   pub signature : IsPart bytes parts.signature signed.signature
   pub name : IsPart bytes parts.name signed.promise.name

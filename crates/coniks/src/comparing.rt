@@ -46,7 +46,7 @@ pub(crate) fn tell<H: NodeHash>(
 }
 
 /// Puts a text at the front of a buffer. Returns its length.
-fn put(text: &Text, buffer: &mut [u8]) -> usize
+pub(crate) fn put(text: &Text, buffer: &mut [u8]) -> usize
     requires { 2400 ≤ length buffer.old }
     ensures { IsPut text.now buffer.old buffer.new result }
 {

@@ -5,22 +5,30 @@ ghost use Rattle.encoding.specs.Limits.{IsName};
 ghost use Rattle.rootchain.specs.Chains.{Names};
 ghost use Rattle.sigiface.specs.StandIn.{keyed_signature};
 ghost use Rattle.vrfiface.specs.StandIns.{keyed_value};
+ghost use Rattle.coniks.specs.Asking.{WritesHead, WritesHistory, WritesLookup, WritesPromise, WritesPut, WritesTurn};
 ghost use Rattle.coniks.specs.Comparing.{ComparesReplies};
 ghost use Rattle.coniks.specs.Finals.{TestsFinal};
+ghost use Rattle.coniks.specs.Hearing.{ReadsFrame, ReadsRefused, ReadsRoots};
 ghost use Rattle.coniks.specs.Exports.{AreRoots, ChecksReply, ReadsPromise, ReadsReply, ReadsRoot, ShowsEvidence, TestsPromise};
 
+use crate::asking::{
+    HEAD, HISTORY, LOOKUP, PROMISE, asks_nonce, asks_policy, history_body, lookup_body,
+    promise_body, put_body, put_frame, put_kind, turn_body, turn_kind,
+};
 use crate::checking::accept_told;
 use crate::comparing::tell;
 use crate::finals::changes;
-use crate::parts::{Binding, Lens, PromiseParts, ReplyParts, RootParts};
+use crate::hearing::place_roots;
+use crate::parts::{Binding, FrameParts, Lens, Part, PromiseParts, ReplyParts, RootParts};
 use crate::promises::{is_next, verdict};
-use crate::roots::{holds, names};
-use encoding::{Hash32, Name};
+use crate::roots::holds;
+use encoding::{Hash32, KeyData, Name, Text};
 use nodehash::Sha256Hash;
 use proofs::ReplyView;
-use rootchain::{Body, RootEvidence, SignedPromise, SignedRoot};
+use rootchain::{Body, MAX_ROOTS, RootEvidence, RootList, SignedPromise, SignedRoot};
 use sigiface::{KeyedSign, Verifier};
 use vrfiface::{KeyedVuf, VufCheck};
+use wire::{Front, front_of};
 
 /// What an export answers that refuses nothing.
 const OK: u8 = 0;
@@ -55,11 +63,29 @@ const BAD_ROOT: u8 = 11;
 /// The root is not the one that follows that of the promise.
 const NOT_NEXT: u8 = 12;
 
-/// A buffer has fewer than 2,400 bytes.
+/// A key has no or more than 2,048 bytes.
+const BAD_KEY: u8 = 24;
+
+/// A byte is neither 0 nor that of a policy.
+const BAD_POLICY: u8 = 25;
+
+/// A token does not have 32 bytes.
+const BAD_TOKEN: u8 = 26;
+
+/// A nonce has neither 32 bytes nor none.
+const BAD_NONCE: u8 = 27;
+
+/// The bytes end within a frame.
+const SHORT_FRAME: u8 = 28;
+
+/// How many bytes stand before the body of a frame.
+const FRONT_LEN: usize = 5;
+
+/// A buffer has fewer than 2,400 bytes, or room for fewer than 64 parts.
 const SHORT_BUFFER: u8 = 13;
 
-/// How many bytes a buffer for a text of a collision has at least.
-const TEXT_LEN: usize = 2400;
+/// How many bytes a buffer for a frame, or for a text of a collision, has at least.
+const BUFFER_LEN: usize = 2400;
 
 /// How far the number of a refusal of the second reply lies above that of the first.
 const OF_SECOND: u8 = 32;
@@ -95,7 +121,7 @@ pub extern "C" fn coniks_follows(earlier: &[u8], later: &[u8]) -> u8
     let Ok(later) = SignedRoot::read(later) else {
         return MALFORMED;
     };
-    if names(&mut Sha256Hash::new(), &earlier, &later) {
+    if later.names(&mut Sha256Hash::new(), &earlier) {
         OK
     } else {
         BAD_LINK
@@ -169,7 +195,7 @@ pub extern "C" fn coniks_check(
     }
 }
 
-/// Compares two replies for a name under the body of a signed root, where the caller says whether the values of both are
+/// Compares two replies for a name under the body of a signed root, where the caller says of each whether its value is
 /// accepted: 0 if they state the same, 21 if two values were accepted, 22 with two different texts that have one digest.
 #[unsafe(no_mangle)]
 pub extern "C" fn coniks_compare(
@@ -177,14 +203,15 @@ pub extern "C" fn coniks_compare(
     name: &[u8],
     first: &[u8],
     second: &[u8],
-    values_are_accepted: bool,
+    first_is_accepted: bool,
+    second_is_accepted: bool,
     one: &mut [u8],
     other: &mut [u8],
     lens: &mut Lens,
 ) -> u8
-    ensures { ComparesReplies sha256 body.now name.now first.now second.now values_are_accepted result one.old one.new other.old other.new lens.old lens.new }
+    ensures { ComparesReplies sha256 body.now name.now first.now second.now first_is_accepted second_is_accepted result one.old one.new other.old other.new lens.old lens.new }
 {
-    if one.len() < TEXT_LEN || other.len() < TEXT_LEN {
+    if one.len() < BUFFER_LEN || other.len() < BUFFER_LEN {
         return SHORT_BUFFER;
     }
     let Ok(body) = Body::read(body) else {
@@ -194,11 +221,11 @@ pub extern "C" fn coniks_compare(
         return BAD_NAME;
     };
     let mut hash = Sha256Hash::new();
-    let first = match accept_told(&mut hash, &body, &name, first, values_are_accepted) {
+    let first = match accept_told(&mut hash, &body, &name, first, first_is_accepted) {
         Ok(first) => first,
         Err(why) => return why.number(),
     };
-    let second = match accept_told(&mut hash, &body, &name, second, values_are_accepted) {
+    let second = match accept_told(&mut hash, &body, &name, second, second_is_accepted) {
         Ok(second) => second,
         Err(why) => return OF_SECOND + why.number(),
     };
@@ -262,9 +289,10 @@ pub extern "C" fn coniks_test_final(
     reply: &[u8],
     later_root: &[u8],
     later_reply: &[u8],
-    values_are_accepted: bool,
+    value_is_accepted: bool,
+    later_value_is_accepted: bool,
 ) -> u8
-    ensures { TestsFinal sha256 name.now root.now reply.now later_root.now later_reply.now values_are_accepted result }
+    ensures { TestsFinal sha256 name.now root.now reply.now later_root.now later_reply.now value_is_accepted later_value_is_accepted result }
 {
     let Ok(name) = Name::new(name) else {
         return BAD_NAME;
@@ -279,7 +307,7 @@ pub extern "C" fn coniks_test_final(
         return NOT_LATER;
     }
     let mut hash = Sha256Hash::new();
-    let one = match accept_told(&mut hash, &root.body, &name, reply, values_are_accepted) {
+    let one = match accept_told(&mut hash, &root.body, &name, reply, value_is_accepted) {
         Ok(one) => one,
         Err(why) => return why.number(),
     };
@@ -288,12 +316,182 @@ pub extern "C" fn coniks_test_final(
         &later_root.body,
         &name,
         later_reply,
-        values_are_accepted,
+        later_value_is_accepted,
     ) {
         Ok(other) => other,
         Err(why) => return OF_SECOND + why.number(),
     };
     if changes(&one, &other) { CHANGED } else { OK }
+}
+
+/// Writes the request to bind a key to a name, or to change its key, with a policy or with 0 for none.
+#[unsafe(no_mangle)]
+pub extern "C" fn coniks_write_put(
+    is_change: bool,
+    name: &[u8],
+    key: &[u8],
+    policy: u8,
+    frame: &mut [u8],
+    len: &mut usize,
+) -> u8
+    ensures { WritesPut is_change name.now key.now policy result (record { bytes = frame.old; len = len.old }) (record { bytes = frame.new; len = len.new }) }
+{
+    if frame.len() < BUFFER_LEN {
+        return SHORT_BUFFER;
+    }
+    let Ok(name) = Name::new(name) else {
+        return BAD_NAME;
+    };
+    let Ok(key) = KeyData::new(key) else {
+        return BAD_KEY;
+    };
+    if !asks_policy(policy) {
+        return BAD_POLICY;
+    }
+    let body = put_body(&name, &key, policy);
+    *len = put_frame(put_kind(is_change, policy), &body, frame);
+    OK
+}
+
+/// Writes the request for the promise of a name, of which an operation waits.
+#[unsafe(no_mangle)]
+pub extern "C" fn coniks_write_promise(name: &[u8], frame: &mut [u8], len: &mut usize) -> u8
+    ensures { WritesPromise name.now result (record { bytes = frame.old; len = len.old }) (record { bytes = frame.new; len = len.new }) }
+{
+    if frame.len() < BUFFER_LEN {
+        return SHORT_BUFFER;
+    }
+    let Ok(name) = Name::new(name) else {
+        return BAD_NAME;
+    };
+    *len = put_frame(PROMISE, &promise_body(&name), frame);
+    OK
+}
+
+/// Writes the look-up of a name at an epoch, or at the latest with 0.
+#[unsafe(no_mangle)]
+pub extern "C" fn coniks_write_lookup(
+    name: &[u8],
+    epoch: u64,
+    frame: &mut [u8],
+    len: &mut usize,
+) -> u8
+    ensures { WritesLookup name.now epoch result (record { bytes = frame.old; len = len.old }) (record { bytes = frame.new; len = len.new }) }
+{
+    if frame.len() < BUFFER_LEN {
+        return SHORT_BUFFER;
+    }
+    let Ok(name) = Name::new(name) else {
+        return BAD_NAME;
+    };
+    *len = put_frame(LOOKUP, &lookup_body(&name, epoch), frame);
+    OK
+}
+
+/// Writes the request for so many roots, from an epoch on.
+#[unsafe(no_mangle)]
+pub extern "C" fn coniks_write_history(
+    from: u64,
+    count: u16,
+    frame: &mut [u8],
+    len: &mut usize,
+) -> u8
+    ensures { WritesHistory from count result (record { bytes = frame.old; len = len.old }) (record { bytes = frame.new; len = len.new }) }
+{
+    if frame.len() < BUFFER_LEN {
+        return SHORT_BUFFER;
+    }
+    *len = put_frame(HISTORY, &history_body(from, count), frame);
+    OK
+}
+
+/// Writes the request for the latest root.
+#[unsafe(no_mangle)]
+pub extern "C" fn coniks_write_head(frame: &mut [u8], len: &mut usize) -> u8
+    ensures { WritesHead result (record { bytes = frame.old; len = len.old }) (record { bytes = frame.new; len = len.new }) }
+{
+    if frame.len() < BUFFER_LEN {
+        return SHORT_BUFFER;
+    }
+    *len = put_frame(HEAD, &Text::new(), frame);
+    OK
+}
+
+/// Writes the operator's order to end the epoch, under a nonce, or with no byte under that of the last page.
+#[unsafe(no_mangle)]
+pub extern "C" fn coniks_write_turn(
+    token: &[u8],
+    epoch: u64,
+    nonce: &[u8],
+    frame: &mut [u8],
+    len: &mut usize,
+) -> u8
+    ensures { WritesTurn token.now epoch nonce.now result (record { bytes = frame.old; len = len.old }) (record { bytes = frame.new; len = len.new }) }
+{
+    if frame.len() < BUFFER_LEN {
+        return SHORT_BUFFER;
+    }
+    if token.len() != 32 {
+        return BAD_TOKEN;
+    }
+    if !asks_nonce(nonce) {
+        return BAD_NONCE;
+    }
+    let body = turn_body(token, epoch, nonce);
+    *len = put_frame(turn_kind(nonce), &body, frame);
+    OK
+}
+
+/// Reads the frame at the front of bytes: 28 if they end within it, 1 if none begins so.
+#[unsafe(no_mangle)]
+pub extern "C" fn coniks_read_frame(bytes: &[u8], parts: &mut FrameParts) -> u8
+    ensures { ReadsFrame bytes.now result parts.old parts.new }
+{
+    match front_of(bytes) {
+        Front::Whole(view) => {
+            *parts = FrameParts {
+                kind: view.kind,
+                body: Part {
+                    start: FRONT_LEN,
+                    len: view.body.len(),
+                },
+            };
+            OK
+        }
+        Front::Short => SHORT_FRAME,
+        Front::Bad => MALFORMED,
+    }
+}
+
+/// Reads a list of signed roots, and says where each stands.
+#[unsafe(no_mangle)]
+pub extern "C" fn coniks_read_roots(list: &[u8], roots: &mut [Part], count: &mut usize) -> u8
+    ensures { ReadsRoots list.now result roots.old roots.new count.old count.new }
+{
+    if roots.len() < MAX_ROOTS {
+        return SHORT_BUFFER;
+    }
+    match RootList::read(list) {
+        Ok(read) => {
+            *count = place_roots(read, roots);
+            OK
+        }
+        Err(_) => MALFORMED,
+    }
+}
+
+/// Reads the body of a refusal: its one byte is the number.
+#[unsafe(no_mangle)]
+pub extern "C" fn coniks_read_refused(body: &[u8], number: &mut u8) -> u8
+    ensures { ReadsRefused body.now result number.old number.new }
+{
+    match body {
+        [only] => {
+            *number = *only;
+            OK
+        }
+        _ => MALFORMED,
+    }
 }
 
 /// Whether a signature verifies under the stand-in for signatures, which gives no security. A key of another length than

@@ -62,6 +62,8 @@ pub struct ReplyParts {
 #[repr(C)]
 pub struct PromiseParts {
     pub epoch: u64,
+    /// The hash of the body of the root of that epoch.
+    pub body_hash: Part,
     /// What is signed.
     pub promise: Part,
     pub signature: Part,
@@ -69,6 +71,14 @@ pub struct PromiseParts {
     pub key: Part,
     /// 1 for open, 2 for final, 0 for none.
     pub policy: u8,
+}
+
+/// A frame at the front of bytes: `coniks_frame` in C.
+#[derive(Drop)]
+#[repr(C)]
+pub struct FrameParts {
+    pub kind: u8,
+    pub body: Part,
 }
 
 /// How long two texts are: `coniks_lens` in C.
@@ -98,6 +108,12 @@ const BODY: Part = Part {
 const VUF_KEY: Part = Part {
     start: VUF_KEY_START,
     len: BODY_LEN - VUF_KEY_START,
+};
+
+/// Where the hash of a root's body stands in a promise: behind the kind, the version and the epoch.
+const BODY_HASH: Part = Part {
+    start: 2 + 8,
+    len: 32,
 };
 
 impl RootParts {
@@ -145,6 +161,7 @@ impl PromiseParts {
         let key_start = name_start + name_len + COUNT_LEN;
         PromiseParts {
             epoch: promise.epoch,
+            body_hash: BODY_HASH,
             promise: Part {
                 start: 0,
                 len: key_start + key_len,

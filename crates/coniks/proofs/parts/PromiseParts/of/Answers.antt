@@ -1,6 +1,6 @@
 use Rattle.std.proofs.Common.{ap, length, refl}
 use Rattle.encoding.specs.Forms.{counted_bytes}
-use Rattle.coniks.proofs.Cuts.{behind-promise, key-at, name-at, promise-at}
+use Rattle.coniks.proofs.Cuts.{behind-promise, hash-at, key-at, name-at, promise-at}
 use Rattle.coniks.proofs.parts.PromiseParts.of.Goals as goal
 
 pub returns : goal.returns
@@ -11,6 +11,7 @@ returns c =
     let name = ap length c.bytes.ensures.value in
     let key = ap length c.bytes-2.ensures.value in record {
       epoch = refl;
+      body_hash = hash-at signed.promise c.requires.0 more;
       promise = promise-at signed.promise c.requires.0 more _ policy _ name _ key;
       signature = behind-promise signed.promise c.requires.0 more _ policy _ name _ key signed.signature _ (ap length c.bytes-3.ensures.value) refl;
       name = name-at signed.promise c.requires.0 more _ policy _ name _ key;
