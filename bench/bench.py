@@ -2,8 +2,8 @@
 """Times the built programs and prints the tables of the scripts beside it. docs/SPEED.md says what
 the columns mean.
 
-usage: bench/bench.py root|tree|changes|replies|reconcile|epochs|journal|hub|serve|audit|client|play|ask, at the
-top of the repository
+usage: bench/bench.py root|tree|changes|replies|check|reconcile|epochs|journal|hub|serve|audit|client|play|ask, at
+the top of the repository
 
 BEFORE, if it is set, is the top of another clone, in which directoryd and measure are built. `root` and
 `hub` then time the programs of both, in turn.
@@ -29,6 +29,7 @@ import time
 DIRECTORYD = "crates/directoryd/out/directoryd"
 MEASURE = "crates/measure/out/measure"
 LOAD = "bench/out/load"
+CHECK = "bench/out/check"
 FREE_SYNCS = "bench/out/fail_disk.so"
 BEFORE = os.environ.get("BEFORE", "")
 # What `rt run` builds by, unless crates.txt says otherwise.
@@ -54,6 +55,8 @@ CHANGE_ROUNDS = {1: (500, 40), 10: (50, 40), 1_000: (1, 100), 100_000: (1, 6)}
 SIBLINGS, REPLY_RUNS = (10, 20, 256), 10
 # How many replies are measured, and about how many digests the checks of a run take.
 REPLIES, CHECK_DIGESTS = 1_000, 800_000
+# The siblings of the replies that are checked from C, and the runs.
+CHECK_SIBLINGS, CHECK_RUNS = 20, 20
 # For the roots of each of two chains: how often they are compared in a run. And the runs.
 CHAIN_ROUNDS, CHAIN_RUNS = {10_000: 200, 100_000: 20}, 10
 # The names that each of two clients looks up; how many of them both do; and for the epochs, at each of
@@ -187,7 +190,11 @@ class Step:
 def steps(count, *words, top=""):
     """One run of the crate `measure` of the clone at `top`: the number that it prints first, and so
     many steps."""
-    words = [os.path.join(top, MEASURE), *map(str, words)]
+    return steps_of([os.path.join(top, MEASURE), *map(str, words)], count)
+
+
+def steps_of(words, count):
+    """The same of the program that these words run."""
     process = subprocess.Popen(words, bufsize=0, stdin=subprocess.PIPE, stdout=subprocess.PIPE)
     looks = [look(process)]
     for _ in range(count):
@@ -530,6 +537,55 @@ def replies(_folder):
     rows = [reply_row(siblings) for siblings in SIBLINGS]
     title = "replies made, and read and checked; the time of a reading and check, microseconds"
     table(title, [*head, "value, us", "a digest, ns"], rows)
+
+
+def counted(data):
+    return len(data).to_bytes(2, "big") + data
+
+
+def look_up(number, siblings):
+    """A look-up of a name of 16 bytes with a key of 32, as `measure` has them: the body, the name and the reply. The
+    siblings are random."""
+    source, sha256 = random.Random(number), lambda text: hashlib.sha256(text).digest()
+    name, salt, key, nonce, vuf_key = source.randbytes(16), source.randbytes(32), source.randbytes(32), bytes(32), b"\2" * 32
+    value = sha256(b"V" + vuf_key + name)
+    index, way = sha256(value), [source.randbytes(32) for _ in range(siblings)]
+    commitment = sha256(b"C\1" + salt + counted(name) + counted(key))
+    digest = sha256(b"L" + nonce + index + siblings.to_bytes(4, "big") + commitment)
+    for level in reversed(range(siblings)):
+        is_one = index[level // 8] >> (7 - level % 8) & 1
+        digest = sha256(way[level] + digest if is_one else digest + way[level])
+    body = b"R\1" + (1).to_bytes(8, "big") + bytes(8) + digest + bytes(32) + nonce + vuf_key
+    return body, name, body + counted(value) + b"\1" + salt + counted(key) + siblings.to_bytes(2, "big") + b"".join(way)
+
+
+def check_times(folder, rounds):
+    """The times of the steps of the library for C and of `measure`, whose runs come in turn."""
+    path, count = f"{folder}/look-ups", rounds * REPLIES
+    with open(path, "wb") as file:
+        for number in range(REPLIES):
+            file.write(b"".join(map(counted, look_up(number, CHECK_SIBLINGS))))
+    each = CHECK_SIBLINGS + 3
+    times = [[], [], [], []]
+    for _ in range(CHECK_RUNS):
+        first, from_c = steps_of([CHECK, path, str(rounds)], 3)
+        _, (_, _, checked, _, _) = steps(5, "replies", CHECK_SIBLINGS, REPLIES, rounds, DIGESTS)
+        if (first, [step.number for step in from_c], checked.number) != (REPLIES, 3 * [32 * count], each * count):
+            sys.exit(f"check: {first}, {[step.number for step in from_c]}, {checked.number}")
+        for kept, step in zip(times, [*from_c, checked]):
+            kept.append(step.seconds)
+    return [Spread(taken, count) for taken in times]
+
+
+def check_from_c(folder):
+    read, whole, alone, checked = check_times(folder, max(1, CHECK_DIGESTS // ((CHECK_SIBLINGS + 3) * REPLIES)))
+    rows = [[what, *times.cells(1e6, 2), f"{times.least / checked.least:.3f}"] for what, times in (
+        ("measure: read and checked", checked),
+        ("C: read and checked, with the value", whole),
+        ("C: coniks_check", alone),
+        ("C: coniks_read_reply", read),
+    )]
+    table(f"a reply with {CHECK_SIBLINGS} siblings, microseconds", ["", "least", "median", "greatest", "ratio"], rows)
 
 
 def chain_times(roots, shared):
@@ -1567,7 +1623,7 @@ def main(which):
         print_machine()
         of = {"root": root, "tree": tree, "changes": changes, "replies": replies}
         of |= {"reconcile": reconcile, "epochs": epochs, "journal": journal, "hub": hub, "serve": serve}
-        of |= {"audit": audit, "client": client, "play": play, "ask": ask}
+        of |= {"audit": audit, "client": client, "play": play, "ask": ask, "check": check_from_c}
         of[which](folder)
     print(f"\nload at the end {os.getloadavg()[0]:.2f}")
 

@@ -1,15 +1,16 @@
 /*
  * Looks a name up at a directory, and checks the reply by the proved library.
  *
- *   look ADDRESS PORT KEY NAME    KEY is the provider's public key in 64 hexadecimal digits, NAME is text
+ *   look ADDRESS PORT KEY NAME    ADDRESS is numeric (IPv4), KEY the provider's public key in 64 hexadecimal digits of
+ *                                 lower case, NAME is text
  *
- * Prints the key of the name in hexadecimal digits, or `absent`. The status is 0; 1 if nothing can be said, as where the
- * directory does not answer; 2 if the words are wrong; 3 if what the directory sent is refused.
+ * Prints the key of the name in hexadecimal digits, with ` final` behind it if it is never changed, or `absent`. The status is 0; 1 if nothing can be said, as where the
+ * directory does not answer, or refuses; 2 if the words are wrong; 3 if what the directory sent is refused.
  *
  *   cc -I include -o look examples/c/look.c crates/coniks/out/libconiks.a
  *
  * The stand-ins check signature and value here, and give no security: put your own in their two places. A client that
- * looks twice keeps the roots that it took, and places each new one: coniks.h says how.
+ * looks twice keeps the roots that it took, and places each new one: coniks.h says how. It bounds the time of a whole reply.
  */
 #include <arpa/inet.h>
 #include <coniks.h>
@@ -20,30 +21,56 @@
 #include <sys/socket.h>
 #include <sys/time.h>
 
-enum { HEAD = 0x06, LOOKUP = 0x04, ROOT = 0x84, PROOF = 0x82, MOST = 70000 };
+/* A frame that came: its bytes, and its parts. */
+typedef struct {
+    uint8_t bytes[5 + 65535];
+    coniks_frame parts;
+} answer;
 
-/* Reads or sends all of the bytes. */
-static int move_all(int stream, uint8_t *bytes, size_t len, bool sends) {
+static int silent(void) {
+    fputs("no reply\n", stderr);
+    return 1;
+}
+
+static int refused(const char *what, unsigned number) {
+    fprintf(stderr, "%s refused: %u\n", what, number);
+    return 3;
+}
+
+static int send_all(int stream, const uint8_t *bytes, size_t len) {
     for (size_t done = 0; done < len;) {
-        ssize_t moved = sends ? send(stream, bytes + done, len - done, MSG_NOSIGNAL) : recv(stream, bytes + done, len - done, 0);
-        if (moved < 0 && errno == EINTR) continue;
-        if (moved <= 0) return -1;
-        done += (size_t)moved;
+        ssize_t sent = send(stream, bytes + done, len - done, MSG_NOSIGNAL);
+        if (sent < 0 && errno == EINTR) continue;
+        if (sent <= 0) return -1;
+        done += (size_t)sent;
     }
     return 0;
 }
 
-/*
- * Sends a frame, and reads the one that answers it: a length in 4 bytes, the kind, the body. Returns the length of its
- * body, or -1 if none comes, or one of another kind.
- */
-static long ask(int stream, uint8_t kind, const uint8_t *body, size_t len, uint8_t wanted, uint8_t *answer) {
-    uint8_t frame[5 + 8 + 2 + 255] = {0, 0, (uint8_t)((len + 1) >> 8), (uint8_t)(len + 1), kind};
-    memcpy(frame + 5, body, len);
-    if (move_all(stream, frame, 5 + len, true) || move_all(stream, frame, 5, false)) return -1;
-    size_t size = (size_t)frame[0] << 24 | (size_t)frame[1] << 16 | (size_t)frame[2] << 8 | frame[3];
-    if (frame[4] != wanted || size < 1 || size > MOST || move_all(stream, answer, size - 1, false)) return -1;
-    return (long)(size - 1);
+/* Reads the next frame. Returns 0, or the status of the program once it said why. */
+static int read_answer(int stream, answer *got) {
+    uint8_t why = CONIKS_SHORT_FRAME;
+    for (size_t len = 0; why == CONIKS_SHORT_FRAME;) {
+        ssize_t came = recv(stream, got->bytes + len, sizeof got->bytes - len, 0);
+        if (came < 0 && errno == EINTR) continue;
+        if (came <= 0) return silent();
+        len += (size_t)came;
+        why = coniks_read_frame(got->bytes, len, &got->parts);
+    }
+    return why ? refused("frame", why) : 0;
+}
+
+/* Sends a request, and reads its answer, which has to be of this kind. Returns 0 or a status, as above. */
+static int ask(int stream, const uint8_t *request, size_t len, uint8_t kind, answer *got) {
+    if (send_all(stream, request, len)) return silent();
+    int status = read_answer(stream, got);
+    if (status || got->parts.kind == kind) return status;
+    if (got->parts.kind != CONIKS_REFUSED) return refused("kind", got->parts.kind);
+    uint8_t number;
+    uint8_t why = coniks_read_refused(got->bytes + got->parts.body.start, got->parts.body.len, &number);
+    if (why) return refused("refusal", why);
+    fprintf(stderr, "the directory refuses: %u\n", number);
+    return 1;
 }
 
 static int connected(const char *address, unsigned short port) {
@@ -62,20 +89,10 @@ static int read_key(const char *digits, uint8_t *key) {
     return 0;
 }
 
-static int silent(void) {
-    fputs("no reply\n", stderr);
-    return 1;
-}
-
-static int refused(const char *what, unsigned number) {
-    fprintf(stderr, "%s refused: %u\n", what, number);
-    return 3;
-}
-
 int main(int count, char **words) {
-    static uint8_t root[MOST], reply[MOST], asked[8 + 2 + 255];
-    uint8_t key[32];
-    size_t name_len = count == 5 ? strlen(words[4]) : 0;
+    static answer head, proof;
+    uint8_t key[32], request[2400];
+    size_t name_len = count == 5 ? strlen(words[4]) : 0, request_len;
     long port = count == 5 ? strtol(words[2], NULL, 10) : 0;
     if (name_len < 1 || name_len > 255 || port < 1 || port > 65535 || read_key(words[3], key)) {
         fputs("look ADDRESS PORT KEY NAME\n", stderr);
@@ -84,13 +101,19 @@ int main(int count, char **words) {
     const uint8_t *name = (const uint8_t *)words[4];
 
     int stream = connected(words[1], (unsigned short)port);
-    if (stream < 0) return silent();
+    if (stream < 0) {
+        fputs("cannot connect\n", stderr);
+        return 1;
+    }
 
     /* The latest root, whose signature the caller verifies. */
+    uint8_t why = coniks_write_head(request, sizeof request, &request_len);
+    if (why) return refused("request", why);
+    int status = ask(stream, request, request_len, CONIKS_ROOT, &head);
+    if (status) return status;
+    const uint8_t *root = head.bytes + head.parts.body.start;
     coniks_root is;
-    long root_len = ask(stream, HEAD, name, 0, ROOT, root);
-    if (root_len < 0) return silent();
-    uint8_t why = coniks_read_root(root, (size_t)root_len, &is);
+    why = coniks_read_root(root, head.parts.body.len, &is);
     if (why) return refused("root", why);
     const uint8_t *body = root + is.body.start;
     if (!coniks_keyed_verifies(key, 32, body, is.body.len, root + is.signature.start, is.signature.len)) {
@@ -98,21 +121,22 @@ int main(int count, char **words) {
         return 3;
     }
 
-    /* A look-up at the epoch of that root: the epoch in 8 bytes, the name behind its length in 2. */
-    for (int i = 0; i < 8; i++) asked[i] = (uint8_t)(is.epoch >> 8 * (7 - i));
-    asked[9] = (uint8_t)name_len;
-    memcpy(asked + 10, name, name_len);
-    long reply_len = ask(stream, LOOKUP, asked, 10 + name_len, PROOF, reply);
-    if (reply_len < 0) return silent();
+    /* A look-up at the epoch of that root. */
+    why = coniks_write_lookup(name, name_len, is.epoch, request, sizeof request, &request_len);
+    if (why) return refused("request", why);
+    status = ask(stream, request, request_len, CONIKS_PROOF, &proof);
+    if (status) return status;
+    const uint8_t *reply = proof.bytes + proof.parts.body.start;
+    size_t reply_len = proof.parts.body.len;
 
     /* Whether its value is accepted for the name, the caller finds out too. The rest is checked here. */
     coniks_reply parts;
     coniks_binding found;
-    why = coniks_read_reply(reply, (size_t)reply_len, &parts);
+    why = coniks_read_reply(reply, reply_len, &parts);
     if (why) return refused("reply", why);
     bool is_accepted = coniks_keyed_accepts(reply + parts.vuf_key.start, 32, name, name_len, reply + parts.value.start,
                                             parts.value.len);
-    why = coniks_check(body, is.body.len, name, name_len, reply, (size_t)reply_len, is_accepted, &found);
+    why = coniks_check(body, is.body.len, name, name_len, reply, reply_len, is_accepted, &found);
     if (why) return refused("reply", why);
 
     if (!found.is_present) {
