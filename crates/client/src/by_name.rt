@@ -4,8 +4,8 @@ ghost use Rattle.std.specs.Prelude.{◌≡◌, ◌<◌, ◌^◌, ◌++◌, ◌�
 ghost use Rattle.encoding.specs.Maps.{at};
 ghost use Rattle.proofs.specs.Views.{key_stated};
 ghost use Rattle.client.specs.Agreements.{SpellsOne};
-ghost use Rattle.client.specs.Extremes.{BytesState, NoneStatesFinal};
-ghost use Rattle.client.specs.Finality.{ByName, HasOneMore, HaveTheSame};
+ghost use Rattle.client.specs.Extremes.{BytesState};
+ghost use Rattle.client.specs.Finality.{ByName, HasOneMore, HaveTheSame, IndexedReply as Reply};
 
 use crate::looks::statement;
 use crate::several::Several;
@@ -71,7 +71,7 @@ impl IndexedReply {
     }
 
     /// A copy, with the same bytes.
-    pub(crate) fn copied(&self) -> Result<IndexedReply, AllocError>
+    fn copied(&self) -> Result<IndexedReply, AllocError>
         ensures { IfOk result (λ reply. reply ≡ self.now) }
     {
         Ok(IndexedReply {
@@ -88,57 +88,49 @@ impl IndexedReply {
     }
 }
 
-/// The replies for a name. As long as none states a key with Final, as of most names, they are kept without more.
+/// The one reply for a name, which is kept without more, as most names have one; or several.
 #[derive(Drop)]
-pub(crate) enum PlainOrSeveral {
-    Plain(Vec<IndexedReply>),
+pub(crate) enum OneOrSeveral {
+    One(IndexedReply),
     Several(Box<Several>),
 }
 
 /// The replies for one name, in order of acceptance.
 #[derive(Drop)]
 pub(crate) struct RepliesOfName {
-    kept: PlainOrSeveral,
+    kept: OneOrSeveral,
 }
 
 impl Model for RepliesOfName {
     ghost use Rattle.std.specs.Prelude.{List};
     ghost use Rattle.client.specs.Finality as finality;
-    ghost use Rattle.client.specs.Several.{listed, ArePlain};
+    ghost use Rattle.client.specs.Several.{listed, AreSpelled};
 
     ghost Value = { List finality.IndexedReply };
 
     ghost view = { λ replies. listed replies.kept };
 
-    ghost invariant = { λ replies. ArePlain replies.kept };
+    ghost invariant = { λ replies. AreSpelled replies.kept };
 }
 
 impl RepliesOfName {
     /// One reply.
-    fn of(alloc: Global, reply: IndexedReply) -> Result<Self, AllocError>
+    fn new(reply: IndexedReply) -> Self
         requires { SpellsOne reply.bytes }
-        ensures { IfOk result (λ replies. replies ≡ reply ∷ []) }
+        ensures { result ≡ reply ∷ [] }
     {
-        if reply.statement().is_final() {
-            let several = Several::of(alloc, reply)?;
-            return Ok(RepliesOfName {
-                kept: PlainOrSeveral::Several(Box::new(alloc, several)?),
-            });
+        RepliesOfName {
+            kept: OneOrSeveral::One(reply),
         }
-        let mut list = Vec::with_capacity(alloc, 1)?;
-        list.push_reserved(reply);
-        Ok(RepliesOfName {
-            kept: PlainOrSeveral::Plain(list),
-        })
     }
 
-    /// The replies with their extremes, if one states a key with Final.
+    /// The replies, if there are several.
     pub(crate) fn several(&self) -> Option<&Several>
-        ensures { MatchOption result (NoneStatesFinal self.now) (λ replies. replies.now ≡ self.now) }
+        ensures { MatchOption result ((reply : Reply) × (self.now ≡ reply ∷ [])) (λ replies. replies.now ≡ self.now) }
     {
         match &self.kept {
-            PlainOrSeveral::Plain(_) => None,
-            PlainOrSeveral::Several(replies) => Some(replies),
+            OneOrSeveral::One(_) => None,
+            OneOrSeveral::Several(replies) => Some(replies),
         }
     }
 
@@ -149,17 +141,13 @@ impl RepliesOfName {
         ensures err { OnErr result (self.new ≡ self.old) }
     {
         match &mut self.kept {
-            PlainOrSeveral::Plain(list) => {
-                if reply.statement().is_final() {
-                    let mut replies = Several::of_all(alloc, list)?;
-                    replies.push(reply)?;
-                    self.kept = PlainOrSeveral::Several(Box::new(alloc, replies)?);
-                } else {
-                    list.push(reply)?;
-                }
+            OneOrSeveral::One(first) => {
+                let mut replies = Several::of(alloc, first.copied()?)?;
+                replies.push(reply)?;
+                self.kept = OneOrSeveral::Several(Box::new(alloc, replies)?);
                 Ok(())
             }
-            PlainOrSeveral::Several(replies) => replies.push(reply),
+            OneOrSeveral::Several(replies) => replies.push(reply),
         }
     }
 }
@@ -217,8 +205,7 @@ impl RepliesByName {
         ensures err { OnErr result (HaveTheSame self.old self.new) }
     {
         let key = Vec::from_slice(self.alloc, name.bytes())?;
-        let replies = RepliesOfName::of(self.alloc, reply)?;
-        self.lists.insert(key, replies)?;
+        self.lists.insert(key, RepliesOfName::new(reply))?;
         Ok(())
     }
 }
