@@ -1,5 +1,5 @@
 -- The greatest number of some replies, and of those of them that do not state the same.
-use Rattle.std.proofs.Common.{◌≡◌, ◌≢◌, ◌⊎◌, ◌↔◌, inl, inr, ℕ, zero, suc, ◌<◌, ◌≤◌, ◌^◌, List, [], ◌∷◌, ◌++◌, Bool, true, false, IsTrue, length, nat_lt, ltb-true, rules, slice_get, Option, Some, refl, sym, ap, subst, ◌∙◌, arith}
+use Rattle.std.proofs.Common.{◌≡◌, ◌≢◌, ◌⊎◌, ◌↔◌, inl, inr, ℕ, zero, suc, ◌<◌, ◌≤◌, ◌^◌, List, [], ◌∷◌, ◌++◌, Bool, true, false, IsTrue, length, length-append, nat_lt, ltb-true, rules, slice_get, Option, Some, refl, sym, ap, subst, ◌∙◌, arith}
 use Rattle.std.specs.List.{AllByRecursion}
 use Rattle.encoding.specs.declared.bound_key.BoundKey.{BoundKey}
 use Rattle.proofs.specs.Accepts.{stated}
@@ -7,7 +7,7 @@ use Rattle.proofs.specs.BrokenFinals.{states_final}
 use Rattle.proofs.specs.Replies.{Reply, SpellsReply}
 use Rattle.proofs.proofs.Passing.{one_reply}
 use Rattle.client.specs.Agreements.{SpellsOne}
-use Rattle.client.specs.Extremes.{below_last, AreGreatest, BytesState, ChangesAmong, HasNoSuch, IsChangedAmong, IsEarliest, IsGreatest, IsLatest, IsReached, IsReachedByOther, StatesFinal}
+use Rattle.client.specs.Extremes.{below_last, AreGreatest, BytesState, ChangesAmong, HasNoSuch, IsChangedAmong, IsEarliest, IsGreatest, IsLatest, IsReached, IsReachedByOther, NoneStatesFinal, StatesFinal}
 use Rattle.client.specs.Finality.{IndexedReply, StateAChange}
 use Rattle.client.specs.declared.extremes.Greatest.{Greatest}
 use Rattle.client.proofs.Breaking.{all-at}
@@ -192,6 +192,15 @@ again {Is} {number} {done} {greatest} x not is after (top, same, beside) = recor
 -- a reply that states no key with Final
 pub no-final : (x : IndexedReply) (t : Option BoundKey) → BytesState x.bytes t → (final : Bool) → final ≡ states_final t → final ≡ false → ¬ StatesFinal x
 no-final x t says final is never (s, states, holds) = let yes : states_final t ≡ true = ap states_final (one-statement x.bytes t s says states) ∙ holds in absurd cc
+
+-- one more of which none states a key with Final
+pub plain-more : (xs : List IndexedReply) (x : IndexedReply) → AllByRecursion (λ reply. SpellsOne reply.bytes) xs → NoneStatesFinal xs → SpellsOne x.bytes → ¬ StatesFinal x
+    → (0 < length (xs ++ x ∷ [])) × AllByRecursion (λ reply. SpellsOne reply.bytes) (xs ++ x ∷ []) × NoneStatesFinal (xs ++ x ∷ [])
+plain-more xs x spelled none reads not = (
+  (let both = length-append xs (x ∷ []) in omega (arith, both)),
+  one-more (λ (reply : IndexedReply). SpellsOne reply.bytes) xs x spelled reads,
+  one-more (λ (reply : IndexedReply). ¬ StatesFinal reply) xs x none not,
+)
 
 pub none-final : (index : List ℕ) (xs : List IndexedReply) → HasNoSuch xs index → AllByRecursion (λ reply. ¬ ((reply.index ≡ index) × StatesFinal reply)) xs
 none-final index [] none = tt

@@ -56,6 +56,10 @@ IsLatest replies index = IsGreatest (λ reply. reply.index ≡ index) (λ reply.
 abbrev pub StatesFinal : IndexedReply → Type 0
 StatesFinal reply = (statement : Option BoundKey) × BytesState reply.bytes statement × (states_final statement ≡ true)
 
+-- no reply of these states a key with Final
+abbrev pub NoneStatesFinal : List IndexedReply → Type 0
+NoneStatesFinal = AllByRecursion (λ reply. ¬ StatesFinal reply)
+
 -- how far an epoch lies below the last one that a number of 64 bits has
 abbrev pub below_last : ℕ → ℕ
 below_last epoch = 2 ^ 64 - 1 - epoch

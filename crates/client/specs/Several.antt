@@ -1,15 +1,17 @@
--- The replies for a name, of which there may be one.
-use Rattle.std.specs.Prelude.{List, [], ◌∷◌}
+-- The replies for a name, of which most state no key with Final.
+use Rattle.std.specs.Prelude.{ℕ, ◌<◌, List, length}
+use Rattle.std.specs.List.{AllByRecursion}
 use Rattle.client.specs.Agreements.{SpellsOne}
+use Rattle.client.specs.Extremes.{NoneStatesFinal}
 use Rattle.client.specs.Finality.{IndexedReply}
-use Rattle.client.specs.declared.by_name.OneOrSeveral.{OneOrSeveral}
-use Rattle.client.specs.declared.by_name.OneOrSeveral.TheVariants.{One, Several}
+use Rattle.client.specs.declared.by_name.PlainOrSeveral.{PlainOrSeveral}
+use Rattle.client.specs.declared.by_name.PlainOrSeveral.TheVariants.{Plain, Several}
 
-abbrev pub listed : OneOrSeveral → List IndexedReply
-listed (One reply) = reply ∷ []
+abbrev pub listed : PlainOrSeveral → List IndexedReply
+listed (Plain replies) = replies.items
 listed (Several replies) = replies.value
 
--- one is a reply that can be read
-abbrev pub AreSpelled : OneOrSeveral → Type 0
-AreSpelled (One reply) = SpellsOne reply.bytes
-AreSpelled (Several replies) = Unit {0}
+-- those that are kept without more can be read, and none states a key with Final
+abbrev pub ArePlain : PlainOrSeveral → Type 0
+ArePlain (Plain replies) = (0 < length replies.items) × AllByRecursion (λ reply. SpellsOne reply.bytes) replies.items × NoneStatesFinal replies.items
+ArePlain (Several replies) = Unit {0}

@@ -4,8 +4,8 @@ ghost use Rattle.std.specs.Prelude.{◌≡◌, ◌<◌, ◌^◌, ◌++◌, ◌�
 ghost use Rattle.encoding.specs.Maps.{at};
 ghost use Rattle.proofs.specs.Views.{key_stated};
 ghost use Rattle.client.specs.Agreements.{SpellsOne};
-ghost use Rattle.client.specs.Extremes.{BytesState};
-ghost use Rattle.client.specs.Finality.{ByName, HasOneMore, HaveTheSame, IndexedReply as Reply};
+ghost use Rattle.client.specs.Extremes.{BytesState, NoneStatesFinal};
+ghost use Rattle.client.specs.Finality.{ByName, HasOneMore, HaveTheSame};
 
 use crate::looks::statement;
 use crate::several::Several;
@@ -71,7 +71,7 @@ impl IndexedReply {
     }
 
     /// A copy, with the same bytes.
-    fn copied(&self) -> Result<IndexedReply, AllocError>
+    pub(crate) fn copied(&self) -> Result<IndexedReply, AllocError>
         ensures { IfOk result (λ reply. reply ≡ self.now) }
     {
         Ok(IndexedReply {
@@ -88,49 +88,57 @@ impl IndexedReply {
     }
 }
 
-/// The one reply for a name, which is kept without more, as most names have one; or several.
+/// The replies for a name. As long as none states a key with Final, as of most names, they are kept without more.
 #[derive(Drop)]
-pub(crate) enum OneOrSeveral {
-    One(IndexedReply),
+pub(crate) enum PlainOrSeveral {
+    Plain(Vec<IndexedReply>),
     Several(Box<Several>),
 }
 
 /// The replies for one name, in order of acceptance.
 #[derive(Drop)]
 pub(crate) struct RepliesOfName {
-    kept: OneOrSeveral,
+    kept: PlainOrSeveral,
 }
 
 impl Model for RepliesOfName {
     ghost use Rattle.std.specs.Prelude.{List};
     ghost use Rattle.client.specs.Finality as finality;
-    ghost use Rattle.client.specs.Several.{listed, AreSpelled};
+    ghost use Rattle.client.specs.Several.{listed, ArePlain};
 
     ghost Value = { List finality.IndexedReply };
 
     ghost view = { λ replies. listed replies.kept };
 
-    ghost invariant = { λ replies. AreSpelled replies.kept };
+    ghost invariant = { λ replies. ArePlain replies.kept };
 }
 
 impl RepliesOfName {
     /// One reply.
-    fn new(reply: IndexedReply) -> Self
+    fn of(alloc: Global, reply: IndexedReply) -> Result<Self, AllocError>
         requires { SpellsOne reply.bytes }
-        ensures { result ≡ reply ∷ [] }
+        ensures { IfOk result (λ replies. replies ≡ reply ∷ []) }
     {
-        RepliesOfName {
-            kept: OneOrSeveral::One(reply),
+        if reply.statement().is_final() {
+            let several = Several::of(alloc, reply)?;
+            return Ok(RepliesOfName {
+                kept: PlainOrSeveral::Several(Box::new(alloc, several)?),
+            });
         }
+        let mut list = Vec::with_capacity(alloc, 1)?;
+        list.push_reserved(reply);
+        Ok(RepliesOfName {
+            kept: PlainOrSeveral::Plain(list),
+        })
     }
 
-    /// The replies, if there are several.
+    /// The replies with their extremes, if one states a key with Final.
     pub(crate) fn several(&self) -> Option<&Several>
-        ensures { MatchOption result ((reply : Reply) × (self.now ≡ reply ∷ [])) (λ replies. replies.now ≡ self.now) }
+        ensures { MatchOption result (NoneStatesFinal self.now) (λ replies. replies.now ≡ self.now) }
     {
         match &self.kept {
-            OneOrSeveral::One(_) => None,
-            OneOrSeveral::Several(replies) => Some(replies),
+            PlainOrSeveral::Plain(_) => None,
+            PlainOrSeveral::Several(replies) => Some(replies),
         }
     }
 
@@ -141,13 +149,17 @@ impl RepliesOfName {
         ensures err { OnErr result (self.new ≡ self.old) }
     {
         match &mut self.kept {
-            OneOrSeveral::One(first) => {
-                let mut replies = Several::of(alloc, first.copied()?)?;
-                replies.push(reply)?;
-                self.kept = OneOrSeveral::Several(Box::new(alloc, replies)?);
+            PlainOrSeveral::Plain(list) => {
+                if reply.statement().is_final() {
+                    let mut replies = Several::of_all(alloc, list)?;
+                    replies.push(reply)?;
+                    self.kept = PlainOrSeveral::Several(Box::new(alloc, replies)?);
+                } else {
+                    list.push(reply)?;
+                }
                 Ok(())
             }
-            OneOrSeveral::Several(replies) => replies.push(reply),
+            PlainOrSeveral::Several(replies) => replies.push(reply),
         }
     }
 }
@@ -205,7 +217,8 @@ impl RepliesByName {
         ensures err { OnErr result (HaveTheSame self.old self.new) }
     {
         let key = Vec::from_slice(self.alloc, name.bytes())?;
-        self.lists.insert(key, RepliesOfName::new(reply))?;
+        let replies = RepliesOfName::of(self.alloc, reply)?;
+        self.lists.insert(key, replies)?;
         Ok(())
     }
 }

@@ -183,7 +183,7 @@ impl Extremes {
             → AreExtremes replies reply.now.index self.now → IsTrue result ↔ ChangesAmong replies reply.now }
     {
         let number = u64::MAX - reply.epoch();
-        // Where nothing is final, nothing is read.
+        // Where no final one is earlier, nothing is read.
         if self.earliest.number <= number {
             return false;
         }

@@ -1,6 +1,6 @@
-//! The accepted replies for one name, once there are two, in order of acceptance. Whether one of them changes what
-//! another states to be final is known at once, from the extremes of each index, which are kept as they come.
-ghost use Rattle.std.specs.Prelude.{◌≡◌, ◌↔◌, ◌++◌, ◌∷◌, [], ℕ, Some, IfOk, IsTrue, MatchOption, OnErr, OnOk, slice_get};
+//! The accepted replies for one name, once one states a key with Final, in order of acceptance. Whether one of them
+//! changes what another states to be final is known at once, from the extremes of each index, which are kept as they come.
+ghost use Rattle.std.specs.Prelude.{◌≡◌, ◌↔◌, ◌<◌, ◌++◌, ◌∷◌, [], ℕ, Some, IfOk, IsTrue, MatchOption, OnErr, OnOk, length, slice_get};
 ghost use Rattle.std.specs.List.{AllByRecursion};
 ghost use Rattle.client.specs.Agreements.{SpellsOne};
 ghost use Rattle.client.specs.Extremes.{AreExtremes, HasNoSuch};
@@ -56,6 +56,19 @@ impl Several {
             others: BTreeMap::new(alloc),
             is_changed: false,
         })
+    }
+
+    /// These replies, of which there is one at least.
+    pub(crate) fn of_all(alloc: Global, list: &[IndexedReply]) -> Result<Self, AllocError>
+        requires some { 0 < length list.now }
+        requires spelled { AllByRecursion (λ reply. SpellsOne reply.bytes) list.now }
+        ensures { IfOk result (λ replies. replies ≡ list.now) }
+    {
+        let mut replies = Several::of(alloc, list[0].copied()?)?;
+        for n in 1..list.len() {
+            replies.push(list[n].copied()?)?;
+        }
+        Ok(replies)
     }
 
     /// All of them.
