@@ -229,10 +229,12 @@ class Told:
             self.status = 3
 
     def tell_again(self, path, memory):
-        """Tells the evidence of earlier runs."""
+        """Tells the evidence of earlier runs, and that there are alarms of such runs."""
         for line in memory.evidence:
             self.text.append(line)
             self.explain(f"state: {path}.kept", "evidence of an earlier run", 3)
+        for _ in memory.alarms:
+            self.explain(f"state: {path}.kept", "alarm of an earlier run", 0)
 
     def raise_again(self, alarms):
         """Tells alarms of earlier runs."""
@@ -685,6 +687,13 @@ class Asked(Followed):
                 return self.refuse("proof", refusal, f"watching {monitor.name.hex()} at epoch {epoch}: ")
             self.tell_step(monitor.name, epoch, step)
             self.note(monitor.name, got[2])
+            self.drop_kept(monitor.name, epoch, got[2])
+
+    def drop_kept(self, name, epoch, body):
+        """Tests a promise of a name that is due in this epoch by the reply of its monitor. One that is not kept stays."""
+        if self.client.due_epoch(name) == epoch:
+            with contextlib.suppress(Refusal):
+                self.client.due(name, body)
 
     # The end
 

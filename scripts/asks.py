@@ -705,6 +705,7 @@ PROMISE_26 = "client refuses promise 26: the name has another index"
 NO_MEMORY, NO_EPOCH = "refused 14: out of memory", "refused 10: there is no such epoch"
 BEGINS = "state: begins at epoch 1"
 ALARM, EARLIER_ALARM = "alarm 61 3 6576", "watching 61 at epoch 3: alarm of an earlier run"
+KEPT_ALARM = "state: FILE.kept: alarm of an earlier run"
 FORKED = evidence_json(RootEvidence(FORK, root_2(b"k1"), root_2(EVIL)))
 LINKED = evidence_json(RootEvidence(LINK, root_2(b"k1"), roots_of(EVIL)[1]))
 AFTER_1027 = "no root is taken after epoch 1027"
@@ -892,17 +893,22 @@ STORED_LIES = {
     "an alarm that was told": (
         lies((2, None, key_is_robbed)),
         [BEGUN, run_of_lines("close 3", "watch 61 6b31"), WATCH],
-        Ending([ALARM, "watched 61 3"], 3, [EARLIER_ALARM]),
+        Ending([ALARM, "watched 61 3"], 3, [KEPT_ALARM, EARLIER_ALARM]),
     ),
     "an alarm, and new epochs": (
         lies((2, None, key_is_robbed)),
         [BEGUN, run_of_lines("close 3", "watch 61 6b31"), run_of_lines("close 4", "watch 61 6576", "watch 61 6b31")],
-        Ending(["root 4 after 3", ALARM, "kept 61 4", ALARM, "alarm 61 4 6576"], 3, [EARLIER_ALARM] * 2),
+        Ending(["root 4 after 3", ALARM, "kept 61 4", ALARM, "alarm 61 4 6576"], 3, [KEPT_ALARM, EARLIER_ALARM, EARLIER_ALARM]),
     ),
     "an alarm that is settled": (
         lies((2, None, key_is_robbed)),
         [BEGUN, run_of_lines("close 3", "watch 61 6b31"), SETTLE],
-        Ending(["settled 61 1"], 0, []),
+        Ending(["settled 61 1"], 0, [KEPT_ALARM]),
+    ),
+    "an alarm that was told, and no reply": (
+        lies((2, None, key_is_robbed), (3, None, nothing_comes)),
+        [BEGUN, run_of_lines("close 3", "watch 61 6b31"), WATCH],
+        Ending([], 1, [KEPT_ALARM, "no reply"]),
     ),
     "an alarm that was settled": (
         lies((2, None, key_is_robbed)),
@@ -1170,7 +1176,7 @@ STORED_LIES = {
     "an alarm of an earlier run, and no new epoch": (
         lies((2, None, key_is_robbed)),
         [BEGUN, run_of_lines("close 3", "watch 61 6b31"), run_of_words("watch 61 6b31", 3)],
-        Ending([ALARM, "watched 61 3", "stale 3"], 3, [EARLIER_ALARM]),
+        Ending([ALARM, "watched 61 3", "stale 3"], 3, [KEPT_ALARM, EARLIER_ALARM]),
     ),
     "evidence of an earlier run, no reply, and no new epoch": (
         lies((2, None, directory_goes_back(1)), (3, None, nothing_comes)),
@@ -1221,12 +1227,12 @@ STORED_LIES = {
     "a policy that the owner does not expect": (
         lies(),
         [run_of_lines("register2 61 6b31 open", "close 2", "watch 61 6b31"), WATCH],
-        Ending(["alarm 61 2 6b31 open", "watched 61 2"], 3, ["watching 61 at epoch 2: alarm of an earlier run"]),
+        Ending(["alarm 61 2 6b31 open", "watched 61 2"], 3, [KEPT_ALARM, "watching 61 at epoch 2: alarm of an earlier run"]),
     ),
     "another policy than the owner expects": (
         lies(),
         [run_of_lines("register2 61 6b31 open", "close 2", "watch2 61 6b31 final"), SETTLE],
-        Ending(["settled 61 1"], 0, []),
+        Ending(["settled 61 1"], 0, [KEPT_ALARM]),
     ),
     "a change to a final key whose monitor was held up": (
         lies((2, "lookup", memory_runs_out_for(3))),
@@ -1268,7 +1274,7 @@ STORED_LIES = {
     "another key in the place of a final one, and a run later": (
         lies((2, None, key_is_robbed)),
         [BEGUN_FINAL, WATCH_FINAL, run_of_words("watch2 61 6b31 final")],
-        Ending([ROBBED_FINAL, ALARM, "watched 61 3"], 3, [EARLIER_EVIDENCE, EARLIER_ALARM]),
+        Ending([ROBBED_FINAL, ALARM, "watched 61 3"], 3, [EARLIER_EVIDENCE, KEPT_ALARM, EARLIER_ALARM]),
     ),
     "another final key in the place of a final one": (
         lies((2, None, binding_becomes(EVIL, FINAL))),
@@ -1346,12 +1352,12 @@ STORED_LIES = {
         lies((2, None, key_is_robbed)),
         [BEGUN_FINAL, WATCH_FINAL, run_of_lines("close 4", "close 5", "lookup 61 0", "watch 61 6576")],
         Ending(
-            [ROBBED_FINAL, "root 4 after 3", "root 5 after 4", "present 5 6576", ALARM, "kept 61 4", "kept 61 5"], 3, [EARLIER_EVIDENCE, EARLIER_ALARM]),
+            [ROBBED_FINAL, "root 4 after 3", "root 5 after 4", "present 5 6576", ALARM, "kept 61 4", "kept 61 5"], 3, [EARLIER_EVIDENCE, KEPT_ALARM, EARLIER_ALARM]),
     ),
     "a final key that is changed twice": (
         lies((2, None, binding_becomes(EVIL, FINAL)), (3, None, binding_becomes(b"k1", FINAL))),
         [BEGUN_FINAL, WATCH_FINAL, run_of_lines("close 4", "lookup 61 0", "lookup 61 3")],
-        Ending([change_in(final_directory(becomes(EVIL, FINAL))), "root 4 after 3", "present 4 6b31 final", "present 3 6576 final"], 3, [EARLIER_EVIDENCE]),
+        Ending([change_in(final_directory(becomes(EVIL, FINAL))), "root 4 after 3", "present 4 6b31 final", "present 3 6576 final"], 3, [EARLIER_EVIDENCE, KEPT_ALARM]),
     ),
     "two changes of a final key in one run": (
         lies((1, "close", binding_becomes(EVIL, FINAL))),
@@ -1692,8 +1698,9 @@ def settled_alone(program):
             ran(program, provider, script, f"{folder}/state")
         order = asking(program, f"{folder}/state", "127.0.0.1:1", "settle", "61")
         run = subprocess.run(order, capture_output=True, timeout=SECONDS)
-    got = run.stdout, run.stderr, run.returncode
-    return None if got == (b"settled 61 1\n", b"", 0) else f"settle without a directory: {got}"
+    got = run.stdout, run.stderr.replace(os.fsencode(folder), b""), run.returncode
+    wanted = b"settled 61 1\n", b"state: /state.kept: alarm of an earlier run\n", 0
+    return None if got == wanted else f"settle without a directory: {got}"
 
 
 def unconnected(program):

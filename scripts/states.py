@@ -579,7 +579,10 @@ def cut_lines(program):
                 number, cut = case
                 state = f"{folder}/{number}"
                 put(state, cut.roots, cut.kept)
-                words = "".join(f"state: {state}{line}\n" for line in cut.said)
+                # The alarms whose lines are whole are said behind that.
+                alarms = sum(line.startswith(b"alarm ") for line in cut.kept.split(b"\n")[:-1])
+                said = [*cut.said, *[".kept: alarm of an earlier run"] * alarms]
+                words = "".join(f"state: {state}{line}\n" for line in said)
                 got = done(program, state, address, cut.script), sorted_kept(bytes_of(state))
                 wanted = (cut.printed, words, 0), sorted_kept([whole, cut.kept_then])
                 return different(f"{cut.roots[-20:]} and {cut.kept[-20:]}", wanted, got)
@@ -814,6 +817,9 @@ class Watched(NamedTuple):
     said: list
 
 
+# More than a run makes.
+MOST_ALLOCATIONS = 10_000
+
 # Before the state is read; up to where the new epoch is told; and behind that.
 NO_MEMORY = Watched(
     [b"register 61 6b31\nclose 2\nwatch 61 6b31\n", b"close 3\n"],
@@ -826,7 +832,7 @@ NO_MEMORY_BEHIND_ALARM = Watched(
     POLICY_RUNS,
     ["watch2", "61", "6b31", "final", "--after=2"],
     [([], 1), (["stale 2"], 3), ([OPEN_ALARM, "stale 2"], 3), ([OPEN_ALARM, "kept 61 3"], 3)],
-    ["watching 61 at epoch 2: alarm of an earlier run"],
+    ["state: FILE.kept: alarm of an earlier run", "watching 61 at epoch 2: alarm of an earlier run"],
 )
 
 
@@ -847,7 +853,7 @@ def ends_without_memory(program, library, case):
         for script in case.runs:
             provider.begin()
             ran(program, provider, script, begun)
-        for place in itertools.count(1):
+        for place in range(1, MOST_ALLOCATIONS):
             state, other = f"{folder}/{place}", provider.copied()
             for old, new in zip(paths(begun), paths(state)):
                 shutil.copy(old, new)
@@ -855,7 +861,8 @@ def ends_without_memory(program, library, case):
             # The library's count goes where nobody reads it.
             output, errors, status = ran(program, other, b"", state, case.words, **preloaded(library, FAIL_NTH=place))
             yield output, status
-            if (output, errors, status) == (case.ends[-1][0], case.said, case.ends[-1][1]):
+            said = [line.replace(state, "FILE") for line in errors]
+            if (output, said, status) == (case.ends[-1][0], case.said, case.ends[-1][1]):
                 return
 
 

@@ -1,8 +1,11 @@
 -- Steps of monitors, as they are told.
-use Rattle.std.specs.Prelude.{◌≡◌, ◌≢◌, ◌⊎◌, ℕ, zero, suc, Bool, true, false, List, [], ◌∷◌, ◌++◌, length, Some, None, Ok, Err, codes, slice_get, slice_set}
+use Rattle.std.specs.Prelude.{◌≡◌, ◌≢◌, ◌⊎◌, ℕ, zero, suc, Bool, true, false, List, [], ◌∷◌, ◌++◌, length, Option, Some, None, Result, Ok, Err, codes, slice_get, slice_set}
 use Rattle.commands.specs.Operations.{Lookup}
+use Rattle.client.specs.Clients.{Client as ChainClient}
+use Rattle.client.specs.Dues.{Dues, IsDueEpoch}
 use Rattle.client.specs.declared.client_refusal.Refusal.{Refusal}
 use Rattle.client.specs.declared.client_refusal.Refusal.TheVariants.{Memory}
+use Rattle.client.specs.declared.due.Due.{Due}
 use Rattle.monitor.specs.Monitors.{Monitor}
 use Rattle.monitor.specs.Stepping.{IsNextEpoch, Steps}
 use Rattle.monitor.specs.declared.monitor_refusal.Refusal.TheVariants.{Client}
@@ -46,6 +49,17 @@ module _ (hash : List ℕ → List ℕ) (accepted : List ℕ → List ℕ → Li
   ShowsEpoch before epoch asked frame went told after =
       (IsUnanswered asked frame told × (went ≡ false) × (after ≡ before)) ⊎ (FrameAnswers asked frame × WatchesBy before epoch frame.body went told after)
 
+  -- a promise for the name that is due in this epoch is tested by the reply, and dropped if that shows that it was kept
+  abbrev pub DropsKept : ChainClient → List ℕ → ℕ → List ℕ → ChainClient → Type 0
+  DropsKept before name epoch reply after =
+      (due : Option ℕ) × IsDueEpoch before name due
+      × (((due ≢ Some epoch) × (after ≡ before)) ⊎ ((due ≡ Some epoch) × ((shown : Result Due Refusal) × Dues hash accepted before name reply shown after)))
+
+  -- what a frame that came for a look-up shows the client
+  abbrev pub ShowsKept : ChainClient → List ℕ → ℕ → RequestContent → Frame → Report → ChainClient → Type 0
+  ShowsKept before name epoch asked frame told after =
+      (IsUnanswered asked frame told × (after ≡ before)) ⊎ (FrameAnswers asked frame × DropsKept before name epoch frame.body after)
+
   module _ {T : Type 0} (exchanged : T → RequestContent → Frame → T → Type 0) where
     -- the monitor at a place looks its name up in its next epoch, and this is told of what comes back
     pub record AsksEpoch (before : Scene T) (place : ℕ) (went : Bool) (after : Scene T) : Type 0 where
@@ -62,7 +76,7 @@ module _ (hash : List ℕ → List ℕ) (accepted : List ℕ → List ℕ → Li
       pub notes : NotesAnswer hash accepted before.client.chain monitor.name (Query (Lookup monitor.name epoch)) frame told before.finals shown after.finals
       pub tells : after.told ≡ told_after before.told (told_after told shown)
       pub monitors : after.monitors ≡ slice_set before.monitors place watched
-      pub client : after.client ≡ before.client
+      pub client : ShowsKept before.client monitor.name epoch (Query (Lookup monitor.name epoch)) frame told after.client
 
     -- whether the monitor at a place watched an epoch: it asks nothing where none is new
     abbrev pub StepsOnce : Scene T → ℕ → Bool → Scene T → Type 0

@@ -1,7 +1,7 @@
 // Whether roots that came are those that were asked for. Each follows the one before it, so none between two is left
 // out; the first follows one that was not asked for, and the last is as far as it has to be.
 ghost use Rattle.std.specs.Prelude.{◌≡◌, ◌↔◌, IsTrue};
-ghost use Rattle.rootchain.specs.Chains.{Links, Names};
+ghost use Rattle.rootchain.specs.Chains.{Links};
 ghost use Rattle.asking.specs.Wanted.{last_epoch, AreEnough, AreWanted, BeginFrom, FollowOn, IsFirstFrom, IsReached};
 
 use client::Client;
@@ -33,20 +33,11 @@ pub(crate) fn last_epoch(roots: &RootList<'_>) -> u64
     last
 }
 
-/// Whether a root names the earlier one as the one before it.
-#[tactic(auto, unfolding(rootchain::specs::Chains::Names))]
-fn names<H: NodeHash>(hash: &mut H, earlier: &SignedRoot, root: &SignedRoot) -> bool
-    ensures { IsTrue result ↔ Names H.digest_of earlier.now root.now }
-{
-    root.body.previous_epoch == earlier.body.epoch
-        && root.body.previous_hash == hash.digest(earlier.body.write().bytes())
-}
-
 /// Whether a root names the earlier one, and is later.
 fn links<H: NodeHash>(hash: &mut H, earlier: &SignedRoot, root: &SignedRoot) -> bool
     ensures { IsTrue result ↔ Links H.digest_of earlier.now root.now }
 {
-    earlier.body.epoch < root.body.epoch && names(hash, earlier, root)
+    earlier.body.epoch < root.body.epoch && root.names(hash, earlier)
 }
 
 /// Whether each of these roots follows the one before it, the first of them this one.

@@ -12,7 +12,7 @@ ghost use Rattle.asking.specs.FinalBindings.{NotesReply};
 ghost use Rattle.asking.specs.Refused.{client_refuses};
 ghost use Rattle.asking.specs.Scenes.{scene, GivesBody, HaltsAfter, HaltsIn, Remains, StaysWhole};
 ghost use Rattle.asking.specs.Reports.{report_of, silent, Report, Tells};
-ghost use Rattle.asking.specs.Watching.{step_told, AllStep, GoesOn, GoesSome, SomeStep, StepsOnce, StepsSome, StepsThrough, WatchesAt, WatchesEpoch};
+ghost use Rattle.asking.specs.Watching.{step_told, AllStep, DropsKept, GoesOn, GoesSome, SomeStep, StepsOnce, StepsSome, StepsThrough, WatchesAt, WatchesEpoch};
 ghost use Rattle.asking.specs.declared.ask_fault.AskFault.TheVariants.{Stopped};
 
 use crate::answering::ask_for;
@@ -116,7 +116,8 @@ where
         Err(AskFault::NoReply)
     }
 
-    /// Lets a monitor watch its next epoch. Returns whether it had one, and its client accepted the proof.
+    /// Lets a monitor watch its next epoch. A promise for its name that is due there is tested by the same reply. Returns
+    /// whether the monitor had an epoch, and its client accepted the proof.
     fn step<T: Read + Write>(
         &mut self,
         stream: &mut T,
@@ -142,8 +143,23 @@ where
         let (monitors, checks) = (&mut self.monitors, &mut self.checks);
         let went = watch_at(self.alloc, monitors, place, checks, epoch, &found, &mut now)?;
         self.note(&name, &found, &mut now)?;
+        self.drop_kept(&name, epoch, &found);
         said.join(now)?;
         Ok(went)
+    }
+
+    /// Tests a promise for a name that is due in this epoch by a reply that came for its monitor, so that it is not asked
+    /// for once more. Nothing is told: one that was not kept stays, and is tested again.
+    fn drop_kept(&mut self, name: &Name, epoch: u64, reply: &[u8])
+        ensures drops { DropsKept H.digest_of V.accepted (self.old).client name.now epoch reply.now (self.new).client }
+        ensures monitors { (self.new).monitors ≡ (self.old).monitors }
+        ensures finals { (self.new).finals ≡ (self.old).finals }
+        ensures stays { StaysWhole self.old self.new }
+    {
+        if self.client.due_epoch(name) == Some(epoch) {
+            let checks = &mut self.checks;
+            let _shown = self.client.due(&mut checks.hash, &checks.vuf, name, reply);
+        }
     }
 
     /// Notes bytes that came back for a name. What they show of a final binding is told.

@@ -1,16 +1,17 @@
 -- How far the chain, and the monitors, are once a client got as far as an epoch.
 use Rattle.std.proofs.Common.{◌≡◌, ◌∙◌, ◌≤◌, ℕ, zero, suc, true, false, Bool, List, length, Option, ap, arith, inl, inr, subst, sym}
+use Rattle.commands.specs.Operations.{Lookup}
 use Rattle.rootchain.specs.Chains.{IsHead, KeyedRoots}
 use Rattle.rootchain.specs.declared.signed_root.SignedRoot.{SignedRoot}
-use Rattle.client.specs.Clients.{Client}
 use Rattle.wire.specs.Frames.{Frame}
-use Rattle.wire.specs.Requests.{RequestContent}
+use Rattle.wire.specs.Requests.{RequestContent, Query}
 use Rattle.asking.specs.Catching.{Advances, AdvancesBy}
 use Rattle.runs.specs.Runs.{AdvancesLists, Background}
 use Rattle.asking.specs.Scenes.{Scene}
 use Rattle.runs.specs.Standing.{IsUpTo}
 use Rattle.asking.specs.Watching.{AllStep, StepsOnce, StepsThrough}
 use Rattle.runs.proofs.OwnRoots.{some-same}
+use Rattle.runs.proofs.SameChain.{step-chain}
 
 module _ {T : Type 0} (hash : List ℕ → List ℕ) (accepted verified : List ℕ → List ℕ → List ℕ → Type 0) (exchanged : T → RequestContent → Frame → T → Type 0) where
   abbrev SameChain : Scene T → Scene T → Type 0
@@ -24,7 +25,7 @@ module _ {T : Type 0} (hash : List ℕ → List ℕ) (accepted verified : List �
   once-chain : (before : Scene T) (place : ℕ) (went : Bool) (after : Scene T) → StepsOnce hash accepted exchanged before place went after → SameChain before after
   once-chain before place went after (inl (none, not, same)) = alike before after same
   once-chain before place went after (inr (inl (found, not, same))) = alike before after same
-  once-chain before place went after (inr (inr asks)) = ap (λ (c : Client). c.chain) asks.client
+  once-chain before place went after (inr (inr asks)) = step-chain hash accepted verified before.client asks.monitor.name asks.epoch (Query (Lookup asks.monitor.name asks.epoch)) asks.frame asks.told after.client asks.client
 
   through-chain : (count : ℕ) (before : Scene T) (place : ℕ) (after : Scene T) → StepsThrough hash accepted exchanged count before place after → SameChain before after
   through-chain zero before place after steps = once-chain before place false after steps

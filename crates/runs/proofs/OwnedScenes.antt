@@ -38,7 +38,7 @@ use Rattle.runs.proofs.OwnRoots.{some-same, taken-there}
 use Rattle.runs.proofs.OwnedMarks.{all-as_before, all-but, all-followed, as-before, held-grown, held-more, updated-goes, AllGo, GoesAs}
 use Rattle.runs.proofs.OwnedMonitors.{own-grown, own-handed, own-joined, own-more, own-stepped, own-updated, AreGiven, Owned}
 use Rattle.runs.proofs.OwnedRoots.{all-has, grows-none, taken-formed, taken-grows, HasGrown}
-use Rattle.runs.proofs.SameChain.{frame-chain, shown-chain}
+use Rattle.runs.proofs.SameChain.{frame-chain, shown-chain, step-chain}
 use Rattle.runs.proofs.ToldScenes.{all-map, all-push, all-set, stays-change, stays-step}
 
 -- a chain that grows has the root of a promise still
@@ -270,7 +270,7 @@ module _ (hash : List ℕ → List ℕ) (accepted verified : List ℕ → List �
           subst (λ (t : List ℕ). AllByRecursion (Owner t chain) (slice_set before.monitors place asks.watched)) (append_assoc text before.told.lines told.lines) both in
           let there : AllByRecursion (Owner (text ++ after.told.lines) chain) (slice_set before.monitors place asks.watched) =
           subst (λ (r : Report). AllByRecursion (Owner (text ++ r.lines) chain) (slice_set before.monitors place asks.watched)) (sym asks.tells) all in
-          goes before after (ap (λ (c : Client). c.chain) asks.client)
+          goes before after (step-chain hash accepted verified before.client asks.monitor.name asks.epoch (Query (Lookup asks.monitor.name asks.epoch)) asks.frame asks.told after.client asks.client)
           (subst (λ (ms : List Monitor). AllByRecursion (Owner (text ++ after.told.lines) chain) ms × AllGo before.monitors ms) (sym asks.monitors) (there, all-but before.monitors place asks.monitor asks.watched asks.at go)) owns
 
       hears-one : (before after : Scene T) (held : ℕ) (asked : RequestContent) (frame : Frame) (noted noted' : List SignedPromise) → HearsOne hash accepted verified exchanged held asked frame before after

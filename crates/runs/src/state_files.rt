@@ -279,8 +279,8 @@ impl<F: Files<File = File>> StateFiles<'_, F> {
         }
     }
 
-    /// Says that evidence is of an earlier run, in a line of the errors for each.
-    fn explain_evidence(&self, known: &Memory, said: &mut Said) -> Result<(), AllocError>
+    /// Says that evidence and alarms are of an earlier run, in a line of the errors for each.
+    fn explain_earlier(&self, known: &Memory, said: &mut Said) -> Result<(), AllocError>
         ensures { report_of said.new ≡ report_of said.old }
     {
         let mut words = Vec::new(self.alloc);
@@ -290,6 +290,9 @@ impl<F: Files<File = File>> StateFiles<'_, F> {
                 self.beside.as_str(),
                 b"evidence of an earlier run",
             )?;
+        }
+        for _ in known.alarms() {
+            push_words(&mut words, self.beside.as_str(), b"alarm of an earlier run")?;
         }
         said.words.extend_from_slice(&words)
     }
@@ -334,7 +337,7 @@ impl<F: Files<File = File>> Keeper for StateFiles<'_, F> {
             self.kept = Some(second.file);
         }
         self.roots = Some(roots.file);
-        self.explain_evidence(&loaded.memory, said)?;
+        self.explain_earlier(&loaded.memory, said)?;
         Ok(Ok(loaded))
     }
 
