@@ -34,6 +34,9 @@ FEW = 8
 # last of them after an order to stop, and that a round waits.
 PIECE, FULL, LAST, PAUSE = 4096, 65536, 5000, 1000
 
+# What is told once of what could not be kept.
+UNKEPT = b"journal: cannot write, edits are refused until a restart\n"
+
 
 class Closed(Exception):
     """A connection is to be closed."""
@@ -142,7 +145,7 @@ class Crowd:
         self.left, self.idle = count or inf, idle
         self.connections, self.coming = [], 0
         self.now, self.is_ordered, self.stopped = 0, False, None
-        self.errors = b""
+        self.errors, self.is_told = b"", False
 
     def run(self, steps):
         pause = 0
@@ -157,6 +160,9 @@ class Crowd:
             if self.is_ordered and self.stopped is None:
                 self.stopped = self.now
             pause = self.round()
+            if not self.is_synced and not self.is_told:
+                self.errors += UNKEPT
+                self.is_told = True
             if (self.left == 0 or self.stopped is not None) and not any(self.places):
                 return
 
@@ -349,6 +355,7 @@ def of_closings(q):
     q.ask(*stopped, "at 5000 room 0 1 2 at 5001 room 0 1 2")
     q.note("Answers do not leave in a round whose records are not on the disk. Memory is wanting for a line.")
     q.ask("crowd 3 3 0 0 at 0 come 3 give 0 2", b"a\n", "at 1 unsynced give 1 1", b"b\n", "at 2 give 0 3", b"c\n", "over 0 3")
+    q.ask("crowd 2 2 0 0 at 0 unsynced at 1 come 2 give 0 1", b"Ma\n", "at 2 unsynced give 1 1", b"Mb\n", "over 1 1")
     q.ask("crowd 3 3 0 0 at 0 come 4 give 0 4", b"a\n", "at 1 give 0 2", b"M\n", "at 2 give 0 4", b"c\n", "over 0 4")
 
 

@@ -40,6 +40,7 @@ AT_ONCE = 64
 # So many connections look names up meanwhile.
 BESIDE = 3
 KEEP_FAILED = 19
+UNKEPT = "journal: cannot write, edits are refused until a restart\n"
 ROOM = 2048
 FAILING_SYNCS = 4
 
@@ -78,9 +79,11 @@ class Server:
         self.address = self.process.stderr.readline().removeprefix("listening on ").strip()
 
     def stop(self):
+        """What it said on standard error since it listened."""
         self.process.kill()
         self.process.wait()
-        self.process.stderr.close()
+        with self.process.stderr as errors:
+            return errors.read()
 
     def ask(self, requests):
         """The replies to these requests over one connection, as (kind, body), as far as they come."""
@@ -397,13 +400,17 @@ def full(program, folder):
         ((kind, body),) = server.ask([request])
         if (kind, body) != (REFUSED, u8(KEEP_FAILED)):
             yield f"{request[0]} after a lost record got the kind {kind:02x}"
-    server.stop()
+    told = server.stop()
+    if told != UNKEPT:
+        yield f"without room: {told}"
     server = Server(program, journal)
     if not server.line.startswith(f"journal: {len(answered.names) + 1} records taken"):
         yield f"with room again: {server.line}"
     yield from answered.check(server, 1, answered.names)
     yield from answered.ask(server, [("register2", FINAL, b"other", b"key"), ("close", TOKEN, 2)])
-    server.stop()
+    told = server.stop()
+    if told:
+        yield f"with room: {told}"
     server = Server(program, journal)
     yield from answered.check(server, 1, answered.names)
     server.stop()
@@ -512,7 +519,9 @@ def failing(program, folder, library, number):
         if server.ask([request]):
             yield f"an answer to {request[0]} after sync {number} failed"
     yield from wrong_order(log.calls())
-    server.stop()
+    told = server.stop()
+    if told != UNKEPT:
+        yield f"sync {number} failed: {told}"
     server = Server(program, journal)
     yield from answered.check(server, 1, answered.names)
     server.stop()

@@ -1,4 +1,4 @@
-"""Asks the library for C the stored questions of the program `vectors` that it has calls for: docs/VECTORS.md has their
+"""Asks the library for C the stored questions of the program `vectors` that it has calls for: answers.py has their
 words. checker.py runs it."""
 
 import copy

@@ -13,7 +13,7 @@ use Rattle.connections.specs.Fairness.{IsAttended, IsFull, IsNotDue, IsServed, I
 use Rattle.connections.specs.Fitting.{Adds, AddsOfSessions, AreOfSessions, IsOfConnection, KeepsCourse, KeepsTalk, Knows, Lasts, Stays, ending_of}
 use Rattle.connections.specs.declared.ending.SessionFault.{SessionFault}
 use Rattle.connections.specs.Histories.{At, Ordered, GoesOn, Syncs, NoneWaits, On, Deed, Comes, Opens, Refuses, Reads, IsOver, IsSilent, Hears, Misses, Lacks, Takes, TakesNone, Fails, Ends, Closes, History, Course, IfThere, Telling, course, done_at, or_now, rested, stage, went_on, IsOfSession}
-use Rattle.connections.specs.Telling.{losses, lost}
+use Rattle.connections.specs.Telling.{losses, lost, tells_unkept}
 use Rattle.connections.specs.Rounds.{does_something, closes, gives_turn, offers, reads, was_busy, InRound, IsUnread}
 use Rattle.connections.specs.Soundness.{Here, AreNext, HasRoom, IsDue, IsHearing, IsOnce, IsWell, MayBeClosed, MayBeOffered, MayBeRead, MayHear}
 
@@ -84,6 +84,10 @@ used_one : (place : ℕ) (deed : Deed) (acts : History) (other : ℕ) → IsUsed
 used_one place deed acts other (inl some) = used_at place deed acts other (place == other) refl some
 used_one place deed acts other (inr shut) = inr (inr shut)
 
+or_right : (one : Bool) {other : Bool} → other ≡ true → (one || other) ≡ true
+or_right true is = refl
+or_right false is = is
+
 lasts_one : (place : ℕ) (deed : Deed) (acts : History) → Lasts acts (On place deed ∷ acts)
 lasts_one place deed acts = record {
   turns = λ is other found. inr found;
@@ -91,6 +95,8 @@ lasts_one place deed acts = record {
   none_ordered = λ none. none;
   used = used_one place deed acts;
   fair = λ idle count size fair. fair;
+  same_sync = refl;
+  unkept = λ is_unkept told. or_right (tells_unkept is_unkept deed) told;
 }
 
 pub lasts_none : (acts : History) → Lasts acts acts
@@ -100,6 +106,8 @@ lasts_none acts = record {
   none_ordered = λ none. none;
   used = λ other used. used;
   fair = λ idle count size fair. fair;
+  same_sync = refl;
+  unkept = λ is_unkept told. told;
 }
 
 pub lasts_both : (acts between after : History) → Lasts acts between → Lasts between after → Lasts acts after
@@ -109,6 +117,8 @@ lasts_both acts between after one two = record {
   none_ordered = λ none. two.none_ordered (one.none_ordered none);
   used = λ other used. two.used other (one.used other used);
   fair = λ idle count size fair. two.fair idle count size (one.fair idle count size fair);
+  same_sync = two.same_sync ∙ one.same_sync;
+  unkept = λ is_unkept told. two.unkept is_unkept (one.unkept is_unkept told);
 }
 
 -- nothing happens at a place, where no connection waits
@@ -125,6 +135,8 @@ stays_waits place wanting acts = record {
     none_ordered = λ none. none;
     used = λ other used. used;
     fair = λ idle count size fair. fair;
+    same_sync = refl;
+    unkept = λ is_unkept told. told;
   };
   more_came = omega arith;
   more_lost = refl;

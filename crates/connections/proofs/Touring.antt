@@ -3,7 +3,7 @@ use Rattle.std.proofs.Common.{◌≡◌, ◌≢◌, ◌⊎◌, ℕ, zero, suc, �
 use Rattle.std.proofs.Math.Nat.{le-min, min-le_left, min-le_right}
 use Rattle.std.proofs.lemmas.Bool.{cases_lt, eqb-true, eqb-false, false≢true}
 use Rattle.std.proofs.lemmas.List.{get_or_past, get_or_read}
-use Rattle.std.specs.Prelude.{◌==◌, ◌↔◌, if◌then◌else◌, min}
+use Rattle.std.specs.Prelude.{◌==◌, ◌↔◌, ◌||◌, if◌then◌else◌, min}
 use Rattle.connections.specs.declared.ending.Ending.{Ending}
 use Rattle.connections.specs.declared.ending.Ending.TheVariants.{Done, Fault, Idle, Stopped, Unsynced, Memory, Refused}
 use Rattle.connections.specs.declared.ending.SessionFault.{SessionFault}
@@ -16,10 +16,11 @@ use Rattle.connections.specs.Fitting.{AreUnread, Begins, Fits, FitAll, Has, HasW
 use Rattle.connections.specs.Histories.{At, Ordered, GoesOn, Syncs, History, Course, Hearing, IfThere, Telling, Stage, clock, course, rested, stage, stopped, Leads}
 use Rattle.connections.specs.Pauses.{IsPause, MayStay, pause_of, until_due, until_idle, until_stopped}
 use Rattle.connections.specs.Soundness.{Here, IsReason, IsTaken}
-use Rattle.connections.specs.Telling.{losses, TellsLosses, TellsTimes}
+use Rattle.connections.specs.Telling.{answered_unkept, has_unkept, losses, unsynced, TellsAll, TellsLines, TellsTimes}
 use Rattle.connections.proofs.Closing.{fits_none}
 use Rattle.connections.proofs.Steps.{lasts_both, lasts_none, some_there}
-use Rattle.connections.proofs.Wanting.{tells_times}
+use Rattle.connections.proofs.Unkept.{told_on}
+use Rattle.connections.proofs.Wanting.{lines_more}
 
 -- nothing happened yet
 pub all_free : (places : List (Option Talk)) → ((place : ℕ) → get_or places place None ≡ None) → FitAll places []
@@ -317,6 +318,8 @@ begins_at acts pause now = record {
   quiet = refl;
   inside = λ size inside. inside;
   fair = λ idle count size fair whole more. (whole, more, fair);
+  same_sync = refl;
+  unkept = λ is_unkept told. told;
 }
 
 begins_ordered : (acts : History) (pause now : ℕ) → Begins now acts (Ordered ∷ At pause now ∷ acts)
@@ -330,6 +333,8 @@ begins_ordered acts pause now = record {
   quiet = refl;
   inside = λ size inside. inside;
   fair = λ idle count size fair whole more. (whole, more, fair);
+  same_sync = refl;
+  unkept = λ is_unkept told. told;
 }
 
 begins_on : (acts : History) (pause now : ℕ) → Begins now acts (GoesOn ∷ At pause now ∷ acts)
@@ -343,6 +348,8 @@ begins_on acts pause now = record {
   quiet = refl;
   inside = λ size inside. inside;
   fair = λ idle count size fair whole more. (whole, more, fair);
+  same_sync = refl;
+  unkept = λ is_unkept told. told;
 }
 
 -- the round has begun, whether a stop is ordered or not
@@ -417,7 +424,7 @@ module _ {S : Type 0} (opens : S → ℕ → S → Type 0) (refuses : S → ℕ 
         → Tours opens refuses hears misses ends has Hearing idle now stop_new 0 0 one two (λ before. AreUnread before × IsKnownBusy busy_taken before) (λ after. (IsStopped after ⊎ AreAttended after) × IsKnownBusy busy_heard after) taken took places_taken heard hearing places_heard
         → ((start : S) (acts : History) → Leads opens refuses hears misses ends start acts hearing → has heard acts → has synced (Syncs kept ∷ acts))
         → Tours opens refuses hears misses ends has (Telling kept) idle now stop_new 0 0 two last (IsKnownBusy busy_heard) (λ after. AreServed idle after × KnowsPause idle (length places_heard) longest busy_told pause_told after) synced hearing places_heard told new places_told
-        → Turns opens refuses hears misses ends has idle stop left pause connections old places stop_new left_new (pause_of busy_told pause_told) last told new places_told
+        → Turns opens refuses hears misses ends has idle stop left pause connections old places stop_new left_new (pause_of busy_told pause_told) last kept told new places_told
     one_round idle now left left_new pause none one two last longest pause_told stop stop_new kept busy_taken busy_heard busy_told connections waited taken heard synced told old took hearing new places rested places_taken places_heard places_told size_r size_t size_h size_w no_loss most begins takes hears_all syncs tells =
         λ count start acts known order fit whole more.
         let a = begins start acts known order fit whole.4 in
@@ -444,69 +451,76 @@ module _ {S : Type 0} (opens : S → ℕ → S → Type 0) (refuses : S → ℕ 
           w.1.same_rounds ∙ h.1.same_rounds ∙ t.1.same_rounds ∙ a.2.more_rounds,
           lost,
           (left_told, w.1.lasts.fair idle count size (all_heard, fair), (over, w.4.0), in_told, rests),
+          w.1.lasts.same_sync ∙ ap (λ (u : Bool). if kept then u else true) (h.1.lasts.same_sync ∙ t.1.lasts.same_sync ∙ a.2.same_sync),
+          λ is_unkept told. w.1.lasts.unkept is_unkept (h.1.lasts.unkept is_unkept (t.1.lasts.unkept is_unkept (a.2.unkept is_unkept told))),
         )
 
     -- ---- rounds, one after another
 
-    -- how the loop stands after so many rounds, when so many more connections may be taken, and what it wrote
-    abbrev pub Stands : ℕ → ℕ → ℕ → S → Option (List ℕ) → Option (List ℕ) → C → S → List (Option Talk) → Option ℕ → ℕ → ℕ → ℕ → Type 0
-    Stands idle count size start written errors connections sessions places stop left pause turns = (acts : History) × Has opens refuses hears misses ends has idle start connections sessions acts
-        × (stopped acts ≡ stop) × FitAll places acts × (rounds acts ≡ turns) × TellsLosses acts written errors × HasWholeRounds idle count size left pause acts
+    -- by the test of a reply that says that something could not be kept, and that of sessions of which one was answered so
+    module _ (is_unkept : List ℕ → Bool) (any_unkept : S → Bool) where
+      -- how the loop stands after so many rounds, when so many more connections may be taken, what it wrote, and whether it
+      -- told what could not be kept
+      abbrev pub Stands : ℕ → ℕ → ℕ → S → Option (List ℕ) → Option (List ℕ) → Bool → C → S → List (Option Talk) → Option ℕ → ℕ → ℕ → ℕ → Type 0
+      Stands idle count size start written errors told connections sessions places stop left pause turns = (acts : History) × Has opens refuses hears misses ends has idle start connections sessions acts
+          × (stopped acts ≡ stop) × FitAll places acts × (rounds acts ≡ turns) × TellsLines told (losses acts) written errors × (told ≡ (has_unkept is_unkept acts || any_unkept start)) × HasWholeRounds idle count size left pause acts
 
-    -- one round more
-    pub turned : (idle idle_now count size left left_new pause pause_new turns wanting : ℕ) (stop stop_new : Option ℕ) (connections connections_new : C) (sessions new : S) (places places_new : List (Option Talk))
-        → idle_now ≡ idle → length places ≡ size → MayGoOn left stop places → (start : S) (written errors errors_new : Option (List ℕ)) → Stands idle count size start written errors connections sessions places stop left pause turns
-        → TellsTimes wanting errors errors_new
-        → Turns opens refuses hears misses ends has idle_now stop left pause connections sessions places stop_new left_new pause_new wanting connections_new new places_new
-        → Stands idle count size start written errors_new connections_new new places_new stop_new left_new pause_new (turns + 1)
-    turned idle idle_now count size left left_new pause pause_new turns wanting stop stop_new connections connections_new sessions new places places_new same_idle same_size goes start written errors errors_new (acts, known, order, fit, began, told, whole) lines one =
-        let turns_now = subst (λ (i : ℕ). Turns opens refuses hears misses ends has i stop left pause connections sessions places stop_new left_new pause_new wanting connections_new new places_new) same_idle one in
-        let t = turns_now count start acts known order fit (subst (λ (n : ℕ). HasWholeRounds idle count n left pause acts) (sym same_size) whole)
-        (not_finished count left stop acts places order fit whole.0 goes) in
-        let round : rounds t.0 ≡ rounds acts + 1 = t.4 in
-        let lost : losses t.0 ≡ losses acts + wanting = t.5 in (
-          t.0,
-          t.1,
-          t.2,
-          t.3,
-          round ∙ ap (λ (n : ℕ). n + 1) began,
-          subst (λ (n : ℕ). TellsTimes n written errors_new) (sym lost) (tells_times (losses acts) wanting written errors errors_new told lines),
-          subst (λ (n : ℕ). HasWholeRounds idle count n left_new pause_new t.0) same_size t.6,
-        )
+      -- one round more
+      pub turned : (idle idle_now count size left left_new pause pause_new turns wanting : ℕ) (stop stop_new : Option ℕ) (kept told told_new : Bool) (connections connections_new : C) (sessions new : S) (places places_new : List (Option Talk))
+          → idle_now ≡ idle → length places ≡ size → MayGoOn left stop places → (start : S) (written errors middle errors_new : Option (List ℕ)) → Stands idle count size start written errors told connections sessions places stop left pause turns
+          → ((start : S) (acts : History) (after : S) → Leads opens refuses hears misses ends start acts after → any_unkept after ≡ (answered_unkept is_unkept acts || any_unkept start))
+          → TellsTimes wanting errors middle → ((count : ℕ) (old : Option (List ℕ)) → TellsLines told count old middle → TellsLines told_new count old errors_new) → told_new ≡ (told || (if kept then any_unkept new else true))
+          → Turns opens refuses hears misses ends has idle_now stop left pause connections sessions places stop_new left_new pause_new wanting kept connections_new new places_new
+          → Stands idle count size start written errors_new told_new connections_new new places_new stop_new left_new pause_new (turns + 1)
+      turned idle idle_now count size left left_new pause pause_new turns wanting stop stop_new kept told told_new connections connections_new sessions new places places_new same_idle same_size goes start written errors middle errors_new (acts, known, order, fit, began, lines, is_told, whole) follows more line told_now one =
+          let turns_now = subst (λ (i : ℕ). Turns opens refuses hears misses ends has i stop left pause connections sessions places stop_new left_new pause_new wanting kept connections_new new places_new) same_idle one in
+          let t = turns_now count start acts known order fit (subst (λ (n : ℕ). HasWholeRounds idle count n left pause acts) (sym same_size) whole)
+          (not_finished count left stop acts places order fit whole.0 goes) in
+          let round : rounds t.0 ≡ rounds acts + 1 = t.4 in
+          let lost : losses t.0 ≡ losses acts + wanting = t.5 in (
+            t.0,
+            t.1,
+            t.2,
+            t.3,
+            round ∙ ap (λ (n : ℕ). n + 1) began,
+            line (losses t.0) written (subst (λ (n : ℕ). TellsLines told n written middle) (sym lost) (lines_more told (losses acts) wanting written errors middle lines more)),
+            told_on kept (unsynced acts) (answered_unkept is_unkept acts) (any_unkept start) told (unsynced t.0) (answered_unkept is_unkept t.0) (any_unkept new) told_new is_told t.7 (t.8 is_unkept) (follows start t.0 new t.1.1) told_now,
+            subst (λ (n : ℕ). HasWholeRounds idle count n left_new pause_new t.0) same_size t.6,
+          )
 
-    -- what is so when the loop ends
-    abbrev pub EndsWell : ℕ → ℕ → ℕ → S → Option (List ℕ) → Option (List ℕ) → C → S → Type 0
-    EndsWell idle count size start written errors connections sessions = (acts : History) × Has opens refuses hears misses ends has idle start connections sessions acts × AreWithin count acts × HasEnded count acts
-        × IsFair idle count size acts × IsWhole idle acts × AreInside size acts × TellsLosses acts written errors
+      -- what is so when the loop ends
+      abbrev pub EndsWell : ℕ → ℕ → ℕ → S → Option (List ℕ) → Option (List ℕ) → C → S → Type 0
+      EndsWell idle count size start written errors connections sessions = (acts : History) × Has opens refuses hears misses ends has idle start connections sessions acts × AreWithin count acts × HasEnded count acts
+          × IsFair idle count size acts × IsWhole idle acts × AreInside size acts × TellsAll is_unkept (any_unkept start) acts written errors
 
-    closing : (count left : ℕ) (stop : Option ℕ) (acts : History) → stopped acts ≡ stop → comers acts + left ≡ most_comers count → (left ≡ 0) ⊎ (stop ≢ None) → IsClosing count acts
-    closing count left stop acts order most (inl none) = inr (let m : comers acts + left ≡ most_comers count = most in omega arith)
-    closing count left None acts order most (inr some) = absurd (some refl)
-    closing count left (Some since) acts order most (inr some) = inl (since, order)
+      closing : (count left : ℕ) (stop : Option ℕ) (acts : History) → stopped acts ≡ stop → comers acts + left ≡ most_comers count → (left ≡ 0) ⊎ (stop ≢ None) → IsClosing count acts
+      closing count left stop acts order most (inl none) = inr (let m : comers acts + left ≡ most_comers count = most in omega arith)
+      closing count left None acts order most (inr some) = absurd (some refl)
+      closing count left (Some since) acts order most (inr some) = inl (since, order)
 
-    pub ended : (idle count size left pause turns : ℕ) (stop : Option ℕ) (start : S) (written errors : Option (List ℕ)) (connections : C) (sessions : S) (places : List (Option Talk))
-        → Stands idle count size start written errors connections sessions places stop left pause turns → (left ≡ 0) ⊎ (stop ≢ None) → ((place : ℕ) → get_or places place None ≡ None)
-        → EndsWell idle count size start written errors connections sessions
-    ended idle count size left pause turns stop start written errors connections sessions places (acts, known, order, fit, began, told, whole) closes free = (
-      acts,
-      known,
-      let m : comers acts + left ≡ most_comers count = whole.0 in omega arith,
-      inl ((λ place. fits_none (course acts place) (subst (λ (slot : Option Talk). Fits slot (course acts place)) (free place) (fit place))), closing count left stop acts order whole.0 closes),
-      whole.1,
-      whole.2,
-      whole.3,
-      told,
-    )
+      pub ended : (idle count size left pause turns : ℕ) (stop : Option ℕ) (start : S) (written errors : Option (List ℕ)) (told : Bool) (connections : C) (sessions : S) (places : List (Option Talk))
+          → Stands idle count size start written errors told connections sessions places stop left pause turns → (left ≡ 0) ⊎ (stop ≢ None) → ((place : ℕ) → get_or places place None ≡ None)
+          → EndsWell idle count size start written errors connections sessions
+      ended idle count size left pause turns stop start written errors told connections sessions places (acts, known, order, fit, began, lines, is_told, whole) closes free = (
+        acts,
+        known,
+        let m : comers acts + left ≡ most_comers count = whole.0 in omega arith,
+        inl ((λ place. fits_none (course acts place) (subst (λ (slot : Option Talk). Fits slot (course acts place)) (free place) (fit place))), closing count left stop acts order whole.0 closes),
+        whole.1,
+        whole.2,
+        whole.3,
+        subst (λ (b : Bool). TellsLines b (losses acts) written errors) is_told lines,
+      )
 
-    pub ended_late : (idle count size left pause turns : ℕ) (stop : Option ℕ) (start : S) (written errors : Option (List ℕ)) (connections : C) (sessions : S) (places : List (Option Talk))
-        → Stands idle count size start written errors connections sessions places stop left pause turns → turns ≡ 2 ^ 64 - 1 → EndsWell idle count size start written errors connections sessions
-    ended_late idle count size left pause turns stop start written errors connections sessions places (acts, known, order, fit, began, told, whole) last = (
-      acts,
-      known,
-      let m : comers acts + left ≡ most_comers count = whole.0 in omega arith,
-      inr (began ∙ last),
-      whole.1,
-      whole.2,
-      whole.3,
-      told,
-    )
+      pub ended_late : (idle count size left pause turns : ℕ) (stop : Option ℕ) (start : S) (written errors : Option (List ℕ)) (told : Bool) (connections : C) (sessions : S) (places : List (Option Talk))
+          → Stands idle count size start written errors told connections sessions places stop left pause turns → turns ≡ 2 ^ 64 - 1 → EndsWell idle count size start written errors connections sessions
+      ended_late idle count size left pause turns stop start written errors told connections sessions places (acts, known, order, fit, began, lines, is_told, whole) last = (
+        acts,
+        known,
+        let m : comers acts + left ≡ most_comers count = whole.0 in omega arith,
+        inr (began ∙ last),
+        whole.1,
+        whole.2,
+        whole.3,
+        subst (λ (b : Bool). TellsLines b (losses acts) written errors) is_told lines,
+      )

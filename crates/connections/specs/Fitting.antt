@@ -1,5 +1,5 @@
 -- What the loop keeps of a place, and the history that it stands for.
-use Rattle.std.specs.Prelude.{◌≡◌, ◌≢◌, ◌⊎◌, ◌↔◌, ◌+◌, ◌||◌, ◌<◌, ◌≤◌, ℕ, List, [], ◌∷◌, ◌++◌, Bool, true, false, Option, Some, None, Result, Ok, Err, IfOk, drop, get_or, length, ⊤}
+use Rattle.std.specs.Prelude.{◌≡◌, ◌≢◌, ◌⊎◌, ◌↔◌, ◌+◌, ◌||◌, ◌<◌, ◌≤◌, ℕ, List, [], ◌∷◌, ◌++◌, Bool, true, false, Option, Some, None, Result, Ok, Err, IfOk, drop, get_or, if◌then◌else◌, length, ⊤}
 use Rattle.connections.specs.declared.ending.Ending.{Ending}
 use Rattle.connections.specs.declared.ending.Ending.TheVariants.{Done, Fault, Idle, Stopped, Unsynced, Memory, Refused}
 use Rattle.connections.specs.declared.ending.SessionFault.{SessionFault}
@@ -12,7 +12,7 @@ use Rattle.connections.specs.Fairness.{IsAttended, IsFair, IsUsed, IsWhole, None
 use Rattle.connections.specs.Histories.{Stage, At, Ordered, GoesOn, Syncs, NoneWaits, On, Deed, Comes, Opens, Refuses, Reads, IsOver, IsSilent, Hears, Misses, Lacks, Takes, TakesNone, Fails, Ends, Closes, History, Course, Hearing, IfThere, clock, course, stage, stopped, IsOfSession, Leads}
 use Rattle.connections.specs.Pauses.{IsPause, MayStay}
 use Rattle.connections.specs.Rounds.{gives_turn, was_busy, InRound, IsUnread}
-use Rattle.connections.specs.Telling.{losses}
+use Rattle.connections.specs.Telling.{answered_unkept, losses, unsynced}
 use Rattle.connections.specs.Soundness.{Here, IsHearing, IsSoundHistory, IsWell, MayBeClosed}
 
 -- what was read and not heard, what was answered and not taken, and since when the connection is idle
@@ -40,6 +40,8 @@ pub record Lasts (before after : History) : Type 0 where
   pub none_ordered : NoneOrdered before → NoneOrdered after
   pub used : (place : ℕ) → IsUsed before place → IsUsed after place
   pub fair : (idle count size : ℕ) → IsFair idle count size before → IsFair idle count size after
+  pub same_sync : unsynced after ≡ unsynced before
+  pub unkept : (is_unkept : List ℕ → Bool) → answered_unkept is_unkept before ≡ true → answered_unkept is_unkept after ≡ true
 
 -- what happened meanwhile happened at this place, and so many connections came; so many were counted before that were
 -- closed for want of memory, and so many after
@@ -108,6 +110,8 @@ pub record Begins (now : ℕ) (before after : History) : Type 0 where
   pub quiet : IsKnownBusy false after
   pub inside : (size : ℕ) → AreInside size before → AreInside size after
   pub fair : (idle count size : ℕ) → IsFair idle count size before → IsWhole idle before → ¬ IsFinished count before → IsFair idle count size after
+  pub same_sync : unsynced after ≡ unsynced before
+  pub unkept : (is_unkept : List ℕ → Bool) → answered_unkept is_unkept before ≡ true → answered_unkept is_unkept after ≡ true
 
 -- the same, and, if nothing was, for how long the next round may wait: at most so long, and as long as each
 -- connection at so many places may stay as it is
@@ -256,9 +260,10 @@ module _ {S : Type 0} (opens : S → ℕ → S → Type 0) (refuses : S → ℕ 
         → stage acts ≡ when → clock acts ≡ now → stopped acts ≡ stop → Ready acts → FitAll places acts
         → (after : History) × StaysInRound (length places) left left_new wanting wanting_new acts after × Has idle start connections_new new after × FitAll places_new after × Turn after
 
-    -- one round, in which so many connections are closed for want of memory
-    abbrev pub Turns : ℕ → Option ℕ → ℕ → ℕ → C → S → List (Option Talk) → Option ℕ → ℕ → ℕ → ℕ → C → S → List (Option Talk) → Type 0
-    Turns idle stop left pause connections old places stop_new left_new pause_new wanting connections_new new places_new = (count : ℕ) (start : S) (acts : History) → Has idle start connections old acts
+    -- one round, in which so many connections are closed for want of memory, and what is answered is put on its disk, or not
+    abbrev pub Turns : ℕ → Option ℕ → ℕ → ℕ → C → S → List (Option Talk) → Option ℕ → ℕ → ℕ → ℕ → Bool → C → S → List (Option Talk) → Type 0
+    Turns idle stop left pause connections old places stop_new left_new pause_new wanting kept connections_new new places_new = (count : ℕ) (start : S) (acts : History) → Has idle start connections old acts
         → stopped acts ≡ stop → FitAll places acts → HasWholeRounds idle count (length places) left pause acts → ¬ IsFinished count acts
         → (after : History) × Has idle start connections_new new after × (stopped after ≡ stop_new) × FitAll places_new after
         × (rounds after ≡ rounds acts + 1) × (losses after ≡ losses acts + wanting) × HasWholeRounds idle count (length places) left_new pause_new after
+        × (unsynced after ≡ (if kept then unsynced acts else true)) × ((is_unkept : List ℕ → Bool) → answered_unkept is_unkept acts ≡ true → answered_unkept is_unkept after ≡ true)

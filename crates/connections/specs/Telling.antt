@@ -1,6 +1,6 @@
--- What is told of connections that were closed for want of memory.
-use Rattle.std.specs.Prelude.{◌≡◌, ◌+◌, ℕ, zero, suc, List, [], ◌∷◌, Option, codes}
-use Rattle.textio.specs.Output.{WritesBut}
+-- What is told of connections that were closed for want of memory, and of what cannot be kept.
+use Rattle.std.specs.Prelude.{◌≡◌, ◌+◌, ◌||◌, ℕ, zero, suc, Bool, true, false, List, [], ◌∷◌, Option, codes, if◌then◌else◌}
+use Rattle.textio.specs.Output.{WritesBut, WritesSome}
 use Rattle.connections.specs.declared.ending.Ending.{Ending}
 use Rattle.connections.specs.declared.ending.Ending.TheVariants.{Done, Fault, Idle, Stopped, Unsynced, Memory, Refused}
 use Rattle.connections.specs.Histories.{At, Ordered, GoesOn, Syncs, NoneWaits, On, Deed, Comes, Opens, Refuses, Reads, IsOver, IsSilent, Hears, Misses, Lacks, Takes, TakesNone, Fails, Ends, Closes, History}
@@ -13,9 +13,19 @@ abbrev pub TellsTimes : ℕ → Option (List ℕ) → Option (List ℕ) → Type
 TellsTimes zero old new = new ≡ old
 TellsTimes (suc count) old new = (middle : Option (List ℕ)) × TellsTimes count old middle × (rest : List ℕ) × WritesBut middle new memory_line rest
 
--- some number of times
-abbrev pub TellsMemory : Option (List ℕ) → Option (List ℕ) → Type 0
-TellsMemory old new = (count : ℕ) × TellsTimes count old new
+-- the line about what cannot be kept
+abbrev pub unkept_line : List ℕ
+unkept_line = codes "journal: cannot write, edits are refused until a restart\n"
+
+-- so many lines about memory, and, where something could not be kept, among them one about that, whole or less of it
+abbrev pub TellsLines : Bool → ℕ → Option (List ℕ) → Option (List ℕ) → Type 0
+TellsLines false count old new = TellsTimes count old new
+TellsLines true count old new = (earlier later : ℕ) × (before after : Option (List ℕ)) × (count ≡ earlier + later) × TellsTimes earlier old before
+    × WritesSome before after unkept_line × TellsTimes later after new
+
+-- some number of them
+abbrev pub TellsSome : Bool → Option (List ℕ) → Option (List ℕ) → Type 0
+TellsSome told old new = (count : ℕ) × TellsLines told count old new
 
 -- how many connections are closed for want of memory, by a reason and by a deed
 abbrev pub lost_by : Ending → ℕ
@@ -53,6 +63,49 @@ losses (GoesOn ∷ before) = losses before
 losses (NoneWaits ∷ before) = losses before
 losses (On place deed ∷ before) = losses before + lost deed
 
--- each of them has its line
-abbrev pub TellsLosses : History → Option (List ℕ) → Option (List ℕ) → Type 0
-TellsLosses acts old new = TellsTimes (losses acts) old new
+-- what was answered was not put on its disk
+abbrev pub unsynced : History → Bool
+unsynced [] = false
+unsynced (At pause now ∷ before) = unsynced before
+unsynced (Ordered ∷ before) = unsynced before
+unsynced (Syncs kept ∷ before) = if kept then unsynced before else true
+unsynced (GoesOn ∷ before) = unsynced before
+unsynced (NoneWaits ∷ before) = unsynced before
+unsynced (On place deed ∷ before) = unsynced before
+
+-- by the test of a reply, whether it says that something could not be kept
+module _ (is_unkept : List ℕ → Bool) where
+  abbrev pub tells_unkept : Deed → Bool
+  tells_unkept Comes = false
+  tells_unkept Opens = false
+  tells_unkept (Refuses why) = false
+  tells_unkept (Reads bytes) = false
+  tells_unkept IsOver = false
+  tells_unkept IsSilent = false
+  tells_unkept (Hears part reply) = is_unkept reply
+  tells_unkept (Misses part why) = false
+  tells_unkept Lacks = false
+  tells_unkept (Takes bytes) = false
+  tells_unkept TakesNone = false
+  tells_unkept Fails = false
+  tells_unkept Ends = false
+  tells_unkept (Closes why) = false
+
+  -- a session was answered so
+  abbrev pub answered_unkept : History → Bool
+  answered_unkept [] = false
+  answered_unkept (At pause now ∷ before) = answered_unkept before
+  answered_unkept (Ordered ∷ before) = answered_unkept before
+  answered_unkept (Syncs kept ∷ before) = answered_unkept before
+  answered_unkept (GoesOn ∷ before) = answered_unkept before
+  answered_unkept (NoneWaits ∷ before) = answered_unkept before
+  answered_unkept (On place deed ∷ before) = tells_unkept deed || answered_unkept before
+
+  -- something could not be kept
+  abbrev pub has_unkept : History → Bool
+  has_unkept acts = unsynced acts || answered_unkept acts
+
+  -- each connection that was closed for want of memory has its line, and there is one if something could not be kept, or
+  -- could not before
+  abbrev pub TellsAll : Bool → History → Option (List ℕ) → Option (List ℕ) → Type 0
+  TellsAll before acts old new = TellsLines (has_unkept acts || before) (losses acts) old new

@@ -10,7 +10,7 @@
 //! after a round in which nothing was done, for a second at most, and never past the time to close a connection, by
 //! the time at which the round began (`IsSoundHistory`). Each round gives each connection its turn to send and to
 //! take, and none that waits finds a place left free (`IsFair`). The loop returns once it is over (`HasEnded`), and
-//! each want of memory has its line (`TellsLosses`).
+//! each want of memory has its line, and so has, once, what could not be kept (`TellsAll`).
 #![tactic(auto)]
 
 mod connections;

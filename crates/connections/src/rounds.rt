@@ -2,13 +2,13 @@
 //! its disk, and then tells each. A round that did anything is followed by one that does not wait: a place may
 //! have become free, and there may be more to read.
 
-ghost use Rattle.std.specs.Prelude.{◌≡◌, ◌≢◌, ◌⊎◌, ◌↔◌, ◌+◌, ◌^◌, ◌<◌, ◌≤◌, ℕ, [], None, IsTrue, get_or, length};
+ghost use Rattle.std.specs.Prelude.{◌≡◌, ◌≢◌, ◌⊎◌, ◌↔◌, ◌||◌, ◌+◌, ◌^◌, ◌<◌, ◌≤◌, ℕ, Bool, List, Option, [], None, IsTrue, get_or, if◌then◌else◌, length, true};
 ghost use Rattle.connections.specs.Endings.{AreInside, AreWithin, HasEnded, IsStopped, most_comers};
 ghost use Rattle.connections.specs.Fairness.{AreAttended, AreUsed, IsFair, IsWhole, NoneOrdered, NoneWaited};
 ghost use Rattle.connections.specs.Fitting.{AreFree, AreUnread, Begins, FitAll, Has, IsKnownBusy, MayOrder, Tours, Turns, size_of};
 ghost use Rattle.connections.specs.Histories.{History, Hearing, clock, stopped};
 ghost use Rattle.connections.specs.Pauses.{IsPause, pause_of};
-ghost use Rattle.connections.specs.Telling.{TellsLosses, TellsMemory, TellsTimes};
+ghost use Rattle.connections.specs.Telling.{TellsAll, TellsLines, TellsSome, TellsTimes};
 
 use crate::connections::Connections;
 use crate::loop_limits::LONGEST_WAIT;
@@ -89,6 +89,27 @@ fn tell_wanting<E: Write>(errors: &mut E, wanting: u64)
     for _line in 0..wanting {
         let _told = write_text(errors, b"out of memory\n");
     }
+}
+
+/// Writes a line if something could not be kept, unless one was written before. Returns whether one was written by now. A
+/// line that cannot be written is passed over.
+fn tell_unkept<S: Sessions, E: Write>(
+    sessions: &S,
+    is_synced: bool,
+    errors: &mut E,
+    was_told: bool,
+) -> bool
+    ensures told { result ≡ (was_told || (if is_synced then S.any_unkept sessions.now else true)) }
+    ensures lines { (count : ℕ) (start : Option (List ℕ)) → TellsLines was_told count start (E.contents errors.old) → TellsLines result count start (E.contents errors.new) }
+{
+    if was_told || (is_synced && !sessions.has_unkept()) {
+        return was_told;
+    }
+    let _told = write_text(
+        errors,
+        b"journal: cannot write, edits are refused until a restart\n",
+    );
+    true
 }
 
 /// Where the loop stands between two rounds.
@@ -182,7 +203,7 @@ fn turn<S: Sessions, C: Connections<S>>(
     last: State,
     room: &mut [u8; PIECE_SIZE],
 ) -> State
-    ensures turns { Turns S.opens S.refuses S.hears S.misses S.ends C.has last.round.idle last.round.stopped last.left (pause_of last.work.is_busy last.work.pause) connections.old sessions.old places.old result.round.stopped result.left (pause_of result.work.is_busy result.work.pause) result.work.wanting connections.new sessions.new places.new }
+    ensures turns { Turns S.opens S.refuses S.hears S.misses S.ends C.has last.round.idle last.round.stopped last.left (pause_of last.work.is_busy last.work.pause) connections.old sessions.old places.old result.round.stopped result.left (pause_of result.work.is_busy result.work.pause) result.work.wanting result.round.is_synced connections.new sessions.new places.new }
     ensures same { result.round.idle ≡ last.round.idle }
 {
     let mut round = begin(places, sessions, connections, last);
@@ -213,11 +234,12 @@ fn turn_all<S: Sessions, C: Connections<S>, E: Write>(
     errors: &mut E,
 )
     requires { (place : ℕ) → get_or places.old place None ≡ None }
-    ensures tells { TellsMemory (E.contents errors.old) (E.contents errors.new) }
+    ensures tells { (told : Bool) × TellsSome told (E.contents errors.old) (E.contents errors.new) }
     ensures happens { C.has connections.old [] → (acts : History) × Has S.opens S.refuses S.hears S.misses S.ends C.has limits.idle sessions.old connections.new sessions.new acts × AreWithin limits.count acts × HasEnded limits.count acts
         × IsFair limits.idle limits.count (length places.old) acts × IsWhole limits.idle acts × AreInside (length places.old) acts
-        × TellsLosses acts (E.contents errors.old) (E.contents errors.new) }
+        × TellsAll S.is_unkept (S.any_unkept sessions.old) acts (E.contents errors.old) (E.contents errors.new) }
 {
+    let mut is_told = tell_unkept(sessions, true, errors, false);
     let mut state = State::new(limits);
     // Pieces are read into this one room: what is heard at once is kept nowhere else.
     let mut room = [0; PIECE_SIZE];
@@ -225,6 +247,7 @@ fn turn_all<S: Sessions, C: Connections<S>, E: Write>(
     for _round in 0..u64::MAX {
         state = turn(alloc, places, sessions, connections, state, &mut room);
         tell_wanting(errors, state.work.wanting);
+        is_told = tell_unkept(sessions, state.round.is_synced, errors, is_told);
         if is_finished(state, places) {
             return;
         }
@@ -235,7 +258,8 @@ fn turn_all<S: Sessions, C: Connections<S>, E: Write>(
 /// or until a stop is ordered and those that were open have ended. Whatever the connections do, what happens
 /// is sound: each connection takes a beginning of what its session was answered, in order, and is closed for
 /// a reason that holds; and each round gives each connection its turn, until the loop is over. A connection
-/// that is closed for want of memory is told of in a line to the errors.
+/// that is closed for want of memory is told of in a line to the errors, and so is, once, that something could not be kept:
+/// an answer said so, or a sync failed.
 pub fn answer_all<S: Sessions, C: Connections<S>, E: Write>(
     alloc: Global,
     places: Places,
@@ -245,10 +269,10 @@ pub fn answer_all<S: Sessions, C: Connections<S>, E: Write>(
     errors: &mut E,
 )
     requires { AreFree places }
-    ensures tells { TellsMemory (E.contents errors.old) (E.contents errors.new) }
+    ensures tells { (told : Bool) × TellsSome told (E.contents errors.old) (E.contents errors.new) }
     ensures happens { C.has connections.old [] → (acts : History) × Has S.opens S.refuses S.hears S.misses S.ends C.has limits.idle sessions.old connections.new sessions.new acts × AreWithin limits.count acts × HasEnded limits.count acts
         × IsFair limits.idle limits.count (size_of places) acts × IsWhole limits.idle acts × AreInside (size_of places) acts
-        × TellsLosses acts (E.contents errors.old) (E.contents errors.new) }
+        × TellsAll S.is_unkept (S.any_unkept sessions.old) acts (E.contents errors.old) (E.contents errors.new) }
 {
     let mut places = places;
     turn_all(

@@ -1,4 +1,4 @@
-ghost use Rattle.std.specs.Prelude.{◌≡◌, ◌≢◌, ◌≤◌, ◌++◌, ℕ, List, [], take, length, IfErr, IfOk, OnOk};
+ghost use Rattle.std.specs.Prelude.{◌≡◌, ◌≢◌, ◌≤◌, ◌++◌, ◌||◌, ℕ, Bool, List, [], take, length, IfErr, IfOk, OnOk};
 ghost use Rattle.connections.specs.declared.ending.SessionFault.{SessionFault};
 
 use crate::SessionFault;
@@ -20,6 +20,12 @@ pub trait Sessions {
 
     // The sessions before, the number of one, and the sessions once it is ended.
     ghost ends: { Self → ℕ → Self → Type 0 };
+
+    // Whether an answer says that what was asked could not be kept.
+    ghost is_unkept: { List ℕ → Bool };
+
+    // Whether one of these sessions was answered so.
+    ghost any_unkept: { Self → Bool };
 
     /// Opens a session.
     ///
@@ -51,4 +57,17 @@ pub trait Sessions {
     /// Ends a session.
     fn end(&mut self, session: usize)
         ensures { ends self.old session self.new };
+
+    /// Whether an answer so far said that what was asked could not be kept.
+    fn has_unkept(&self) -> bool
+        ensures { result ≡ any_unkept self.now };
+
+    // Only an answer changes that.
+    ghost opens_as: { (before : Self) (session : ℕ) (after : Self) → opens before session after → any_unkept after ≡ any_unkept before };
+
+    ghost hears_as: { (before : Self) (session : ℕ) (part reply : List ℕ) (after : Self) → hears before session part reply after → any_unkept after ≡ (is_unkept reply || any_unkept before) };
+
+    ghost misses_as: { (before : Self) (session : ℕ) (part : List ℕ) (why : SessionFault) (after : Self) → misses before session part why after → any_unkept after ≡ any_unkept before };
+
+    ghost ends_as: { (before : Self) (session : ℕ) (after : Self) → ends before session after → any_unkept after ≡ any_unkept before };
 }

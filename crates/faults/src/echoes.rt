@@ -90,7 +90,7 @@ fn hear_part(
 }
 
 impl Sessions for Echoes {
-    ghost use Rattle.std.specs.Prelude.{⊤};
+    ghost use Rattle.std.specs.Prelude.{⊤, false, refl};
 
     ghost opens = { λ _ _ _. ⊤ };
 
@@ -101,6 +101,19 @@ impl Sessions for Echoes {
     ghost misses = { λ _ _ _ _ _. ⊤ };
 
     ghost ends = { λ _ _ _. ⊤ };
+
+    // None of them keeps anything.
+    ghost is_unkept = { λ _. false };
+
+    ghost any_unkept = { λ _. false };
+
+    ghost opens_as = { λ _ _ _ _. refl };
+
+    ghost hears_as = { λ _ _ _ _ _ _. refl };
+
+    ghost misses_as = { λ _ _ _ _ _ _. refl };
+
+    ghost ends_as = { λ _ _ _ _. refl };
 
     fn open(&mut self, session: usize) -> Result<(), SessionFault> {
         if self.open >= self.most {
@@ -145,5 +158,9 @@ impl Sessions for Echoes {
             }
             *echo = None;
         }
+    }
+
+    fn has_unkept(&self) -> bool {
+        false
     }
 }

@@ -1,5 +1,5 @@
 -- What is answered to many connections at once is answered one message after another.
-use Rattle.std.proofs.Common.{◌≡◌, ◌≢◌, ℕ, ◌≤◌, List, [], ◌∷◌, ◌++◌, length, true, false, None, Some, Result, Ok, Err, refl, sym, ap, subst, ◌∙◌, arith, inl, inr}
+use Rattle.std.proofs.Common.{◌≡◌, ◌≢◌, ℕ, ◌≤◌, List, [], ◌∷◌, ◌++◌, length, ◌||◌, Bool, true, false, None, Some, Result, Ok, Err, refl, sym, ap, subst, ◌∙◌, arith, inl, inr}
 use Rattle.wire.specs.Frames.{Frame}
 use Rattle.hub.specs.Events.{Happening, Open, Bytes, End, HubState, number}
 use Rattle.hub.specs.Exchanges.{Exchange}
@@ -8,9 +8,9 @@ use Rattle.hub.specs.declared.hub_refusal.HubRefusal.TheVariants.{TooManySession
 use Rattle.hub.specs.Happenings.{Does, DoesUnlessRefused, Happens}
 use Rattle.hub.specs.Runs.{lines, AllAnswered, Line}
 use Rattle.hub.proofs.Running.{answered_append}
-use Rattle.connections.specs.Histories.{At, Ordered, GoesOn, Syncs, NoneWaits, On, Comes, Opens, Refuses, Reads, IsOver, IsSilent, Hears, Misses, Lacks, Takes, TakesNone, Fails, Ends, Closes, History}
+use Rattle.connections.specs.Histories.{At, Ordered, GoesOn, Syncs, NoneWaits, On, Comes, Opens, Refuses, Reads, IsOver, IsSilent, Hears, Misses, Lacks, Takes, TakesNone, Fails, Ends, Closes, History, Leads}
 use Rattle.connections.specs.declared.ending.SessionFault.TheVariants as fault
-use Rattle.server.specs.Sessions.{AreLines, Ended, HubLeads, IsEventRefused, Loses, Missed, Proceeds, Unopened, session_fault}
+use Rattle.server.specs.Sessions.{AreLines, Ended, Heard, HubLeads, IsEventRefused, Loses, Missed, Opened, Proceeds, Unopened, session_fault}
 use Rattle.server.proofs.Conversing.{all_replied}
 
 -- there are some bytes
@@ -141,3 +141,33 @@ module _ {S : Type 0} (answers : S → Frame → List ℕ → S → Type 0) wher
         let earlier = crowd_answered start acts middle leads in
         (earlier.0, (hub_of middle, earlier.1, does), still start middle after earlier.0 earlier.2 (ended_none middle after place does))
     crowd_answered start (On place (Closes why) ∷ acts) after leads = crowd_answered start acts after leads
+
+    -- what happens to sessions that also know whether one was answered so happens to those of the hub
+    module _ (is_unkept : List ℕ → Bool) (any_unkept : X → Bool) where
+      abbrev KnowingLeads : X → History → X → Type 0
+      KnowingLeads = Leads (λ before session after. Opened answers (hub_of before) session (hub_of after) × (any_unkept after ≡ any_unkept before)) (λ before session why. Unopened (hub_of before) session why)
+          (λ before session part reply after. Heard answers (hub_of before) session part reply (hub_of after) × (any_unkept after ≡ (is_unkept reply || any_unkept before)))
+          (λ before session part why after. Missed answers (hub_of before) session part why (hub_of after) × (any_unkept after ≡ any_unkept before))
+          (λ before session after. Ended answers (hub_of before) session (hub_of after) × (any_unkept after ≡ any_unkept before))
+
+      pub hub_leads : (start : X) (acts : History) (after : X) → KnowingLeads start acts after → HubLeads answers hub_of start acts after
+      hub_leads start [] after same = same
+      hub_leads start (At pause now ∷ acts) after leads = hub_leads start acts after leads
+      hub_leads start (Ordered ∷ acts) after leads = hub_leads start acts after leads
+      hub_leads start (Syncs kept ∷ acts) after leads = hub_leads start acts after leads
+      hub_leads start (GoesOn ∷ acts) after leads = hub_leads start acts after leads
+      hub_leads start (NoneWaits ∷ acts) after leads = hub_leads start acts after leads
+      hub_leads start (On place Comes ∷ acts) after leads = hub_leads start acts after leads
+      hub_leads start (On place Opens ∷ acts) after (middle, leads, does) = (middle, hub_leads start acts middle leads, does.0)
+      hub_leads start (On place (Refuses why) ∷ acts) after (leads, refuses) = (hub_leads start acts after leads, refuses)
+      hub_leads start (On place (Reads bytes) ∷ acts) after leads = hub_leads start acts after leads
+      hub_leads start (On place IsOver ∷ acts) after leads = hub_leads start acts after leads
+      hub_leads start (On place IsSilent ∷ acts) after leads = hub_leads start acts after leads
+      hub_leads start (On place (Hears part reply) ∷ acts) after (middle, leads, does) = (middle, hub_leads start acts middle leads, does.0)
+      hub_leads start (On place (Misses part why) ∷ acts) after (middle, leads, does) = (middle, hub_leads start acts middle leads, does.0)
+      hub_leads start (On place Lacks ∷ acts) after leads = hub_leads start acts after leads
+      hub_leads start (On place (Takes bytes) ∷ acts) after leads = hub_leads start acts after leads
+      hub_leads start (On place TakesNone ∷ acts) after leads = hub_leads start acts after leads
+      hub_leads start (On place Fails ∷ acts) after leads = hub_leads start acts after leads
+      hub_leads start (On place Ends ∷ acts) after (middle, leads, does) = (middle, hub_leads start acts middle leads, does.0)
+      hub_leads start (On place (Closes why) ∷ acts) after leads = hub_leads start acts after leads

@@ -1,5 +1,5 @@
 -- What a server does with connections, and what it says of where it listens.
-use Rattle.std.specs.Prelude.{◌≡◌, ◌⊎◌, ℕ, List, ◌++◌, [], ◌∷◌, Option, None, Some, Result, Ok, Err, codes, ⊤}
+use Rattle.std.specs.Prelude.{◌≡◌, ◌⊎◌, ℕ, false, List, ◌++◌, [], ◌∷◌, Option, None, Some, Result, Ok, Err, codes, ⊤}
 use Rattle.std.specs.Io.KnownBytes.{Appends, Keeps}
 use Rattle.textio.specs.declared.program_fault.ProgramFault.{ProgramFault}
 use Rattle.textio.specs.declared.program_fault.ProgramFault.TheVariants.{BadHex, BadItem, IndexRepeated, NotACommand, NotEvidence, BadRecord, OtherKeys, CannotRead, CannotWrite, CannotListen, OutOfMemory}
@@ -18,7 +18,7 @@ use Rattle.connections.specs.Fairness.{IsFair, IsWhole}
 use Rattle.connections.specs.Histories.{History}
 use Rattle.connections.specs.Laws.{AlwaysWaitWithin}
 use Rattle.connections.specs.Soundness.{IsSoundHistory}
-use Rattle.connections.specs.Telling.{TellsLosses}
+use Rattle.connections.specs.Telling.{TellsAll}
 use Rattle.hub.specs.Desks.{DeskAnswers, DeskState}
 use Rattle.hub.specs.Events.{HubState}
 use Rattle.hub.specs.Runs.{Line}
@@ -26,7 +26,7 @@ use Rattle.server.specs.ConnectionOptions.{ConnectionOptions, idle_limit, most_o
 use Rattle.server.specs.DirectoryOptions.{DirectoryOptions}
 use Rattle.server.specs.Directories.{keys_of, DirectoryKeys, HasBegun}
 use Rattle.server.specs.Programs.{AfterJournal, KeepsInFile, LosesInFile, ShownBy}
-use Rattle.server.specs.Sessions.{AlwaysAnswered, AlwaysInOrder, AreLines}
+use Rattle.server.specs.Sessions.{is_unkept, AlwaysAnswered, AlwaysInOrder, AreLines}
 
 -- the line with an address
 abbrev pub address_line : List ℕ → List ℕ
@@ -70,13 +70,14 @@ KeepsOrder taken = KeepsLimits (idle_limit taken) taken.count (most_open taken)
 -- there is a history of them, and what is answered in it shows a run. At each time, each connection took a
 -- beginning of what its session was answered, as the lines so far have it; no more than 64 KiB and the
 -- longest reply ever wait for one; and of each that was closed for want of memory there is a line on the
--- errors. What ties the history to the sockets is not in a contract.
+-- errors, and one line if an edit was refused because its record could not be kept, or a sync failed. What ties the
+-- history to the sockets is not in a contract.
 abbrev pub AnswersConnections : {K : Type 0} → (K → Record → K → Type 0) → (K → Record → K → Type 0) → ConnectionOptions → DeskState ChaCha K → Option (List ℕ) → Option (List ℕ) → Type 0
 AnswersConnections {K} kept failed taken desk errors new = (acts : History) × (lines : List Line) × (after : HubState (DeskState ChaCha K))
     × KeepsOrder taken acts × AlwaysWaitWithin MAX_ANSWER_LEN acts × AlwaysInOrder acts
     × AreLines (DeskAnswers sha256 keyed_value keyed_signature chacha_salts kept failed) (record { service = desk; sessions = [] }) acts after lines
     × AlwaysAnswered (DeskAnswers sha256 keyed_value keyed_signature chacha_salts kept failed) (record { service = desk; sessions = [] }) acts lines
-    × ShownBy kept failed desk lines after.service × TellsLosses acts errors new
+    × ShownBy kept failed desk lines after.service × TellsAll is_unkept false acts errors new
 
 -- connections are answered from the desk of a journal's directory, whose line comes first
 abbrev pub TellsKept : DirectoryOptions → ConnectionOptions → Option (List ℕ) → Result (Unit {0}) ProgramFault → Option (List ℕ) → Type 0

@@ -1,5 +1,8 @@
 -- The sessions of a hub, as the loop over connections uses them.
-use Rattle.std.specs.Prelude.{◌≡◌, ◌≢◌, ◌⊎◌, ◌^◌, ◌≤◌, ◌++◌, ℕ, List, [], ◌∷◌, false, Option, Some, None, ⊤}
+use Rattle.std.specs.Prelude.{◌≡◌, ◌≢◌, ◌⊎◌, ◌^◌, ◌≤◌, ◌++◌, ℕ, Bool, List, [], ◌∷◌, false, Option, Some, None, ⊤}
+use Rattle.std.specs.Str.{bytes_eq}
+use Rattle.book.specs.declared.directory_refusal.Refusal.TheVariants.{KeepFailed}
+use Rattle.book.specs.Refusals.{book_refusal_number}
 use Rattle.wire.specs.Frames.{Frame}
 use Rattle.wire.specs.Streams.{EndsOne, Remainder}
 use Rattle.connections.specs.declared.ending.SessionFault.{SessionFault}
@@ -7,13 +10,17 @@ use Rattle.connections.specs.declared.ending.SessionFault.TheVariants as fault
 use Rattle.hub.specs.declared.hub_refusal.HubRefusal.{HubRefusal}
 use Rattle.hub.specs.declared.hub_refusal.HubRefusal.TheVariants.{TooManySessions, SessionOpen, NoSession, Memory}
 use Rattle.hub.specs.Events.{Happening, Open, Bytes, End, HubState, at_session, due}
-use Rattle.hub.specs.Exchanges.{Exchange, exchange_messages, replies}
+use Rattle.hub.specs.Exchanges.{Exchange, exchange_messages, refused_frame, replies}
 use Rattle.hub.specs.Happenings.{Answered, Does, DoesUnlessRefused, TakesMemory}
 use Rattle.hub.specs.Laws.{lines_for}
 use Rattle.hub.specs.Runs.{lines, told_to, Line}
 use Rattle.connections.specs.Histories.{At, Ordered, GoesOn, Syncs, NoneWaits, On, Comes, Opens, Refuses, Reads, IsOver, IsSilent, Hears, Misses, Lacks, Takes, TakesNone, Fails, Ends, Closes, History, Course, Leads, course}
 use Rattle.connections.specs.Laws.{AreInOrder}
 use Rattle.server.specs.Serving.{spelled}
+
+-- an answer refuses an edit because its record could not be kept
+abbrev pub is_unkept : List ℕ → Bool
+is_unkept answer = bytes_eq answer (refused_frame (book_refusal_number KeepFailed))
 
 -- only want of memory is told as such
 abbrev pub session_fault : HubRefusal → SessionFault

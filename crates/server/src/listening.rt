@@ -3,12 +3,12 @@
 // history that keeps the limits of the order. That the sockets had that very history is what the loop
 // (`answer_all` of `connections`) says of connections of which contracts know what they carry.
 // `scripts/listen.sh` covers the rest.
-ghost use Rattle.std.specs.Prelude.{◌≡◌, ◌≢◌, ◌↔◌, ◌⊎◌, List, [], Err, IfErr, IsErr, None, false};
+ghost use Rattle.std.specs.Prelude.{◌≡◌, ◌≢◌, ◌↔◌, ◌⊎◌, Bool, List, [], Err, IfErr, IsErr, None, false};
 ghost use Rattle.book.specs.Salts.{chacha_salts};
 ghost use Rattle.connections.specs.Fitting.{size_of, AreFree};
 ghost use Rattle.connections.specs.Histories.{History};
 ghost use Rattle.connections.specs.Laws.{AlwaysWaitWithin};
-ghost use Rattle.connections.specs.Telling.{TellsLosses, TellsMemory};
+ghost use Rattle.connections.specs.Telling.{TellsAll, TellsSome};
 ghost use Rattle.hub.specs.Desks.{DeskAnswers};
 ghost use Rattle.hub.specs.Runs.{Line};
 ghost use Rattle.nodehash.specs.Sha256.{sha256};
@@ -21,7 +21,7 @@ ghost use Rattle.server.specs.DirectoryOptions.{directory_values};
 ghost use Rattle.server.specs.Directories.{keys_of};
 ghost use Rattle.server.specs.Listening.{AnswersConnections, KeepsLimits, ListenTells, TellsAddress, TellsAddressLine, TellsKept, TellsUnkept};
 ghost use Rattle.server.specs.Programs.{ShownBy};
-ghost use Rattle.server.specs.Sessions.{AreLines};
+ghost use Rattle.server.specs.Sessions.{is_unkept, AreLines};
 
 use crate::ListenOrder;
 use crate::disk::Disk;
@@ -75,11 +75,11 @@ where
     C: Connections<HubSessions<ServedDesk<K>>>,
     E: Write,
     requires { AreFree places }
-    ensures tells { TellsMemory (E.contents errors.old) (E.contents errors.new) }
+    ensures tells { (told : Bool) × TellsSome told (E.contents errors.old) (E.contents errors.new) }
     ensures shown { C.has connections.old [] → (acts : History) × C.has connections.new acts
         × KeepsLimits limits.idle limits.count (size_of places) acts × AlwaysWaitWithin MAX_ANSWER_LEN acts
         × ((lines : List Line) × AreLines (DeskAnswers sha256 keyed_value keyed_signature chacha_salts K.kept K.failed) sessions.old.hub acts sessions.new.hub lines × ShownBy K.kept K.failed sessions.old.hub.service lines sessions.new.hub.service)
-        × TellsLosses acts (E.contents errors.old) (E.contents errors.new) }
+        × TellsAll is_unkept sessions.old.has_unkept acts (E.contents errors.old) (E.contents errors.new) }
 {
     // What the two calls of `head` ensure: the book is sound before and after, and the provider's
     // functions keep their laws.
@@ -226,8 +226,9 @@ where
 /// from one that is kept in the order's journal. A journal is opened first, and a line to the errors says how
 /// many records were taken, and how many bytes were cut off, if any were. Once it listens, it writes a line
 /// to the errors: `listening on` and the address, with the port that the system chose if port 0 was asked
-/// for. A connection that is closed for want of memory is told of in a line behind it. The input is read
-/// only if its end is an order to stop, and not before the address is told.
+/// for. A connection that is closed for want of memory is told of in a line behind it; and so is, once, that an edit was
+/// refused because its record could not be kept, or that a sync failed. The input is read only if its end is an order to
+/// stop, and not before the address is told.
 ///
 /// # Errors
 ///

@@ -1,8 +1,8 @@
 //! The sessions of a hub, for the loop over connections. Each hears its stream in parts that end no more than
 //! one message.
-ghost use Rattle.std.specs.Prelude.{◌≡◌};
+ghost use Rattle.std.specs.Prelude.{◌≡◌, false};
 ghost use Rattle.hub.specs.DeskRuns.{IsSoundDesk};
-ghost use Rattle.server.specs.Sessions.{session_fault};
+ghost use Rattle.server.specs.Sessions.{is_unkept, session_fault};
 
 use book::Keeper;
 use connections::{SessionFault, Sessions};
@@ -18,13 +18,20 @@ use vrfiface::Vuf;
 pub(crate) struct HubSessions<D: Service + Drop> {
     alloc: Global,
     hub: Hub<D>,
+    /// An edit was refused because its record could not be kept.
+    has_unkept: bool,
 }
 
 impl<D: Service + Drop> HubSessions<D> {
     pub(crate) fn new(alloc: Global, hub: Hub<D>) -> Self
-        ensures { result.hub ≡ hub }
+        ensures hub { result.hub ≡ hub }
+        ensures none { result.has_unkept ≡ false }
     {
-        HubSessions { alloc, hub }
+        HubSessions {
+            alloc,
+            hub,
+            has_unkept: false,
+        }
     }
 }
 
@@ -56,18 +63,41 @@ fn fault_of(refusal: HubRefusal) -> SessionFault
     }
 }
 
-impl<D: Service + Drop> Sessions for HubSessions<D> {
-    ghost use Rattle.server.specs.Sessions.{Ended, Heard, Missed, Opened, Unopened};
+/// The answer to an edit whose record could not be kept.
+static UNKEPT: &[u8] = &[0, 0, 0, 2, 255, 19];
 
-    ghost opens = { λ before session after. Opened D.answers before.hub session after.hub };
+/// Whether an answer refuses an edit because its record could not be kept.
+fn is_unkept(answer: &[u8]) -> bool
+    ensures { result ≡ is_unkept answer.now }
+{
+    answer == UNKEPT
+}
+
+impl<D: Service + Drop> Sessions for HubSessions<D> {
+    ghost use Rattle.std.specs.Prelude.{◌≡◌, ◌||◌};
+    ghost use Rattle.server.specs.Sessions.{is_unkept, Ended, Heard, Missed, Opened, Unopened};
+
+    ghost opens = { λ before session after. Opened D.answers before.hub session after.hub × (after.has_unkept ≡ before.has_unkept) };
 
     ghost refuses = { λ before session why. Unopened before.hub session why };
 
-    ghost hears = { λ before session part reply after. Heard D.answers before.hub session part reply after.hub };
+    ghost hears = { λ before session part reply after. Heard D.answers before.hub session part reply after.hub × (after.has_unkept ≡ (is_unkept reply || before.has_unkept)) };
 
-    ghost misses = { λ before session part why after. Missed D.answers before.hub session part why after.hub };
+    ghost misses = { λ before session part why after. Missed D.answers before.hub session part why after.hub × (after.has_unkept ≡ before.has_unkept) };
 
-    ghost ends = { λ before session after. Ended D.answers before.hub session after.hub };
+    ghost ends = { λ before session after. Ended D.answers before.hub session after.hub × (after.has_unkept ≡ before.has_unkept) };
+
+    ghost is_unkept = { is_unkept };
+
+    ghost any_unkept = { λ sessions. sessions.has_unkept };
+
+    ghost opens_as = { λ before session after opened. opened.1 };
+
+    ghost hears_as = { λ before session part reply after heard. heard.1 };
+
+    ghost misses_as = { λ before session part why after missed. missed.1 };
+
+    ghost ends_as = { λ before session after ended. ended.1 };
 
     fn open(&mut self, session: usize) -> Result<(), SessionFault> {
         let Ok(number) = u32::try_from(session) else {
@@ -90,11 +120,15 @@ impl<D: Service + Drop> Sessions for HubSessions<D> {
             return Err(SessionFault::Refused);
         };
         let count = self.hub.part(number, bytes);
+        let before = output.len();
         match self
             .hub
             .event(&Event::Bytes(number, &bytes[..count]), output)
         {
-            Ok(()) => Ok(count),
+            Ok(()) => {
+                self.has_unkept = is_unkept(&output[before..]) || self.has_unkept;
+                Ok(count)
+            }
             Err(refusal) => Err(fault_of(refusal)),
         }
     }
@@ -105,5 +139,9 @@ impl<D: Service + Drop> Sessions for HubSessions<D> {
         };
         let mut nothing = Vec::new(self.alloc);
         let _ended = self.hub.event(&Event::End(number), &mut nothing);
+    }
+
+    fn has_unkept(&self) -> bool {
+        self.has_unkept
     }
 }
