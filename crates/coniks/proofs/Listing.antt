@@ -1,5 +1,7 @@
 -- Where the roots of a list stand in its bytes.
-use Rattle.std.proofs.Common.{◌≡◌, ◌⊎◌, inl, inr, ℕ, zero, suc, ◌+◌, ◌<◌, List, [], ◌∷◌, ◌++◌, length, length-append, length-set, append_assoc, slice_get, set, Some, arith, refl, sym, ap, subst, ◌∙◌}
+use Rattle.std.proofs.Common.{◌≡◌, ◌≢◌, ◌⊎◌, inl, inr, ℕ, zero, suc, ◌+◌, ◌<◌, List, [], ◌∷◌, ◌++◌, length, length-append, length-set, append-nil, append_assoc, slice_get, set, Some, arith, refl, sym, ap, subst, ◌∙◌}
+use Rattle.std.proofs.lemmas.List.{nil_from_length}
+use Rattle.std.proofs.lemmas.List.Concat.{flat_map-append}
 use Rattle.std.specs.List.{flat_map}
 use Rattle.encoding.specs.Endian.{big_bytes}
 use Rattle.rootchain.specs.RootLists.{root_list_bytes}
@@ -15,22 +17,12 @@ set-there [] n y low = absurd (omega (arith, low))
 set-there (x ∷ xs) zero y low = refl
 set-there (x ∷ xs) (suc n) y low = set-there xs n y (omega (arith, low))
 
-set-before : (xs : List Part) (n k : ℕ) (y : Part) → k < n → slice_get (set xs n y) k ≡ slice_get xs k
-set-before [] n k y low = refl
-set-before (x ∷ xs) zero k y low = absurd (omega (arith, low))
-set-before (x ∷ xs) (suc n) zero y low = refl
-set-before (x ∷ xs) (suc n) (suc k) y low = set-before xs n k y (omega (arith, low))
-
-set-behind : (xs : List Part) (n k : ℕ) (y : Part) → n < k → slice_get (set xs n y) k ≡ slice_get xs k
-set-behind [] n k y low = refl
-set-behind (x ∷ xs) zero zero y low = absurd (omega (arith, low))
-set-behind (x ∷ xs) zero (suc k) y low = refl
-set-behind (x ∷ xs) (suc n) zero y low = absurd (omega (arith, low))
-set-behind (x ∷ xs) (suc n) (suc k) y low = set-behind xs n k y (omega (arith, low))
-
-joined-map : (xs ys : List SignedRoot) → flat_map signed_root_bytes (xs ++ ys) ≡ flat_map signed_root_bytes xs ++ flat_map signed_root_bytes ys
-joined-map [] ys = refl
-joined-map (x ∷ xs) ys = ap (λ (bytes : List ℕ). signed_root_bytes x ++ bytes) (joined-map xs ys) ∙ sym (append_assoc (signed_root_bytes x) (flat_map signed_root_bytes xs) (flat_map signed_root_bytes ys))
+set-other : (xs : List Part) (n k : ℕ) (y : Part) → k ≢ n → slice_get (set xs n y) k ≡ slice_get xs k
+set-other [] n k y other = refl
+set-other (x ∷ xs) zero zero y other = absurd (other refl)
+set-other (x ∷ xs) zero (suc k) y other = refl
+set-other (x ∷ xs) (suc n) zero y other = refl
+set-other (x ∷ xs) (suc n) (suc k) y other = set-other xs n k y (λ same. other (ap suc same))
 
 -- one of a list that is one longer
 more-roots : (xs : List SignedRoot) (x : SignedRoot) (k : ℕ) (v : SignedRoot) → slice_get (xs ++ x ∷ []) k ≡ Some v → ((k < length xs) × (slice_get xs k ≡ Some v)) ⊎ ((k ≡ length xs) × (v ≡ x))
@@ -59,7 +51,7 @@ module _ {all : List SignedRoot} {parts : List Part} {done left rest : List Sign
   whole-now = are.whole ∙ ap (λ (xs : List SignedRoot). done ++ xs) is ∙ sym (append_assoc done (root ∷ []) rest)
 
   bytes-are : root_list_bytes all ≡ (big_bytes 2 (length all) ++ flat_map signed_root_bytes done) ++ (signed_root_bytes root ++ flat_map signed_root_bytes rest)
-  bytes-are = ap (λ (bytes : List ℕ). big_bytes 2 (length all) ++ bytes) (ap (flat_map signed_root_bytes) (are.whole ∙ ap (λ (xs : List SignedRoot). done ++ xs) is) ∙ joined-map done (root ∷ rest))
+  bytes-are = ap (λ (bytes : List ℕ). big_bytes 2 (length all) ++ bytes) (ap (flat_map signed_root_bytes) (are.whole ∙ ap (λ (xs : List SignedRoot). done ++ xs) is) ∙ flat_map-append signed_root_bytes done (root ∷ rest))
       ∙ sym (append_assoc (big_bytes 2 (length all)) (flat_map signed_root_bytes done) (signed_root_bytes root ++ flat_map signed_root_bytes rest))
 
   here : IsPart (root_list_bytes all) (record { start = start; len = len }) (signed_root_bytes root)
@@ -69,10 +61,10 @@ module _ {all : List SignedRoot} {parts : List Part} {done left rest : List Sign
   one-more = record {
     whole = whole-now;
     count = (let both = length-append done (root ∷ []) in let count = are.count in omega (arith, both, count));
-    next = (let next = are.next in let all = ap length (joined-map done (root ∷ [])) in let both = length-append (flat_map signed_root_bytes done) (signed_root_bytes root ++ []) in let last = length-append (signed_root_bytes root) [] in omega (arith, next, all, both, last, size));
+    next = (let next = are.next in let all = ap length (flat_map-append signed_root_bytes done (root ∷ [])) in let both = length-append (flat_map signed_root_bytes done) (signed_root_bytes root ++ []) in let last = length-append (signed_root_bytes root) [] in omega (arith, next, all, both, last, size));
     still = (
       length-set now n (record { start = start; len = len }) ∙ are.still.0,
-      λ k low. set-behind now n k (record { start = start; len = len }) (omega (arith, low)) ∙ are.still.1 k (omega (arith, low)),
+      λ k low. set-other now n k (record { start = start; len = len }) (λ same. absurd (omega (arith, low, same))) ∙ are.still.1 k (omega (arith, low)),
     );
     placed = λ k v at. by k v (more-roots done root k v at);
   }
@@ -82,7 +74,7 @@ module _ {all : List SignedRoot} {parts : List Part} {done left rest : List Sign
       by k v (inl (low, there)) =
           let old = are.placed k v there in
           let count = are.count in
-          (old.0, set-before now n k (record { start = start; len = len }) (omega (arith, low, count)) ∙ old.1, old.2)
+          (old.0, set-other now n k (record { start = start; len = len }) (λ same. absurd (omega (arith, low, count, same))) ∙ old.1, old.2)
       by k v (inr (last, same)) = (
         record { start = start; len = len },
         subst (λ (m : ℕ). slice_get (set now n (record { start = start; len = len })) m ≡ Some (record { start = start; len = len })) (sym (last ∙ are.count)) (set-there now n (record { start = start; len = len }) room),
@@ -93,20 +85,12 @@ module _ {all : List SignedRoot} {parts : List Part} {done left rest : List Sign
 pub all-done : {all : List SignedRoot} {parts : List Part} {done left : List SignedRoot} {n start : ℕ} {now : List Part} → AreBehind all parts done left n start now → n ≡ length all → ArePlaced (root_list_bytes all) all now
 all-done {all} {parts} {done} {left} {n} {start} {now} are full = subst (λ (roots : List SignedRoot). ArePlaced (root_list_bytes all) roots now) (sym same) are.placed
   where
-    none : (xs : List SignedRoot) → length xs ≡ 0 → xs ≡ []
-    none [] is = refl
-    none (x ∷ xs) is = absurd (omega (arith, is))
-
-    nothing : (xs : List SignedRoot) → xs ++ [] ≡ xs
-    nothing [] = refl
-    nothing (x ∷ xs) = ap (λ (ys : List SignedRoot). x ∷ ys) (nothing xs)
-
     same : all ≡ done
     same =
         let sizes = ap length are.whole in
         let both = length-append done left in
         let count = are.count in
-        are.whole ∙ ap (λ (xs : List SignedRoot). done ++ xs) (none left (omega (arith, sizes, both, count, full))) ∙ nothing done
+        are.whole ∙ ap (λ (xs : List SignedRoot). done ++ xs) (nil_from_length left (omega (arith, sizes, both, count, full))) ∙ append-nil done
 
 -- not all are
 pub more-left : {all : List SignedRoot} {parts : List Part} {done left : List SignedRoot} {n start : ℕ} {now : List Part} → AreBehind all parts done left n start now → n < length all → left ≡ [] → ⊥

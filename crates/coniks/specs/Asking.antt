@@ -39,7 +39,7 @@ OfKey key Rest answer before after = ((¬ IsKeyData key) × Refuses 24 answer be
 abbrev pub PolicyAsked : ℕ → Option ℕ → Type 0
 PolicyAsked byte asked = ((byte ≡ 0) × (asked ≡ None)) ⊎ ((policy : Policy) × (policy_of byte ≡ Some policy) × (asked ≡ Some byte))
 
--- 25, the byte is 0 or a policy's, or else this
+-- 25, the byte is neither 0 nor a policy's, or else this
 abbrev pub OfPolicy : ℕ → (Option ℕ → ℕ → Buffer → Buffer → Type 0) → ℕ → Buffer → Buffer → Type 0
 OfPolicy byte Rest answer before after =
     (((asked : Option ℕ) → ¬ PolicyAsked byte asked) × Refuses 25 answer before after) ⊎ ((asked : Option ℕ) × PolicyAsked byte asked × Rest asked answer before after)
