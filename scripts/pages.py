@@ -39,7 +39,7 @@ TOOLS = "haproxy", "ldd", "socat"
 NOT_RUN = {
     r"\brt (run|ci)\b|^\.ci/|^bench/": "proves or measures for minutes",
     r"^(scp|ssh|git clone)\b": "needs another machine",
-    r"^useradd|-[go] directoryd": "needs a user directoryd",
+    r"^(useradd|runuser)|-[go] directoryd": "needs a user directoryd",
     r"^(systemctl|loginctl)": "needs a running systemd",
     r"HOST:PORT|NAME KEY|^@reboot": "scripts/watching.py runs it",
 }
@@ -49,6 +49,9 @@ STATUSES = {"examples/day.script": 1}
 PRINTS = {
     r"printf '\0\0\0\1\6'": r" 00 00 00 b5 84 52 01 00.*",
     "grep -q watched": "",
+    "directoryd-roots/seen 127": "",
+    "said=$(/usr": "",
+    "--state try": r"root \d+ after \d+",
     "-j 42": "sign-key",
     "-j 74": "vuf-key",
     "judge --key $(cut -d ' ' -f 2 keys/provider)": "evidence",
@@ -63,10 +66,11 @@ BLOCKS = {
 BEFORE = {
     ("Keep the directory in a file", " listen "): "kill $server; wait $server\n{keys}",
     ("Every minute", "* * *"): """
-        mkdir -p /usr/local/bin /etc/directoryd /etc/systemd/system /var/lib/directoryd
+        mkdir -p /usr/local/bin /etc/directoryd /etc/systemd/system /var/lib/directoryd /var/lib/directoryd-roots
         cp crates/directoryd/out/directoryd /usr/local/bin/
-        cp keys/operator /etc/directoryd/""",
+        cp keys/operator keys/provider keys/server /etc/directoryd/""",
     ("Install it", "install -m 755"): "cp crates/directoryd/out/directoryd .",
+    ("After a crash, a move or a restore", "cp "): "cp keys/journal /var/lib/directoryd/",
     ("Upgrade it", "systemctl stop directoryd-close"): "cp directoryd directoryd.new; cp keys/journal /var/lib/directoryd/",
     ("Lost keys", "-j 42"): "kill $server; wait $server\n{listen}",
     ("The first time", "$ask watch"): "cd $repository\n{close}cd ~/watching",
@@ -151,7 +155,8 @@ class Page(Reader):
         if not status.strip().isdigit():
             raise Stopped(f"{lines.strip()}: has no end, or ends the shell")
         if re.search(r" listen .*&", lines):
-            self.shell.stdin.write("server=$!\n")
+            if ":7000" in lines:
+                self.shell.stdin.write("server=$!\n")
             for _ in range(10 * SECONDS):
                 if "listening on" in errors.read_text():
                     break
