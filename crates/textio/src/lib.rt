@@ -15,6 +15,7 @@
 //! ```
 #![tactic(auto)]
 
+mod digit_values;
 mod digits;
 mod line;
 mod output;
