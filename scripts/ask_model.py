@@ -687,18 +687,13 @@ class Asked(Followed):
                 return self.refuse("proof", refusal, f"watching {monitor.name.hex()} at epoch {epoch}: ")
             self.tell_step(monitor.name, epoch, step)
             self.note(monitor.name, got[2])
-            self.test_shown(monitor.name, epoch, got[2])
+            self.drop_kept(monitor.name, epoch, got[2])
 
-    def test_shown(self, name, epoch, body):
-        """Tests the promise of a name that is due in this epoch by the reply of its monitor. One that is not kept stays, and
-        evidence of that is told."""
-        if self.client.due_epoch(name) != epoch:
-            return
-        with contextlib.suppress(Refusal):
-            due = self.client.due(name, body)
-            if due not in (KEPT, OTHER_INDEX):
-                self.tell_evidence(due)
-                self.explain(f"promise for {name.hex()}", "it was not kept")
+    def drop_kept(self, name, epoch, body):
+        """Tests a promise of a name that is due in this epoch by the reply of its monitor. One that is not kept stays."""
+        if self.client.due_epoch(name) == epoch:
+            with contextlib.suppress(Refusal):
+                self.client.due(name, body)
 
     # The end
 

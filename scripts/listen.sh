@@ -115,10 +115,8 @@ starts --count 310
 # The keys come before the address, and the words before both.
 ends "an address in use" 1 "" "cannot listen" /dev/null listen $keys "$address"
 ends "no address" 1 "" "cannot listen" /dev/null listen $keys nowhere
-ends "a bad token and an address in use" 1 "" "token is not 64 hexadecimal digits
-bad hex" /dev/null listen ${keys% *} 00 "$address"
-ends "a bad nonce and an address in use" 1 "" "nonce is not 64 hexadecimal digits
-bad hex" /dev/null listen $keys --nonce 00 "$address"
+ends "a bad token and an address in use" 1 "" "bad hex" /dev/null listen ${keys% *} 00 "$address"
+ends "a bad nonce and an address in use" 1 "" "bad hex" /dev/null listen $keys --nonce 00 "$address"
 ends "a bad token and epoch 0" 2 "" \
     "error: invalid value '0' for '--epoch <E>': 0 is not in 1..18446744073709551615" \
     /dev/null listen ${keys% *} 00 --epoch 0 "$address"

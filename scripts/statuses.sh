@@ -202,8 +202,7 @@ for name in serve listen; do
     for key in sign-key vuf-key salt-key token; do
         some=${keys/--$key $zeros/}
         given "" $name $some $address
-        ends 1 "" "$key is missing
-bad hex"
+        ends 1 "" "bad hex"
         refused "the argument '--$key <HEX>' cannot be used multiple times" $name $keys --$key $zeros $address
         refused "unexpected argument '--${key%?}' found" $name $some --${key%?} $zeros $address
     done
@@ -286,16 +285,11 @@ begins 0000000000000001 --token= --nonce=
 keys=$own
 head -n 3 "$folder/keys" >"$folder/some"
 given "" serve --keys "$folder/some"
-ends 1 "" "token is missing
-bad hex"
-given "" listen --keys "$folder/some" --nonce 00 nowhere
-ends 1 "" "token is missing
-bad hex"
+ends 1 "" "bad hex"
 given "" ask --keys "$folder/some" nowhere
 ends 1 "" "bad hex"
 given "" serve --keys "$folder/some" --token=
-ends 1 "" "token is missing
-bad hex"
+ends 1 "" "bad hex"
 given "" ask --keys "$folder/keys" --token= nowhere
 ends 1 "" "cannot connect"
 for line in "token $zeros " "token ${zeros%0}" "token  $zeros" "token" "" "token-$zeros"; do
@@ -306,20 +300,10 @@ for line in "token $zeros " "token ${zeros%0}" "token  $zeros" "token" "" "token
     ends 1 "" "bad hex"
 done
 echo "provider $ones" >"$folder/public"
-none="No such file or directory (os error 2)"
-given "" serve $keys --keys "$folder/none"
-ends 1 "" "keys: $folder/none: $none
-cannot read"
-given "" listen $keys --keys "$folder/none" nowhere
-ends 1 "" "keys: $folder/none: $none
-cannot read"
-given "" ask --provider "$folder/public" --keys "$folder" nowhere
-ends 1 "" "keys: $folder: Is a directory (os error 21)
-cannot read"
-for file in "$folder/none" "$ones" ""; do
-    given "" ask --provider="$file" nowhere
-    ends 1 "" "provider: $file: $none
-cannot read"
+for words in "serve $keys --keys $folder/none" "ask --provider $folder/public --keys $folder nowhere" \
+    "ask --provider $folder/none nowhere" "ask --provider $ones nowhere" "ask --provider= nowhere"; do
+    given "" $words
+    ends 1 "" "cannot read"
 done
 given "" ask --provider "$folder/public" --token 00 nowhere
 ends 1 "" "bad hex"
@@ -410,15 +394,10 @@ for input in "x\n" ""; do
     ends 1 "" "bad hex"
     for key in sign-key vuf-key salt-key token; do
         given "$input" serve ${keys/--$key $zeros/--$key=${zeros:2}}
-        ends 1 "" "$key is not 64 hexadecimal digits
-bad hex"
+        ends 1 "" "bad hex"
     done
     given "$input" serve $keys --nonce a0
-    ends 1 "" "nonce is not 64 hexadecimal digits
-bad hex"
-    given "$input" serve $keys --nonce=
-    ends 1 "" "nonce is missing
-bad hex"
+    ends 1 "" "bad hex"
 done
 
 # Faults of the items.
@@ -588,12 +567,10 @@ ends 1 "" "not an evidence file"
 given "" judge --key $ones "$folder/wide.json"
 ends 0 "evidence" ""
 
-given "" judge --key $ones "$folder/none"
-ends 1 "" "$folder/none: $none
-cannot read"
-given "" judge --key $ones "$folder"
-ends 1 "" "$folder: Is a directory (os error 21)
-cannot read"
+for file in "$folder/none" "$folder"; do
+    given "" judge --key $ones "$file"
+    ends 1 "" "cannot read"
+done
 given "" judge --key $ones /dev/null
 ends 1 "" "not an evidence file"
 full out judge --key $ones "$folder/fork.json"

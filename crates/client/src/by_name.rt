@@ -88,7 +88,7 @@ impl IndexedReply {
     }
 }
 
-/// The replies for a name: a plain list until one states a key with Final, as few names have it.
+/// The replies for a name. As long as none states a key with Final, as of most names, they are kept without more.
 #[derive(Drop)]
 pub(crate) enum PlainOrSeveral {
     Plain(Vec<IndexedReply>),

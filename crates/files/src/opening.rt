@@ -4,7 +4,6 @@ ghost use Rattle.std.specs.Prelude.{◌≡◌, true, IfErr, Some};
 ghost use Rattle.files.specs.Faults.{IsLockFault, IsSystemFault};
 ghost use Rattle.files.specs.Folders.{folder_of, or_here};
 
-use crate::FileFault;
 use std::fs::{File, Files, OpenOptions, TryLockError};
 use std::io::{self, ErrorKind, Read};
 use std::os::unix::fs::OpenOptionsExt;
@@ -16,13 +15,13 @@ use thiserror::Error;
 pub(crate) const OWNER_ALONE: u32 = 0o600;
 
 /// Why a file could not be opened and locked.
-#[derive(Clone, Copy, Debug, Error)]
+#[derive(Clone, Copy, Debug, PartialEq, Eq, Error)]
 pub enum LockFault {
     /// Another process has it.
     #[error("another process has the file")]
     Taken,
     #[error("{0}")]
-    File(FileFault),
+    Program(ProgramFault),
 }
 
 /// Whether a file that is there can be read.
@@ -44,16 +43,6 @@ fn fault_of<F: Files<File = File>>(files: &F, path: &str, error: &io::Error) -> 
     match read_byte(files, path) {
         Ok(_) => ProgramFault::CannotWrite,
         Err(error) => file_fault(&error),
-    }
-}
-
-/// The same, with what the system said.
-fn unopened<F: Files<File = File>>(files: &F, path: &str, error: io::Error) -> FileFault
-    ensures { IsSystemFault result.fault }
-{
-    FileFault {
-        fault: fault_of(files, path, &error),
-        error,
     }
 }
 
@@ -81,12 +70,16 @@ pub(crate) fn sync_folder<F: Files<File = File>>(files: &F, path: &str) -> io::R
 
 /// A file whose entry is on the disk of its folder. That of one that is not new may not be: whoever made it, or had it take
 /// the place of another, may have been stopped before.
-fn with_entry<F: Files<File = File>>(files: &F, path: &str, file: File) -> Result<File, FileFault>
-    ensures { IfErr result (λ why. IsSystemFault why.fault) }
+fn with_entry<F: Files<File = File>>(
+    files: &F,
+    path: &str,
+    file: File,
+) -> Result<File, ProgramFault>
+    ensures { IfErr result IsSystemFault }
 {
     match sync_folder(files, path) {
         Ok(()) => Ok(file),
-        Err(error) => Err(FileFault::unwritten(error)),
+        Err(_) => Err(ProgramFault::CannotWrite),
     }
 }
 
@@ -110,14 +103,14 @@ fn options() -> OpenOptions
 pub fn open_existing<F: Files<File = File>>(
     files: &F,
     path: &str,
-) -> Result<Option<File>, FileFault>
-    ensures { IfErr result (λ why. IsSystemFault why.fault) }
+) -> Result<Option<File>, ProgramFault>
+    ensures { IfErr result IsSystemFault }
 {
     match options().open(files, path) {
         Ok(file) => Ok(Some(with_entry(files, path, file)?)),
         Err(error) => match error.kind() {
             ErrorKind::NotFound => Ok(None),
-            _ => Err(unopened(files, path, error)),
+            _ => Err(fault_of(files, path, &error)),
         },
     }
 }
@@ -128,14 +121,14 @@ pub fn open_existing<F: Files<File = File>>(
 /// # Errors
 ///
 /// `CannotRead`: it is there and cannot be read; `CannotWrite`; `OutOfMemory`.
-pub fn open_kept<F: Files<File = File>>(files: &F, path: &str) -> Result<File, FileFault>
-    ensures { IfErr result (λ why. IsSystemFault why.fault) }
+pub fn open_kept<F: Files<File = File>>(files: &F, path: &str) -> Result<File, ProgramFault>
+    ensures { IfErr result IsSystemFault }
 {
     let mut options = options();
     options.create(true);
     match options.open(files, path) {
         Ok(file) => with_entry(files, path, file),
-        Err(error) => Err(unopened(files, path, error)),
+        Err(error) => Err(fault_of(files, path, &error)),
     }
 }
 
@@ -149,11 +142,11 @@ pub fn open_locked<F: Files<File = File>>(files: &F, path: &str) -> Result<File,
 {
     let file = match open_kept(files, path) {
         Ok(file) => file,
-        Err(why) => return Err(LockFault::File(why)),
+        Err(fault) => return Err(LockFault::Program(fault)),
     };
     match file.try_lock() {
         Ok(()) => Ok(file),
         Err(TryLockError::WouldBlock) => Err(LockFault::Taken),
-        Err(TryLockError::Error(error)) => Err(LockFault::File(FileFault::unwritten(error))),
+        Err(TryLockError::Error(_)) => Err(LockFault::Program(ProgramFault::CannotWrite)),
     }
 }

@@ -21,22 +21,16 @@ use crate::lines::{fault_of, line_bytes, remember, roots_text, take_lines};
 use asking::{Asker, Checks, Said};
 use client::Client;
 use encoding::Hash32;
-use files::{
-    FileFault, LockFault, append, cut, error_line, open_existing, open_kept, open_locked,
-    read_rest, replace,
-};
+use files::{LockFault, append, cut, open_existing, open_kept, open_locked, replace};
 use memory::{Memory, first_line};
 use nodehash::NodeHash;
-use play::{push_hex, push_number};
+use play::push_number;
 use sigiface::Verifier;
 use std::alloc::{AllocError, Global};
 use std::fs::{File, Files};
 use std::io::{ErrorKind, Write};
-use textio::{ProgramFault, write_text};
+use textio::{ProgramFault, read_whole};
 use vrfiface::VufCheck;
-
-/// How a line about a file of the state begins.
-const STATE: &str = "state: ";
 
 /// A file that was read.
 #[derive(Drop)]
@@ -54,8 +48,6 @@ pub(crate) struct StateFiles<'a, F> {
     beside: String,
     roots: Option<File>,
     kept: Option<File>,
-    /// The line that says why something could not be saved.
-    unsaved: Vec<u8>,
 }
 
 /// The front of the bytes up to the last LF.
@@ -79,7 +71,7 @@ fn tell_file(said: &mut Said, path: &str, what: &[u8]) -> Result<(), AllocError>
 
 /// Appends what is said of a file of the state.
 fn push_words(words: &mut Vec<u8>, path: &str, what: &[u8]) -> Result<(), AllocError> {
-    words.extend_from_slice(STATE.as_bytes())?;
+    words.extend_from_slice(b"state: ")?;
     words.extend_from_slice(path.as_bytes())?;
     words.extend_from_slice(b": ")?;
     words.extend_from_slice(what)?;
@@ -101,18 +93,6 @@ fn fault_in(path: &str, fault: ProgramFault, said: &mut Said) -> ProgramFault
     }
 }
 
-/// The fault of the system for a file of the state. What the system said is said in a line of the errors, where there is
-/// memory for it.
-fn system_fault(alloc: Global, path: &str, why: &FileFault, said: &mut Said) -> ProgramFault
-    ensures fault { result ≡ why.now.fault }
-    ensures said { report_of said.new ≡ report_of said.old }
-{
-    if let Ok(line) = error_line(alloc, STATE, path, &why.error) {
-        let _said = said.words.extend_from_slice(&line);
-    }
-    why.fault
-}
-
 /// Drops the end of a file that was cut short, and says so.
 fn drop_rest(
     alloc: Global,
@@ -132,10 +112,7 @@ fn drop_rest(
     push_number(&mut what, rest as u64)?;
     what.extend_from_slice(b" bytes cut off")?;
     tell_file(said, path, &what)?;
-    match cut(&read.file, whole) {
-        Ok(()) => Ok(()),
-        Err(why) => Err(system_fault(alloc, path, &why, said)),
-    }
+    cut(&read.file, whole)
 }
 
 /// Whether there is a file of this path.
@@ -157,12 +134,12 @@ fn open_roots<F: Files<File = File>>(
     ensures said { report_of said.new ≡ report_of said.old }
 {
     match open_locked(files, path) {
-        Ok(file) => read_lines(alloc, path, file, said),
+        Ok(file) => read_lines(alloc, file),
         Err(LockFault::Taken) => {
             tell_file(said, path, b"another run has it")?;
             Err(ProgramFault::CannotWrite)
         }
-        Err(LockFault::File(why)) => Err(system_fault(alloc, path, &why, said)),
+        Err(LockFault::Program(fault)) => Err(fault),
     }
 }
 
@@ -171,31 +148,23 @@ fn open_second<F: Files<File = File>>(
     alloc: Global,
     files: &F,
     path: &str,
-    said: &mut Said,
 ) -> Result<Option<LineFile>, ProgramFault>
-    ensures err { IfErr result IsFaultOfState }
-    ensures said { report_of said.new ≡ report_of said.old }
+    ensures { IfErr result IsFaultOfState }
 {
     match open_existing(files, path) {
-        Ok(Some(file)) => Ok(Some(read_lines(alloc, path, file, said)?)),
+        Ok(Some(file)) => Ok(Some(read_lines(alloc, file)?)),
         Ok(None) => Ok(None),
-        Err(why) => Err(system_fault(alloc, path, &why, said)),
+        Err(fault) => Err(fault),
     }
 }
 
 /// Reads a file.
-fn read_lines(
-    alloc: Global,
-    path: &str,
-    mut file: File,
-    said: &mut Said,
-) -> Result<LineFile, ProgramFault>
-    ensures err { IfErr result IsFaultOfState }
-    ensures said { report_of said.new ≡ report_of said.old }
+fn read_lines(alloc: Global, mut file: File) -> Result<LineFile, ProgramFault>
+    ensures { IfErr result IsFaultOfState }
 {
-    match read_rest(alloc, &mut file) {
+    match read_whole(alloc, &mut file) {
         Ok(bytes) => Ok(LineFile { file, bytes }),
-        Err(why) => Err(system_fault(alloc, path, &why, said)),
+        Err(fault) => Err(fault),
     }
 }
 
@@ -233,34 +202,13 @@ where
     Ok(asker)
 }
 
-/// The fault of saving, where a file could not be opened or written.
+/// The fault of saving, where the second file could not be opened.
 fn saving_fault(fault: ProgramFault) -> ProgramFault
     ensures { IsFaultOfSaving result }
 {
     match fault {
         ProgramFault::OutOfMemory => ProgramFault::OutOfMemory,
         _ => ProgramFault::CannotWrite,
-    }
-}
-
-/// The outcome of saving something in the file of a path. The line about what the system said is kept, where there is memory
-/// for it.
-fn saved(
-    alloc: Global,
-    path: &str,
-    outcome: Result<(), FileFault>,
-    unsaved: &mut Vec<u8>,
-) -> Result<(), ProgramFault>
-    ensures { IfErr result IsFaultOfSaving }
-{
-    match outcome {
-        Ok(()) => Ok(()),
-        Err(why) => {
-            if let Ok(line) = error_line(alloc, STATE, path, &why.error) {
-                *unsaved = line;
-            }
-            Err(saving_fault(why.fault))
-        }
     }
 }
 
@@ -274,7 +222,6 @@ impl<'a, F: Files<File = File>> StateFiles<'a, F> {
             beside: format!(in alloc; "{path}.kept")?,
             roots: None,
             kept: None,
-            unsaved: Vec::new(alloc),
         })
     }
 }
@@ -344,12 +291,8 @@ impl<F: Files<File = File>> StateFiles<'_, F> {
                 b"evidence of an earlier run",
             )?;
         }
-        for alarm in known.alarms() {
-            let mut what = Vec::from_slice(self.alloc, b"alarm of an earlier run for ")?;
-            push_hex(&mut what, alarm.name.bytes())?;
-            what.extend_from_slice(b" at epoch ")?;
-            push_number(&mut what, alarm.epoch)?;
-            push_words(&mut words, self.beside.as_str(), &what)?;
+        for _ in known.alarms() {
+            push_words(&mut words, self.beside.as_str(), b"alarm of an earlier run")?;
         }
         said.words.extend_from_slice(&words)
     }
@@ -377,7 +320,7 @@ impl<F: Files<File = File>> Keeper for StateFiles<'_, F> {
             return Err(fault_in(self.path, ProgramFault::BadItem(1), said));
         }
         let roots = open_roots(self.alloc, self.files, self.path, said)?;
-        let second = open_second(self.alloc, self.files, self.beside.as_str(), said)?;
+        let second = open_second(self.alloc, self.files, self.beside.as_str())?;
         let lines = whole_lines(&roots.bytes);
         if lines.is_empty() {
             if second.is_some() {
@@ -412,10 +355,7 @@ impl<F: Files<File = File>> Keeper for StateFiles<'_, F> {
     {
         let lines = roots_text(self.alloc, client, epoch)?;
         match self.roots.as_mut() {
-            Some(file) => {
-                let outcome = append(file, &lines);
-                saved(self.alloc, self.path, outcome, &mut self.unsaved)
-            }
+            Some(file) => append(file, &lines),
             None => Err(ProgramFault::CannotWrite),
         }
     }
@@ -424,28 +364,17 @@ impl<F: Files<File = File>> Keeper for StateFiles<'_, F> {
         if self.kept.is_none() {
             match open_kept(self.files, self.beside.as_str()) {
                 Ok(file) => self.kept = Some(file),
-                Err(why) => {
-                    let path = self.beside.as_str();
-                    return saved(self.alloc, path, Err(why), &mut self.unsaved);
-                }
+                Err(fault) => return Err(saving_fault(fault)),
             }
         }
         match self.kept.as_mut() {
-            Some(file) => {
-                let outcome = append(file, lines);
-                saved(self.alloc, self.beside.as_str(), outcome, &mut self.unsaved)
-            }
+            Some(file) => append(file, lines),
             None => Err(ProgramFault::CannotWrite),
         }
     }
 
     fn replace<W: Write>(&mut self, text: &[u8], _writer: &W) -> Result<(), ProgramFault> {
         self.kept = None;
-        let outcome = replace(self.alloc, self.files, self.beside.as_str(), text);
-        saved(self.alloc, self.beside.as_str(), outcome, &mut self.unsaved)
-    }
-
-    fn tell_unsaved<E: Write>(&self, errors: &mut E) {
-        let _told = write_text(errors, &self.unsaved);
+        replace(self.alloc, self.files, self.beside.as_str(), text)
     }
 }

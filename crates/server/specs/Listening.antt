@@ -80,10 +80,10 @@ AnswersConnections {K} kept failed taken desk errors new = (acts : History) × (
     × ShownBy kept failed desk lines after.service × TellsAll is_unkept false acts errors new
 
 -- connections are answered from the desk of a journal's directory, whose line comes first
-abbrev pub TellsKept : DirectoryOptions → List ℕ → ConnectionOptions → Option (List ℕ) → Result (Unit {0}) ProgramFault → Option (List ℕ) → Type 0
-TellsKept asked path taken errors result new = ((result ≡ Err BadHex) × Keeps errors new)
+abbrev pub TellsKept : DirectoryOptions → ConnectionOptions → Option (List ℕ) → Result (Unit {0}) ProgramFault → Option (List ℕ) → Type 0
+TellsKept asked taken errors result new = ((result ≡ Err BadHex) × Keeps errors new)
     ⊎ ((keys : DirectoryKeys) × (keys_of asked ≡ Some keys)
-    × AfterJournal keys path errors new result ⊤ (λ desk told. TellsAddress (AnswersConnections KeepsInFile LosesInFile taken desk) told result new))
+    × AfterJournal keys errors new result ⊤ (λ desk told. TellsAddress (AnswersConnections KeepsInFile LosesInFile taken desk) told result new))
 
 -- the directory of these keys is begun, and connections are answered from its desk
 abbrev pub ServesBegun : DirectoryOptions → ConnectionOptions → Option (List ℕ) → Option (List ℕ) → Type 0
@@ -97,7 +97,7 @@ TellsUnkept asked taken = TellsAddress (ServesBegun asked taken)
 -- what is written to the errors, and from which desk connections are answered, by whether there is a journal
 abbrev pub TellsBy : Option (List ℕ) → DirectoryOptions → ConnectionOptions → Option (List ℕ) → Result (Unit {0}) ProgramFault → Option (List ℕ) → Type 0
 TellsBy None asked taken errors result new = TellsUnkept asked taken errors result new
-TellsBy (Some path) asked taken errors result new = TellsKept asked path taken errors result new
+TellsBy (Some path) asked taken errors result new = TellsKept asked taken errors result new
 
 abbrev pub ListenTells : DirectoryOptions → ConnectionOptions → Option (List ℕ) → Result (Unit {0}) ProgramFault → Option (List ℕ) → Type 0
 ListenTells asked = TellsBy asked.journal asked

@@ -4,15 +4,12 @@
 ghost use Rattle.std.specs.Prelude.{◌≡◌, IfErr, OnOk};
 ghost use Rattle.std.specs.Io.{WritesAtMost};
 ghost use Rattle.std.specs.Io.KnownBytes.{Appends};
-ghost use Rattle.textio.specs.Faults.{IsDeviceFault};
 ghost use Rattle.textio.specs.Output.{WritesBeginning};
 
-use files::read_rest;
-use std::alloc::Global;
 use std::cell::Cell;
 use std::fs::File;
 use std::io::{self, Error, ErrorKind, Write};
-use textio::{ProgramFault, StreamFault, write_text};
+use textio::{StreamFault, write_text};
 
 /// How what was written to a file stands on its disk.
 #[derive(Clone, Copy, Debug, PartialEq, Eq)]
@@ -26,10 +23,8 @@ enum DiskState {
 /// A file and the mark of what was written to it.
 #[derive(Drop)]
 pub(crate) struct Disk {
-    file: File,
+    pub(crate) file: File,
     state: Cell<DiskState>,
-    /// What the system said when it last did not do what was asked.
-    error: Cell<Option<Error>>,
 }
 
 impl Disk {
@@ -38,40 +33,6 @@ impl Disk {
         Disk {
             file,
             state: Cell::new(DiskState::Unsynced),
-            error: Cell::new(None),
-        }
-    }
-
-    /// What the system said when it last did not do what was asked, if it ever did not.
-    pub(crate) fn error(&self) -> Option<Error> {
-        self.error.get()
-    }
-
-    /// All bytes of the file that were not read yet.
-    ///
-    /// # Errors
-    ///
-    /// `CannotRead`; `OutOfMemory`.
-    pub(crate) fn read(&self, alloc: Global) -> Result<Vec<u8>, ProgramFault>
-        ensures { IfErr result IsDeviceFault }
-    {
-        match read_rest(alloc, &mut &self.file) {
-            Ok(bytes) => Ok(bytes),
-            Err(why) => {
-                self.error.set(Some(why.error));
-                Err(why.fault)
-            }
-        }
-    }
-
-    /// Cuts the file to its first bytes, of this number.
-    pub(crate) fn cut(&self, size: usize) -> io::Result<()> {
-        match self.file.set_len(size as u64) {
-            Ok(()) => Ok(()),
-            Err(error) => {
-                self.error.set(Some(error));
-                Err(error)
-            }
         }
     }
 
@@ -83,13 +44,7 @@ impl Disk {
             return Err(Error::from(ErrorKind::Other));
         }
         self.state.set(DiskState::Unsynced);
-        match (&mut &self.file).write(bytes) {
-            Ok(count) => Ok(count),
-            Err(error) => {
-                self.error.set(Some(error));
-                Err(error)
-            }
-        }
+        (&mut &self.file).write(bytes)
     }
 
     /// Puts on the disk what was written since the last sync, if anything was.
@@ -98,10 +53,9 @@ impl Disk {
             DiskState::Synced => Ok(()),
             DiskState::Failed => Err(Error::from(ErrorKind::Other)),
             DiskState::Unsynced => {
-                if let Err(error) = self.file.sync_data() {
+                if self.file.sync_data().is_err() {
                     self.state.set(DiskState::Failed);
-                    self.error.set(Some(error));
-                    return Err(error);
+                    return Err(Error::from(ErrorKind::Other));
                 }
                 self.state.set(DiskState::Synced);
                 Ok(())

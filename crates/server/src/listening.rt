@@ -210,15 +210,12 @@ where
     R: BufRead,
     E: Write,
     ensures bad_hex { (result ≡ Err BadHex) ↔ (keys_of (directory_values order.entry.directory) ≡ None) }
-    ensures tells { TellsKept (directory_values order.entry.directory) path.now (connections_of order.entry) (E.contents errors.old) result (E.contents errors.new) }
+    ensures tells { TellsKept (directory_values order.entry.directory) (connections_of order.entry) (E.contents errors.old) result (E.contents errors.new) }
     ensures unread { (order.entry.until_eof ≡ false) ⊎ IsErr result → input.new ≡ input.old }
 {
     let keys = Keys::read(&order.directory)?;
-    let disk = match open_file(alloc, system, path, errors) {
-        Ok(disk) => disk,
-        Err(fault) => return Err(fault),
-    };
-    let hub = match open_journal(alloc, &keys, &disk, path, errors) {
+    let disk = open_file(system, path)?;
+    let hub = match open_journal(alloc, &keys, &disk, errors) {
         Ok(hub) => hub,
         Err(fault) => return Err(fault),
     };
@@ -236,7 +233,7 @@ where
 /// # Errors
 ///
 /// `BadHex`, before all else, if a text of the order is not 64 hexadecimal digits; then those of the
-/// journal, as `serve_directory` has them, with its line; `OutOfMemory`; `CannotListen` if it cannot listen on the
+/// journal, as `serve_directory` has them; `OutOfMemory`; `CannotListen` if it cannot listen on the
 /// address; `CannotWrite` if one of these lines cannot be written. A connection that fails is closed, and is
 /// not a fault of `listen`.
 pub fn listen<N, R, E>(

@@ -3,4 +3,3 @@ pub mod InLine
 pub mod Steps
 pub mod NextLine
 pub mod Reading
-pub mod DigitValues

@@ -15,7 +15,6 @@
 //! ```
 #![tactic(auto)]
 
-mod digit_values;
 mod digits;
 mod line;
 mod output;

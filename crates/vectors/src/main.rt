@@ -13,7 +13,7 @@
 //! | | `<` of them | `order-name`, `order-key`, `order-small` |
 //! | | `Cursor`; `FixedText` | `read`; `text` |
 //! | `nodes` | `NodeHash::digest`, `count`, `digest_all` | `sha256`, `sum`; `all`, `all-sum` |
-//! | | `keyed_digest`, `sha256_four`, `sha256_eight` | `keyed`, `four`, `eight` |
+//! | | `keyed_digest`, `sha256_four` | `keyed`, `four` |
 //! | | `empty_text`, `leaf_text`, `interior_text` | `empty`, `leaf`, `interior` |
 //! | | `commit`, `commit_text` | `commit`, `commit2` |
 //! | `stand-ins` | `Vuf::public`, `value`, by `small_keyed_digest`; `VufCheck::accepts` | `value`, `accepts`, `plain-value`, `plain-accepts` |
@@ -29,7 +29,7 @@
 //! | | `compare` | `compare`, `compare-sum` |
 //! | | `take`, `extend` under a verifier that accepts all | `any`, `any-extended` |
 //! | `trees` | `Tree::new`, `with`, `copy` | `new`, `with`, `copy` |
-//! | | `placed`, which calls `placed_within`; `from_items`, `with_all`; `root_of_items` | `from`, `more`; `bare` |
+//! | | `placed`, which calls `placed_within`; `from_items`, `with_all` | `from`, `more` |
 //! | | `renew`, which calls `renew_with_all` | `renew` |
 //! | | `root`, `get`; `path`, `Path::level`, `path_end`, `write_siblings` | `root`, `get`; `path` |
 //! | | `end_text`, `joined_text`, `climb`, `leads`, `Path::leads` | `end-text`, `joined`, `climb`, `leads` |

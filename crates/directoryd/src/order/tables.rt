@@ -174,7 +174,7 @@ const HASH: Argument = Argument {
 const NONCE: Argument = Argument {
     name: "nonce",
     value: "HEX",
-    help: "The nonce of the tree, 64 hexadecimal digits; 64 zeros if not given",
+    help: "The nonce of the tree, 64 hexadecimal digits [default: zeros]",
     kind: Kind::Text,
 };
 
@@ -230,7 +230,7 @@ const EPOCH: Argument = Argument {
 const JOURNAL: Argument = Argument {
     name: "journal",
     value: "FILE",
-    help: "The file in which the directory is kept; in memory alone if not given",
+    help: "The file in which the directory is kept [default: none]",
     kind: Kind::Text,
 };
 
@@ -342,14 +342,14 @@ pub(super) static SUBCOMMANDS: [Subcommand; 8] = [
             Argument {
                 name: "token",
                 value: "HEX",
-                help: "The token of the operator, 64 hexadecimal digits; 64 zeros if not given",
+                help: "The token of the operator, 64 hexadecimal digits [default: zeros]",
                 kind: Kind::Text,
             },
             KEYS,
             Argument {
                 name: "state",
                 value: "FILE",
-                help: "The file of the client's chain; not kept if not given",
+                help: "The file of the client's chain [default: none]",
                 kind: Kind::Text,
             },
             Argument {
