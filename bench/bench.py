@@ -212,10 +212,8 @@ def check(words, status, answer, wanted):
         sys.exit(f"{' '.join(words)}: status {status}, output {answer!r}")
 
 
-def run(words, items, wanted, top=""):
-    """The time by the clock and the processor's time of one run of directoryd of the clone at
-    `top`."""
-    words = [os.path.join(top, DIRECTORYD), *words]
+def run_over(words, items, wanted):
+    """What one run of a program over these items prints, its time by the clock and the processor's time."""
     with open(items, "rb") as file:
         start = time.perf_counter()
         process = subprocess.Popen(words, stdin=file, stdout=subprocess.PIPE)
@@ -225,7 +223,13 @@ def run(words, items, wanted, top=""):
     process.stdout.close()
     process.returncode = status
     check(words, status, answer, wanted)
-    return taken, usage.ru_utime + usage.ru_stime
+    return answer, taken, usage.ru_utime + usage.ru_stime
+
+
+def run(words, items, wanted, top=""):
+    """The time by the clock and the processor's time of one run of directoryd of the clone at
+    `top`."""
+    return run_over([os.path.join(top, DIRECTORYD), *words], items, wanted)[1:]
 
 
 def runs(words, items, wanted, count):
@@ -241,10 +245,9 @@ def runs(words, items, wanted, count):
 
 
 def peak_memory(words, items):
-    """The peak of resident memory of directoryd. Its answer goes to a full pipe, so that it can be
-    looked at while it waits to write. (What `wait4` gives for a child is never less than what this
-    interpreter has.)"""
-    words = [DIRECTORYD, *words]
+    """The peak of resident memory of a program that prints a root. Its answer goes to a full pipe, so
+    that it can be looked at while it waits to write. (What `wait4` gives for a child is never less
+    than what this interpreter has.)"""
     reader, writer = os.pipe()
     os.set_blocking(writer, False)
     filled = 0
@@ -330,7 +333,7 @@ def openssl_times():
     return Spread(times)
 
 
-def print_machine():
+def print_processor():
     facts = {}
     for path in ("/proc/cpuinfo", "/proc/meminfo"):
         with open(path, encoding="ascii", errors="replace") as file:
@@ -341,6 +344,10 @@ def print_machine():
     has = "with" if "sha_ni" in facts.get("flags", "").split() else "without"
     print(f"{facts.get('model name', 'unknown processor')}, {has} SHA instructions")
     print(f"{os.cpu_count()} cores, {memory:.0f} GiB, load {os.getloadavg()[0]:.2f}")
+
+
+def print_machine():
+    print_processor()
     print(f"built for {BUILD}")
     kit, openssl = (LONG / 2**20 / t.least for t in (digest_times(LONG, 20), openssl_times()))
     version = " ".join(ssl.OPENSSL_VERSION.split()[:2])
@@ -373,7 +380,7 @@ def root_rows(folder, digest):
         write_items(items, size)
         clock, processor, before = runs(["root"], items, b"root ", count)
         digests = nodes_of_items(items)
-        memory = peak_memory(["root"], items)
+        memory = peak_memory([DIRECTORYD, "root"], items)
         ratio = processor.least / (digests * digest.least)
         row = [f"{size:,}", f"{digests:,}", f"{clock.least:.3f}", *processor.cells(1, 4)]
         row += [f"{ratio:.2f}", f"{memory / 2**20:.1f}"]

@@ -23,3 +23,12 @@ build_load() {
     mkdir -p bench/out
     rustc -O --edition 2021 -o bench/out/load bench/load.rs
 }
+
+# Builds the peer of `directoryd root`, plain Rust with its std alone, for each of these processors.
+build_root_peer() {
+    local cpu
+    mkdir -p bench/out
+    for cpu in "$@"; do
+        rustc -O --edition 2021 -C "target-cpu=$cpu" -o "bench/out/root_peer-$cpu" bench/root_peer.rs
+    done
+}

@@ -9,7 +9,7 @@ use crate::listing::read_placement;
 use crate::orders::{HashChoice, RootOrder};
 use encoding::{FixedText, Hash32};
 use nodehash::{NodeHash, Sha256Hash, SumHash};
-use prefixtree::Tree;
+use prefixtree::root_of_items;
 use std::alloc::Global;
 use std::io::{BufRead, Write};
 use textio::{HASH_DIGITS, ProgramFault, hex_digits, hex32_or_zeros, write_text};
@@ -43,8 +43,8 @@ fn root_under<H: NodeHash, R: BufRead, W: Write>(
     ensures good_hex { IfErr result (λ fault. fault ≢ ProgramFault.BadHex) }
 {
     let items = read_placement(alloc, reader)?;
-    let tree = Tree::from_items(alloc, hash, *nonce, &items)?;
-    write_text(writer, root_text(&tree.root()).bytes())?;
+    let root = root_of_items(alloc, hash, nonce, &items)?;
+    write_text(writer, root_text(&root).bytes())?;
     Ok(())
 }
 

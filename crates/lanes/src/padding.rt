@@ -1,21 +1,26 @@
-ghost use Rattle.std.specs.Prelude.{◌≡◌, ◌↔◌, IsTrue, length, take, drop};
+ghost use Rattle.std.specs.Prelude.{◌≡◌, ℕ, ◌<◌, [], IsTrue, length, map, slice_index_or};
 ghost use Rattle.sha2.specs.Sha256.{padded_message};
 ghost use Rattle.lanes.specs.TwoBlocks.{HasTwoBlocks};
 
 /// The bytes in a block.
-const BLOCK_LEN: usize = 64;
+pub(crate) const BLOCK_LEN: usize = 64;
 
 /// The bytes in a message of two blocks with its padding.
-const PADDED_LEN: usize = 128;
+pub(crate) const PADDED_LEN: usize = 128;
 
 /// Where the length in bits begins, which is the last 8 bytes.
 const BIT_LEN_AT: usize = 120;
 
-/// Whether these bytes are as many as a block has.
-pub(crate) fn is_block(bytes: &[u8]) -> bool
-    ensures { IsTrue result ↔ (length bytes.now ≡ 64) }
+/// Whether each message has as many bytes as a block.
+pub(crate) fn are_blocks(messages: &[&[u8]]) -> bool
+    ensures { IsTrue result → (k : ℕ) → k < length messages.now → length (slice_index_or (map (λ message. message.now) messages.now) k []) ≡ 64 }
 {
-    bytes.len() == BLOCK_LEN
+    for message in messages {
+        if message.len() != BLOCK_LEN {
+            return false;
+        }
+    }
+    true
 }
 
 /// A message and its padding (FIPS 180-4, section 5.1.1).
@@ -31,20 +36,4 @@ pub(crate) fn padded(message: &[u8]) -> [u8; PADDED_LEN]
     let bit_len = 8 * len as u64;
     blocks[BIT_LEN_AT..].copy_from_slice(&bit_len.to_be_bytes());
     blocks
-}
-
-#[inline(always)]
-pub(crate) fn first_block(blocks: &[u8; PADDED_LEN]) -> &[u8]
-    ensures value { result.now ≡ take 64 blocks.now }
-    ensures len { length result.now ≡ 64 }
-{
-    &blocks[..BLOCK_LEN]
-}
-
-#[inline(always)]
-pub(crate) fn second_block(blocks: &[u8; PADDED_LEN]) -> &[u8]
-    ensures value { result.now ≡ take 64 (drop 64 blocks.now) }
-    ensures len { length result.now ≡ 64 }
-{
-    &blocks[BLOCK_LEN..]
 }

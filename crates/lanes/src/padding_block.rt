@@ -3,7 +3,7 @@
 //! round's constant.
 ghost use Rattle.std.specs.Prelude.{◌≡◌, ℕ, ◌+◌, ◌<◌, ◌≤◌, List, slice_index};
 ghost use Rattle.sha2.specs.Sha256.{add32, compress, padding, round_constants, rounds};
-ghost use Rattle.lanes.specs.Lanes.{state_lane};
+ghost use Rattle.lanes.specs.Lanes.{lane};
 ghost use Rattle.lanes.specs.TwoBlocks.{padding_words};
 
 use crate::round_constants::PADDING_KEYS;
@@ -22,20 +22,20 @@ fn padding_key(t: usize) -> u32
 
 /// Round `t`.
 #[inline(always)]
-fn padding_step(v: State, t: usize) -> State
+fn padding_step<const N: usize>(v: State<N>, t: usize) -> State<N>
     requires { t < 64 }
-    ensures { (k : ℕ) (h : List ℕ) → k < 4 → state_lane v k ≡ rounds h padding_words t
-        → state_lane result k ≡ rounds h padding_words (t + 1) }
+    ensures { (k : ℕ) (h : List ℕ) → k < N → lane v.entry k ≡ rounds h padding_words t
+        → lane result k ≡ rounds h padding_words (t + 1) }
 {
     round(v, every(padding_key(t)))
 }
 
 /// The rounds from `t` to `t + 3`.
 #[inline(always)]
-fn four_padding_steps(v: State, t: usize) -> State
+fn four_padding_steps<const N: usize>(v: State<N>, t: usize) -> State<N>
     requires { t + 4 ≤ 64 }
-    ensures { (k : ℕ) (h : List ℕ) → k < 4 → state_lane v k ≡ rounds h padding_words t
-        → state_lane result k ≡ rounds h padding_words (t + 4) }
+    ensures { (k : ℕ) (h : List ℕ) → k < N → lane v.entry k ≡ rounds h padding_words t
+        → lane result k ≡ rounds h padding_words (t + 4) }
 {
     let v = padding_step(v, t);
     let v = padding_step(v, t + 1);
@@ -44,8 +44,8 @@ fn four_padding_steps(v: State, t: usize) -> State
 }
 
 /// The hash value of each message after the second block.
-pub(crate) fn compress_padding(hash: State) -> State
-    ensures { (k : ℕ) → k < 4 → state_lane result k ≡ compress (state_lane hash k) (padding 64) }
+pub(crate) fn compress_padding<const N: usize>(hash: State<N>) -> State<N>
+    ensures { (k : ℕ) → k < N → lane result k ≡ compress (lane hash.entry k) (padding 64) }
 {
     let mut v = hash;
     'rounds: for turn in 0..4 {

@@ -1,5 +1,5 @@
 -- How many bytes the texts of the three kinds of nodes have.
-use Rattle.std.proofs.Common.{◌≡◌, ℕ, ◌+◌, List, [], ◌∷◌, ◌++◌, length, length-append, refl, ap, ◌∙◌, arith}
+use Rattle.std.proofs.Common.{◌≡◌, ℕ, List, [], ◌∷◌, ◌++◌, length, length-append, refl, ap, ◌∙◌, arith}
 use Rattle.encoding.specs.Bits.{cut}
 use Rattle.encoding.proofs.Agreement.{length-cut}
 use Rattle.nodehash.specs.NodeTexts.{level_bytes, IsEmptyText, IsLeafText, IsInteriorText}

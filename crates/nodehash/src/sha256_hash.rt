@@ -1,6 +1,7 @@
-//! SHA-256, whose digests are counted. Of many texts four are digested at once, in the order of the list,
-//! if each of the four has two blocks; those of another length, and the last ones, one by one.
-ghost use Rattle.std.specs.Prelude.{◌≡◌, ◌↔◌, ℕ, [], ◌∷◌, ◌+◌, ◌≤◌, length, take, map, IsTrue};
+//! SHA-256, whose digests are counted. Of many texts four are digested at once, or eight, in the order of the
+//! list, if each of them has two blocks; those of another length one by one.
+ghost use Rattle.std.specs.Prelude.{◌≡◌, ℕ, List, [], ◌+◌, ◌<◌, ◌≤◌, length, take, map, slice_index_or, IsTrue};
+ghost use Rattle.std.specs.List.{AllByRecursion};
 ghost use Rattle.sha2.specs.Sha256.{sha256};
 ghost use Rattle.lanes.specs.TwoBlocks.{HasTwoBlocks};
 ghost use Rattle.nodehash.specs.Digests.{after_digests};
@@ -8,7 +9,7 @@ ghost use Rattle.nodehash.specs.DigestSizes.{Is32Bytes-sha256};
 
 use crate::{NodeHash, NodeText};
 use encoding::Hash32;
-use lanes::sha256_four;
+use lanes::{sha256_eight, sha256_four};
 use sha2::{Digest, Sha256};
 use std::marker::Model;
 
@@ -33,51 +34,123 @@ impl Sha256Hash {
     }
 }
 
-/// Whether the text and its padding fill two blocks, as the texts of all nodes do.
-fn has_two_blocks(text: &NodeText) -> bool
-    ensures { IsTrue result ↔ HasTwoBlocks text.now }
-{
-    let len = text.bytes().len();
-    56 <= len && len < 120
-}
+/// Whether eight texts are digested at once, or four. Eight take less time where the program is built for a
+/// processor with AVX2, and more elsewhere.
+const IN_EIGHTS: bool = false;
 
-/// The digests of four texts.
-fn digest_four(a: &NodeText, b: &NodeText, c: &NodeText, d: &NodeText) -> [Hash32; 4]
-    ensures { result ≡ map sha256 (a.now ∷ b.now ∷ c.now ∷ d.now ∷ []) }
+/// The text at this place, or the last one.
+fn text_at(texts: &[NodeText], place: usize) -> &NodeText
+    requires { 0 < length texts.now }
+    ensures { place < length texts.now → result.now ≡ slice_index_or texts.now place [] }
 {
-    if has_two_blocks(a) && has_two_blocks(b) && has_two_blocks(c) && has_two_blocks(d) {
-        let [a, b, c, d] = sha256_four(a.bytes(), b.bytes(), c.bytes(), d.bytes());
-        return [
-            Hash32::new(a),
-            Hash32::new(b),
-            Hash32::new(c),
-            Hash32::new(d),
-        ];
+    let last = texts.len() - 1;
+    if place < last {
+        &texts[place]
+    } else {
+        &texts[last]
     }
-    [
-        Hash32::new(Sha256::digest(a.bytes())),
-        Hash32::new(Sha256::digest(b.bytes())),
-        Hash32::new(Sha256::digest(c.bytes())),
-        Hash32::new(Sha256::digest(d.bytes())),
-    ]
 }
 
-/// Fills the next four places with the digests of the texts there.
-fn digest_group(texts: &[NodeText], out: &mut [Hash32], first: usize)
-    requires fits { first + 4 ≤ length texts.now }
-    requires sizes { length out.old ≡ length texts.now }
-    ensures { take first out.old ≡ map sha256 (take first texts.now) → take (first + 4) out.new ≡ map sha256 (take (first + 4) texts.now) }
+/// Whether each text and its padding fill two blocks, as the texts of all nodes do.
+fn have_two_blocks(texts: &[&[u8]]) -> bool
+    ensures { IsTrue result → AllByRecursion HasTwoBlocks (map (λ text. text.now) texts.now) }
 {
-    let [a, b, c, d] = digest_four(
-        &texts[first],
-        &texts[first + 1],
-        &texts[first + 2],
-        &texts[first + 3],
-    );
-    out[first] = a;
-    out[first + 1] = b;
-    out[first + 2] = c;
-    out[first + 3] = d;
+    for text in texts {
+        if text.len() < 56 || text.len() >= 120 {
+            return false;
+        }
+    }
+    true
+}
+
+/// Puts these digests into the places from `first` on, as far as there are places.
+fn put_digests(digests: &[[u8; 32]], out: &mut [Hash32], first: usize)
+    requires { first ≤ length out.old }
+    ensures len { length out.new ≡ length out.old }
+    ensures digests { (texts : List (List ℕ)) → length out.old ≡ length texts → take first out.old ≡ map sha256 (take first texts)
+        → ((k : ℕ) → k < length digests.now → first + k < length texts → slice_index_or digests.now k [] ≡ sha256 (slice_index_or texts (first + k) []))
+        → take (first + length digests.now) out.new ≡ map sha256 (take (first + length digests.now) texts) }
+{
+    let count = digests.len().min(out.len() - first);
+    'put: for k in 0..count {
+        out[first + k] = Hash32::new(digests[k]);
+    }
+}
+
+/// Fills the next four places with the digests of the texts there, or fewer where the list ends.
+fn digest_four(texts: &[NodeText], out: &mut [Hash32], first: usize)
+    requires first { first < length texts.now }
+    requires sizes { length out.old ≡ length texts.now }
+    ensures len { length out.new ≡ length out.old }
+    ensures digests { take first out.old ≡ map sha256 (take first texts.now) → take (first + 4) out.new ≡ map sha256 (take (first + 4) texts.now) }
+{
+    let a = text_at(texts, first).bytes();
+    let b = text_at(texts, first + 1).bytes();
+    let c = text_at(texts, first + 2).bytes();
+    let d = text_at(texts, first + 3).bytes();
+    if have_two_blocks(&[a, b, c, d]) {
+        put_digests(&sha256_four(a, b, c, d), out, first);
+    } else {
+        put_digests(
+            &[
+                Sha256::digest(a),
+                Sha256::digest(b),
+                Sha256::digest(c),
+                Sha256::digest(d),
+            ],
+            out,
+            first,
+        );
+    }
+}
+
+/// The same of the next eight places.
+fn digest_eight(texts: &[NodeText], out: &mut [Hash32], first: usize)
+    requires first { first < length texts.now }
+    requires sizes { length out.old ≡ length texts.now }
+    ensures len { length out.new ≡ length out.old }
+    ensures digests { take first out.old ≡ map sha256 (take first texts.now) → take (first + 8) out.new ≡ map sha256 (take (first + 8) texts.now) }
+{
+    let group = [
+        text_at(texts, first).bytes(),
+        text_at(texts, first + 1).bytes(),
+        text_at(texts, first + 2).bytes(),
+        text_at(texts, first + 3).bytes(),
+        text_at(texts, first + 4).bytes(),
+        text_at(texts, first + 5).bytes(),
+        text_at(texts, first + 6).bytes(),
+        text_at(texts, first + 7).bytes(),
+    ];
+    if have_two_blocks(&group) {
+        put_digests(&sha256_eight(&group), out, first);
+    } else {
+        digest_four(texts, out, first);
+        if first + 4 < texts.len() {
+            digest_four(texts, out, first + 4);
+        }
+    }
+}
+
+/// Fills `out` with the digests of these texts. The last few texts are a group too, but one alone, for which
+/// a group would take longer.
+fn digest_texts(texts: &[NodeText], out: &mut [Hash32])
+    requires { length out.old ≡ length texts.now }
+    ensures { out.new ≡ map sha256 texts.now }
+{
+    let mut first = 0;
+    if IN_EIGHTS {
+        'eights: while first + 4 < texts.len() {
+            digest_eight(texts, out, first);
+            first += 8;
+        }
+    }
+    'fours: while first + 1 < texts.len() {
+        digest_four(texts, out, first);
+        first += 4;
+    }
+    if first < texts.len() {
+        out[first] = Hash32::new(Sha256::digest(text_at(texts, first).bytes()));
+    }
 }
 
 /// The count after this many digests more.
@@ -100,13 +173,7 @@ impl NodeHash for Sha256Hash {
     }
 
     fn digest_all(&mut self, texts: &[NodeText], out: &mut [Hash32]) {
-        let groups = texts.len() / 4;
-        'groups: for group in 0..groups {
-            digest_group(texts, out, 4 * group);
-        }
-        'rest: for place in 4 * groups..texts.len() {
-            out[place] = Hash32::new(Sha256::digest(texts[place].bytes()));
-        }
+        digest_texts(texts, out);
         self.count = counted(self.count, texts.len());
     }
 

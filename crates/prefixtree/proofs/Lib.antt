@@ -24,6 +24,7 @@ pub mod RowsMade
 pub mod Several
 pub mod Siblings
 pub mod Sorting
+pub mod SpanRows
 pub mod Splits
 pub mod Steps
 pub mod Unique

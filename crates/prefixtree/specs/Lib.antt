@@ -6,6 +6,7 @@ pub mod Node
 pub mod Paths
 pub mod Placement
 pub mod Rows
+pub mod Spans
 pub mod Under
 pub mod Walks
 pub mod WorkedRoots

@@ -3,7 +3,8 @@
 //!
 //! The root is that of the contents by the recursive definition, whatever calls made the tree. A path
 //! leads from that root to what stands at the index. `with` and `with_all` make a new tree,
-//! which shares nodes with the old one, and the old tree stays as it was.
+//! which shares nodes with the old one, and the old tree stays as it was. `root_of_items` computes the root of items
+//! alone, and makes no tree.
 //!
 //! ```rust
 //! let tree = Tree::new(alloc, &mut hash, nonce)?.with(alloc, &mut hash, index, commitment)?;
@@ -21,6 +22,7 @@ mod path;
 mod place;
 mod put;
 mod row;
+mod spans;
 mod tree;
 mod walk;
 mod way;
@@ -31,5 +33,6 @@ pub use laws::{
     path_is_unique, path_is_way, way_is_fold, worked_roots,
 };
 pub use path::{End, MAX_SIBLINGS, Path};
+pub use spans::root_of_items;
 pub use tree::{MAX_SIBLINGS_LEN, Tree};
 pub use way::{climb, end_text, joined_text, leads};

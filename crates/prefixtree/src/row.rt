@@ -242,7 +242,7 @@ fn join_row(
 }
 
 /// The digests of these texts, in order.
-fn digests_of_texts<H: NodeHash>(
+pub(crate) fn digests_of_texts<H: NodeHash>(
     alloc: Global,
     hash: &mut H,
     texts: &[NodeText],

@@ -2,7 +2,7 @@
 ghost use Rattle.lanes.specs.TwoBlocks.{HasTwoBlocks};
 
 use encoding::Hash32;
-use lanes::sha256_four;
+use lanes::{sha256_eight, sha256_four};
 use nodehash::{LEAF_LEN, NodeHash, NodeText, Sha256Hash, SumHash, keyed_digest};
 use questions::Case;
 
@@ -14,6 +14,7 @@ pub(crate) fn answer(case: &mut Case<'_>, verb: &[u8]) {
         b"all-sum" => all(case, &mut SumHash::new()),
         b"keyed" => keyed(case),
         b"four" => four(case),
+        b"eight" => eight(case),
         _ => case.spoil(),
     }
 }
@@ -83,6 +84,19 @@ fn four(case: &mut Case<'_>) {
     let m2 = two_blocks(case);
     let m3 = two_blocks(case);
     case.say_bytes(sha256_four(m0, m1, m2, m3).as_flattened());
+}
+
+/// `eight M0 .. M7`: the same of eight.
+fn eight(case: &mut Case<'_>) {
+    let m0 = two_blocks(case);
+    let m1 = two_blocks(case);
+    let m2 = two_blocks(case);
+    let m3 = two_blocks(case);
+    let m4 = two_blocks(case);
+    let m5 = two_blocks(case);
+    let m6 = two_blocks(case);
+    let m7 = two_blocks(case);
+    case.say_bytes(sha256_eight(&[m0, m1, m2, m3, m4, m5, m6, m7]).as_flattened());
 }
 
 /// The next word's bytes, which have two blocks with their padding.

@@ -13,7 +13,7 @@
 //! | | `<` of them | `order-name`, `order-key`, `order-small` |
 //! | | `Cursor`; `FixedText` | `read`; `text` |
 //! | `nodes` | `NodeHash::digest`, `count`, `digest_all` | `sha256`, `sum`; `all`, `all-sum` |
-//! | | `keyed_digest`, `sha256_four` | `keyed`, `four` |
+//! | | `keyed_digest`, `sha256_four`, `sha256_eight` | `keyed`, `four`, `eight` |
 //! | | `empty_text`, `leaf_text`, `interior_text` | `empty`, `leaf`, `interior` |
 //! | | `commit`, `commit_text` | `commit`, `commit2` |
 //! | `stand-ins` | `Vuf::public`, `value`, by `small_keyed_digest`; `VufCheck::accepts` | `value`, `accepts`, `plain-value`, `plain-accepts` |
@@ -29,7 +29,7 @@
 //! | | `compare` | `compare`, `compare-sum` |
 //! | | `take`, `extend` under a verifier that accepts all | `any`, `any-extended` |
 //! | `trees` | `Tree::new`, `with`, `copy` | `new`, `with`, `copy` |
-//! | | `placed`, which calls `placed_within`; `from_items`, `with_all` | `from`, `more` |
+//! | | `placed`, which calls `placed_within`; `from_items`, `with_all`; `root_of_items` | `from`, `more`; `bare` |
 //! | | `renew`, which calls `renew_with_all` | `renew` |
 //! | | `root`, `get`; `path`, `Path::level`, `path_end`, `write_siblings` | `root`, `get`; `path` |
 //! | | `end_text`, `joined_text`, `climb`, `leads`, `Path::leads` | `end-text`, `joined`, `climb`, `leads` |
@@ -51,8 +51,7 @@
 //! `number` of each refusal is told with the refusal. `next_line` and `write_text` read and write each line.
 //! `trees count` tells how many digests a change of the tree took. No verb asks the laws, which have no
 //! code, `BrokenPromise`, which is evidence, and `read_some`, which shows more where a reader fails. Files
-//! are read by the built program: `scripts/statuses.sh` and `scripts/journal.sh` ask `read_whole`,
-//! `file_bytes` and `file_fault`.
+//! are read by the built program: `scripts/statuses.sh` and `scripts/journal.sh` ask `file_fault`.
 #![tactic(auto)]
 
 mod accepted;

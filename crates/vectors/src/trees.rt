@@ -4,7 +4,7 @@ use crate::digests::say_joined;
 use crate::ways;
 use encoding::{Hash32, Index};
 use nodehash::{NodeHash, Sha256Hash};
-use prefixtree::{End, Item, Path, Tree, placed};
+use prefixtree::{End, Item, Path, Tree, placed, root_of_items};
 use questions::Case;
 use std::alloc::{AllocError, Global};
 
@@ -30,6 +30,7 @@ pub(crate) fn answer(case: &mut Case<'_>, grown: &mut Grown) {
         b"new" => new(case, grown),
         b"with" => with(case, grown),
         b"from" => from(case, grown),
+        b"bare" => bare(case),
         b"more" => more(case, grown),
         b"renew" => renew(case, grown),
         b"copy" => copy(case, grown),
@@ -97,6 +98,32 @@ fn from(case: &mut Case<'_>, grown: &mut Grown) {
             keep(case, grown, made, hash.count());
         }
         Ok(None) => case.say("repeated"),
+        Err(_) => case.lack_memory(),
+    }
+}
+
+/// `bare NONCE (INDEX COMMITMENT)..`
+fn bare(case: &mut Case<'_>) {
+    let mut hash = Sha256Hash::new();
+    let nonce = case.hash();
+    let items = items(case);
+    match placed(case.alloc(), &items) {
+        Ok(Some(items)) => {
+            let made = root_of_items(case.alloc(), &mut hash, &nonce, &items);
+            say_root(case, made, hash.count());
+        }
+        Ok(None) => case.say("repeated"),
+        Err(_) => case.lack_memory(),
+    }
+}
+
+/// Tells a root, and how many digests it took.
+fn say_root(case: &mut Case<'_>, made: Result<Hash32, AllocError>, digests: u64) {
+    match made {
+        Ok(root) => {
+            case.say_bytes(root.bytes());
+            case.say_shown(digests);
+        }
         Err(_) => case.lack_memory(),
     }
 }

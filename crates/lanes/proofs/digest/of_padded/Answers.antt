@@ -1,19 +1,32 @@
-use Rattle.std.proofs.Common.{[], ◌∷◌, ◌∙◌, arith, refl}
-use Rattle.lanes.proofs.TwoBlocks.{sha256_two_blocks}
+use Rattle.std.proofs.Common.{◌≡◌, ◌<◌, [], ◌∙◌, length, map, slice_index_or, ap, arith, sym, subst, refl}
+use Rattle.std.proofs.Math.ListN.{get_or-map}
+use Rattle.std.proofs.lemmas.List.{length-map, length-replicate}
+use Rattle.sha2.specs.Sha256.{padded_message, sha256}
+use Rattle.lanes.specs.TwoBlocks.{HasTwoBlocks}
+use Rattle.lanes.proofs.Places.{mapped-at, written-next}
+use Rattle.lanes.proofs.TwoBlocks.{length-padded, sha256_two_blocks}
 use Rattle.lanes.proofs.digest.of_padded.Goals as goal
 
+pub pad-init : goal.pad-init
+pad-init g c = (length-replicate g.row.N _, λ j low. absurd (omega arith))
+
+pub padded-requires : goal.padded-requires
+padded-requires g c =
+    subst HasTwoBlocks (get_or-map (λ message. message.now) c.args.messages.now c.pad.k _) (c.requires.two_blocks c.pad.k c.pad-test.true)
+
+pub pad-preserved : goal.pad-preserved
+pad-preserved g c =
+    written-next (λ k. padded_message (slice_index_or (map (λ message. message.now) c.args.messages.now) k [])) [] g.row.N c.pad.k c.pad.texts _ c.pad-test.true c.pad.invariant
+    (c.padded.ensures.value ∙ ap padded_message (sym (get_or-map (λ message. message.now) c.args.messages.now c.pad.k _)))
+
 pub returns : goal.returns
-returns c =
-    let d0 = sha256_two_blocks c.args.m0.now c.padded-p0.result _ _ _ _ _ _ c.padded-p0.ensures.value c.padded-p0.ensures.len
-    (c.initial_hash.ensures 0 (omega arith)) c.first_block.ensures.value c.second_block.ensures.value
-    (c.compress_four-halfway.ensures 0 (omega arith)) (c.compress_four-hash.ensures 0 (omega arith)) refl in
-    let d1 = sha256_two_blocks c.args.m1.now c.padded-p1.result _ _ _ _ _ _ c.padded-p1.ensures.value c.padded-p1.ensures.len
-    (c.initial_hash.ensures 1 (omega arith)) c.first_block-2.ensures.value c.second_block-2.ensures.value
-    (c.compress_four-halfway.ensures 1 (omega arith)) (c.compress_four-hash.ensures 1 (omega arith)) refl in
-    let d2 = sha256_two_blocks c.args.m2.now c.padded-p2.result _ _ _ _ _ _ c.padded-p2.ensures.value c.padded-p2.ensures.len
-    (c.initial_hash.ensures 2 (omega arith)) c.first_block-3.ensures.value c.second_block-3.ensures.value
-    (c.compress_four-halfway.ensures 2 (omega arith)) (c.compress_four-hash.ensures 2 (omega arith)) refl in
-    let d3 = sha256_two_blocks c.args.m3.now c.padded-p3.result _ _ _ _ _ _ c.padded-p3.ensures.value c.padded-p3.ensures.len
-    (c.initial_hash.ensures 3 (omega arith)) c.first_block-4.ensures.value c.second_block-4.ensures.value
-    (c.compress_four-halfway.ensures 3 (omega arith)) (c.compress_four-hash.ensures 3 (omega arith)) refl in
-    c.digests.ensures ∙ (λ i. d0 i ∷ d1 i ∷ d2 i ∷ d3 i ∷ [])
+returns g c =
+    let texts = map (λ message. message.now) c.args.messages.now in
+    let long = length-map c.args.messages.now (λ message. message.now) ∙ c.requires.count in
+    mapped-at sha256 [] [] texts c.digests.result (c.digests.ensures.len ∙ sym long) (λ k within.
+    let below : k < g.row.N = omega (arith, within, long) in
+    let m = slice_index_or texts k [] in
+    let p = slice_index_or c.pad.texts k [] in
+    let is : p ≡ padded_message m = c.pad.invariant.1 k (omega (arith, below, c.pad-test.false)) in
+    sha256_two_blocks m p _ _ _ _ _ _ is (ap length is ∙ length-padded m (c.requires.two_blocks k below)) (c.initial_hash.ensures k below) refl refl
+    (c.compress-halfway.ensures k _ below (c.words_of_padded.ensures k below)) (c.compress.ensures k _ below (c.words_of_padded-2.ensures k below)) (c.digests.ensures.lanes k below))

@@ -4,7 +4,7 @@ use Rattle.lanes.specs.TwoBlocks.{padding_words}
 use Rattle.lanes.proofs.padding_block.four_padding_steps.Goals as goal
 
 pub returns : goal.returns
-returns c k h below held =
+returns g c k h below held =
     let after = rounds h padding_words in
     let one = c.padding_step-v.ensures k h below held in
     let two = c.padding_step-v-2.ensures k h below one in

@@ -5,7 +5,7 @@ use Rattle.lanes.specs.TwoBlocks.{padding_words}
 use Rattle.lanes.proofs.padding_block.padding_step.Goals as goal
 
 pub returns : goal.returns
-returns c k h below held =
+returns g c k h below held =
     let key : ℕ = slice_index round_constants c.args.t in
     let word : ℕ = slice_index padding_words c.args.t in
     c.round.ensures k key word below (c.every.ensures k below ∙ c.padding_key.ensures)
