@@ -1,4 +1,4 @@
--- The replies for a name, of which most state no key with Final.
+-- The replies for a name: a plain list until one states a key with Final.
 use Rattle.std.specs.Prelude.{ℕ, ◌<◌, List, length}
 use Rattle.std.specs.List.{AllByRecursion}
 use Rattle.client.specs.Agreements.{SpellsOne}
@@ -11,7 +11,7 @@ abbrev pub listed : PlainOrSeveral → List IndexedReply
 listed (Plain replies) = replies.items
 listed (Several replies) = replies.value
 
--- those that are kept without more can be read, and none states a key with Final
+-- of a plain list there is one at least; each can be read, and none states a key with Final
 abbrev pub ArePlain : PlainOrSeveral → Type 0
 ArePlain (Plain replies) = (0 < length replies.items) × AllByRecursion (λ reply. SpellsOne reply.bytes) replies.items × NoneStatesFinal replies.items
 ArePlain (Several replies) = Unit {0}

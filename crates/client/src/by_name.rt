@@ -88,7 +88,7 @@ impl IndexedReply {
     }
 }
 
-/// The replies for a name. As long as none states a key with Final, as of most names, they are kept without more.
+/// The replies for a name: a plain list until one states a key with Final, as few names have it.
 #[derive(Drop)]
 pub(crate) enum PlainOrSeveral {
     Plain(Vec<IndexedReply>),
@@ -114,13 +114,13 @@ impl Model for RepliesOfName {
 }
 
 impl RepliesOfName {
-    /// One reply.
-    fn of(alloc: Global, reply: IndexedReply) -> Result<Self, AllocError>
-        requires { SpellsOne reply.bytes }
+    /// One reply, with what it states.
+    fn of(alloc: Global, reply: IndexedReply, stated: Statement<'_>) -> Result<Self, AllocError>
+        requires { BytesState reply.bytes (key_stated stated) }
         ensures { IfOk result (λ replies. replies ≡ reply ∷ []) }
     {
-        if reply.statement().is_final() {
-            let several = Several::of(alloc, reply)?;
+        if stated.is_final() {
+            let several = Several::of(alloc, reply, stated)?;
             return Ok(RepliesOfName {
                 kept: PlainOrSeveral::Several(Box::new(alloc, several)?),
             });
@@ -142,24 +142,29 @@ impl RepliesOfName {
         }
     }
 
-    /// Puts a reply behind the others. An `Err` leaves them as they were.
-    fn push(&mut self, alloc: Global, reply: IndexedReply) -> Result<(), AllocError>
-        requires { SpellsOne reply.bytes }
+    /// Puts a reply behind the others, with what it states. An `Err` leaves them as they were.
+    fn push(
+        &mut self,
+        alloc: Global,
+        reply: IndexedReply,
+        stated: Statement<'_>,
+    ) -> Result<(), AllocError>
+        requires { BytesState reply.bytes (key_stated stated) }
         ensures ok { OnOk result (self.new ≡ self.old ++ reply ∷ []) }
         ensures err { OnErr result (self.new ≡ self.old) }
     {
         match &mut self.kept {
             PlainOrSeveral::Plain(list) => {
-                if reply.statement().is_final() {
+                if stated.is_final() {
                     let mut replies = Several::of_all(alloc, list)?;
-                    replies.push(reply)?;
+                    replies.push(reply, stated)?;
                     self.kept = PlainOrSeveral::Several(Box::new(alloc, replies)?);
                 } else {
                     list.push(reply)?;
                 }
                 Ok(())
             }
-            PlainOrSeveral::Several(replies) => replies.push(reply),
+            PlainOrSeveral::Several(replies) => replies.push(reply, stated),
         }
     }
 }
@@ -197,27 +202,37 @@ impl RepliesByName {
         self.lists.get(name.bytes())
     }
 
-    /// Puts a reply behind those for the name. An `Err` leaves the replies for each name as they were.
-    pub(crate) fn push(&mut self, name: &Name, reply: IndexedReply) -> Result<(), AllocError>
-        requires { SpellsOne reply.bytes }
+    /// Puts a reply behind those for the name, with what it states. An `Err` leaves the replies for each name as they were.
+    pub(crate) fn push(
+        &mut self,
+        name: &Name,
+        reply: IndexedReply,
+        stated: Statement<'_>,
+    ) -> Result<(), AllocError>
+        requires { BytesState reply.bytes (key_stated stated) }
         ensures ok { OnOk result (HasOneMore self.old name.now reply self.new) }
         ensures err { OnErr result (HaveTheSame self.old self.new) }
     {
         match self.lists.get_mut(name.bytes()) {
-            Some(replies) => replies.push(self.alloc, reply),
-            None => self.push_first(name, reply),
+            Some(replies) => replies.push(self.alloc, reply, stated),
+            None => self.push_first(name, reply, stated),
         }
     }
 
     /// The same, for a name that has none.
-    fn push_first(&mut self, name: &Name, reply: IndexedReply) -> Result<(), AllocError>
+    fn push_first(
+        &mut self,
+        name: &Name,
+        reply: IndexedReply,
+        stated: Statement<'_>,
+    ) -> Result<(), AllocError>
         requires none { at self.old name.now ≡ None }
-        requires spelled { SpellsOne reply.bytes }
+        requires stated { BytesState reply.bytes (key_stated stated) }
         ensures ok { OnOk result (HasOneMore self.old name.now reply self.new) }
         ensures err { OnErr result (HaveTheSame self.old self.new) }
     {
         let key = Vec::from_slice(self.alloc, name.bytes())?;
-        let replies = RepliesOfName::of(self.alloc, reply)?;
+        let replies = RepliesOfName::of(self.alloc, reply, stated)?;
         self.lists.insert(key, replies)?;
         Ok(())
     }

@@ -2,12 +2,15 @@ ghost use Rattle.std.specs.Prelude.{◌≡◌, ◌++◌, ◌∷◌, [], map, Mat
 ghost use Rattle.std.specs.List.{AllByRecursion};
 ghost use Rattle.encoding.specs.Limits.{IsName};
 ghost use Rattle.proofs.specs.Accepts.{HasIndex};
+ghost use Rattle.proofs.specs.Views.{key_stated};
+ghost use Rattle.client.specs.Extremes.{BytesState};
 ghost use Rattle.client.specs.Finality.{look_of, looks_for, IsIndexed};
 
 use crate::by_name::{IndexedReply, RepliesByName, RepliesOfName};
 use crate::looks::Looks;
 use encoding::{Index, Name};
 use nodehash::NodeHash;
+use proofs::Statement;
 use std::alloc::{AllocError, Global};
 use std::marker::{Model, PhantomData};
 use std::rc::Rc;
@@ -62,21 +65,23 @@ impl<H: NodeHash> KeptLooks<H> {
         self.by_name.of(name)
     }
 
-    /// Keeps a look. An `Err` leaves the looks as they were.
+    /// Keeps a look, whose reply states this. An `Err` leaves the looks as they were.
     pub(crate) fn push(
         &mut self,
         name: &Name,
         epoch: u64,
         index: Index,
         reply: &[u8],
+        stated: Statement<'_>,
     ) -> Result<(), AllocError>
-        requires { HasIndex H.digest_of reply.now index }
+        requires index { HasIndex H.digest_of reply.now index }
+        requires stated { BytesState reply.now (key_stated stated) }
         ensures ok { OnOk result (self.new ≡ self.old ++ (record { name = name.now; epoch = epoch; reply = reply.now }) ∷ []) }
         ensures err { OnErr result (self.new ≡ self.old) }
         ensures named { OnOk result (IsName name.now) }
     {
         let bytes = Rc::new(self.alloc, Vec::from_slice(self.alloc, reply)?)?;
         let reply = IndexedReply::new(epoch, index, bytes);
-        self.looks.push(&mut self.by_name, name, reply)
+        self.looks.push(&mut self.by_name, name, reply, stated)
     }
 }

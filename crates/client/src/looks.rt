@@ -3,13 +3,15 @@
 //! of acceptance. Epochs come first, since they compare faster than names.
 ghost use Rattle.std.specs.Prelude.{◌≡◌, ◌++◌, ◌∷◌, [], length, OnErr, OnOk};
 ghost use Rattle.encoding.specs.Limits.{IsName};
-ghost use Rattle.client.specs.Agreements.{SpellsOne};
+ghost use Rattle.proofs.specs.Views.{key_stated};
 ghost use Rattle.client.specs.Clients.{Look};
+ghost use Rattle.client.specs.Extremes.{BytesState};
 ghost use Rattle.client.specs.Finality.{HasOneMore, HaveTheSame};
 ghost use Rattle.client.specs.Numbered.{all_numbered, AreNumbered};
 
 use crate::by_name::{IndexedReply, RepliesByName};
 use encoding::Name;
+use proofs::Statement;
 use std::alloc::{AllocError, Global};
 use std::collections::BTreeMap;
 use std::collections::btree_map::Entry;
@@ -65,14 +67,15 @@ impl Looks {
         }
     }
 
-    /// Keeps a look, and its reply among those for the name. An `Err` leaves both as they were.
+    /// Keeps a look, and its reply, with what that states, among those for the name. An `Err` leaves both as they were.
     pub(crate) fn push(
         &mut self,
         by_name: &mut RepliesByName,
         name: &Name,
         reply: IndexedReply,
+        stated: Statement<'_>,
     ) -> Result<(), AllocError>
-        requires { SpellsOne reply.bytes }
+        requires { BytesState reply.bytes (key_stated stated) }
         ensures ok { OnOk result (self.new ≡ self.old ++ (record { name = name.now; epoch = reply.epoch; reply = reply.bytes }) ∷ []) }
         ensures more { OnOk result (HasOneMore by_name.old name.now reply by_name.new) }
         ensures err { OnErr result (self.new ≡ self.old) }
@@ -87,7 +90,8 @@ impl Looks {
             },
             number: self.replies.len(),
         };
-        keep_at_end(&mut self.replies, by_name, place, bytes, name, reply)
+        let replies = &mut self.replies;
+        keep_at_end(replies, by_name, place, bytes, name, reply, stated)
     }
 }
 
@@ -100,10 +104,11 @@ fn keep_at_end(
     bytes: Rc<Vec<u8>>,
     name: &Name,
     reply: IndexedReply,
+    stated: Statement<'_>,
 ) -> Result<(), AllocError>
     requires numbered { AreNumbered (λ place. place.number) replies.old.entries }
     requires last { place.number ≡ length replies.old.entries }
-    requires spelled { SpellsOne reply.bytes }
+    requires stated { BytesState reply.bytes (key_stated stated) }
     ensures numbered { AreNumbered (λ place. place.number) replies.new.entries }
     ensures ok { OnOk result (all_numbered (λ place. place.number) {L = Look} (λ entry. record { name = entry.0.asked.name.items; epoch = entry.0.asked.epoch; reply = entry.1.value.items }) replies.new.entries
         ≡ all_numbered (λ place. place.number) {L = Look} (λ entry. record { name = entry.0.asked.name.items; epoch = entry.0.asked.epoch; reply = entry.1.value.items }) replies.old.entries ++ (record { name = place.asked.name.items; epoch = place.asked.epoch; reply = bytes.value.items }) ∷ []) }
@@ -114,7 +119,7 @@ fn keep_at_end(
     match replies.entry(place)? {
         Entry::Vacant(room) => {
             let kept = room.insert_entry(bytes);
-            match by_name.push(name, reply) {
+            match by_name.push(name, reply, stated) {
                 Ok(()) => {
                     // What this ensures: the map has it.
                     let _ = kept.into_mut();

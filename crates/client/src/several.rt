@@ -2,13 +2,15 @@
 //! changes what another states to be final is known at once, from the extremes of each index, which are kept as they come.
 ghost use Rattle.std.specs.Prelude.{◌≡◌, ◌↔◌, ◌<◌, ◌++◌, ◌∷◌, [], ℕ, Some, IfOk, IsTrue, MatchOption, OnErr, OnOk, length, slice_get};
 ghost use Rattle.std.specs.List.{AllByRecursion};
+ghost use Rattle.proofs.specs.Views.{key_stated};
 ghost use Rattle.client.specs.Agreements.{SpellsOne};
-ghost use Rattle.client.specs.Extremes.{AreExtremes, HasNoSuch};
+ghost use Rattle.client.specs.Extremes.{AreExtremes, BytesState, HasNoSuch};
 ghost use Rattle.client.specs.Finality.{IsChangedByReply, SomeStandSo};
 
 use crate::by_name::IndexedReply;
 use crate::extremes::Extremes;
 use encoding::Index;
+use proofs::Statement;
 use std::alloc::{AllocError, Global};
 use std::collections::BTreeMap;
 use std::marker::Model;
@@ -40,13 +42,17 @@ impl Model for Several {
 }
 
 impl Several {
-    /// One reply, to which others come.
-    pub(crate) fn of(alloc: Global, reply: IndexedReply) -> Result<Self, AllocError>
-        requires { SpellsOne reply.bytes }
+    /// One reply, with what it states, to which others come.
+    pub(crate) fn of(
+        alloc: Global,
+        reply: IndexedReply,
+        stated: Statement<'_>,
+    ) -> Result<Self, AllocError>
+        requires { BytesState reply.bytes (key_stated stated) }
         ensures { IfOk result (λ replies. replies ≡ reply ∷ []) }
     {
         let index = reply.index();
-        let own = Extremes::of(&reply, reply.statement())?;
+        let own = Extremes::of(&reply, stated)?;
         let mut list = Vec::with_capacity(alloc, 2)?;
         list.push_reserved(reply);
         Ok(Several {
@@ -64,9 +70,11 @@ impl Several {
         requires spelled { AllByRecursion (λ reply. SpellsOne reply.bytes) list.now }
         ensures { IfOk result (λ replies. replies ≡ list.now) }
     {
-        let mut replies = Several::of(alloc, list[0].copied()?)?;
+        let first = &list[0];
+        let mut replies = Several::of(alloc, first.copied()?, first.statement())?;
         for n in 1..list.len() {
-            replies.push(list[n].copied()?)?;
+            let reply = &list[n];
+            replies.push(reply.copied()?, reply.statement())?;
         }
         Ok(replies)
     }
@@ -97,13 +105,17 @@ impl Several {
         }
     }
 
-    /// Puts a reply behind the others. An `Err` leaves them as they were.
-    pub(crate) fn push(&mut self, reply: IndexedReply) -> Result<(), AllocError>
-        requires { SpellsOne reply.bytes }
+    /// Puts a reply behind the others, with what it states. An `Err` leaves them as they were.
+    pub(crate) fn push(
+        &mut self,
+        reply: IndexedReply,
+        stated: Statement<'_>,
+    ) -> Result<(), AllocError>
+        requires { BytesState reply.bytes (key_stated stated) }
         ensures ok { OnOk result (self.new ≡ self.old ++ reply ∷ []) }
         ensures err { OnErr result (self.new ≡ self.old) }
     {
-        let (extremes, is_changed) = self.with(&reply)?;
+        let (extremes, is_changed) = self.with(&reply, stated)?;
         if reply.index() == self.index {
             self.list.push(reply)?;
             self.own = extremes;
@@ -119,11 +131,14 @@ impl Several {
 
     /// The extremes of those with the index of this reply once it is behind them, and whether one of them then changes
     /// another.
-    fn with(&self, reply: &IndexedReply) -> Result<(Extremes, bool), AllocError>
-        requires { SpellsOne reply.now.bytes }
+    fn with(
+        &self,
+        reply: &IndexedReply,
+        stated: Statement<'_>,
+    ) -> Result<(Extremes, bool), AllocError>
+        requires { BytesState reply.now.bytes (key_stated stated) }
         ensures { IfOk result (λ pair. AreExtremes (self.now ++ reply.now ∷ []) reply.now.index pair.0 × (IsTrue pair.1 ↔ SomeStandSo IsChangedByReply (self.now ++ reply.now ∷ []))) }
     {
-        let stated = reply.statement();
         match self.known(reply) {
             Some(known) => {
                 let is_changed = self.is_changed || known.has_change_with(reply, stated);

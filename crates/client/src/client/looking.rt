@@ -80,11 +80,12 @@ fn look_under<'a, H: NodeHash, V: VufCheck>(
 {
     match accept::<H, V>(hash, vuf, &root.body, name, bytes) {
         Ok(accepted) => {
-            let index = accepted.index();
-            if looks.push(name, root.body.epoch, index, bytes).is_err() {
+            let (index, stated) = (accepted.index(), accepted.statement());
+            let kept = looks.push(name, root.body.epoch, index, bytes, stated);
+            if kept.is_err() {
                 return Err(Refusal::Memory);
             }
-            Ok(accepted.statement())
+            Ok(stated)
         }
         Err(why) => Err(Refusal::Proof(why)),
     }
