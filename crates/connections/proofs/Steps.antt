@@ -3,6 +3,7 @@ use Rattle.std.proofs.Common.{◌≡◌, ◌≢◌, ℕ, ◌+◌, ◌<◌, ◌�
 use Rattle.std.proofs.lemmas.Bool.{cases_lt, eq-eqb, eqb-true, false≢true, ne_eqb}
 use Rattle.std.proofs.lemmas.List.{append-nil, length-append}
 use Rattle.std.specs.Prelude.{◌==◌}
+use mathlib.Core.Bool.{or-true}
 use Rattle.connections.specs.declared.ending.Ending.{Ending}
 use Rattle.connections.specs.declared.ending.SessionFault.TheVariants as fault
 use Rattle.textio.specs.declared.some_bytes.TheConstants.{PIECE_SIZE}
@@ -84,10 +85,6 @@ used_one : (place : ℕ) (deed : Deed) (acts : History) (other : ℕ) → IsUsed
 used_one place deed acts other (inl some) = used_at place deed acts other (place == other) refl some
 used_one place deed acts other (inr shut) = inr (inr shut)
 
-or_right : (one : Bool) {other : Bool} → other ≡ true → (one || other) ≡ true
-or_right true is = refl
-or_right false is = is
-
 lasts_one : (place : ℕ) (deed : Deed) (acts : History) → Lasts acts (On place deed ∷ acts)
 lasts_one place deed acts = record {
   turns = λ is other found. inr found;
@@ -96,7 +93,7 @@ lasts_one place deed acts = record {
   used = used_one place deed acts;
   fair = λ idle count size fair. fair;
   same_sync = refl;
-  unkept = λ is_unkept told. or_right (tells_unkept is_unkept deed) told;
+  unkept = λ is_unkept told. ap (λ (b : Bool). tells_unkept is_unkept deed || b) told ∙ or-true (tells_unkept is_unkept deed);
 }
 
 pub lasts_none : (acts : History) → Lasts acts acts

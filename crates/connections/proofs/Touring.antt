@@ -16,11 +16,10 @@ use Rattle.connections.specs.Fitting.{AreUnread, Begins, Fits, FitAll, Has, HasW
 use Rattle.connections.specs.Histories.{At, Ordered, GoesOn, Syncs, History, Course, Hearing, IfThere, Telling, Stage, clock, course, rested, stage, stopped, Leads}
 use Rattle.connections.specs.Pauses.{IsPause, MayStay, pause_of, until_due, until_idle, until_stopped}
 use Rattle.connections.specs.Soundness.{Here, IsReason, IsTaken}
-use Rattle.connections.specs.Telling.{answered_unkept, has_unkept, losses, unsynced, TellsAll, TellsLines, TellsTimes}
+use Rattle.connections.specs.Telling.{answered_unkept, has_unkept, losses, unsynced, TellsAll, TellsLines}
 use Rattle.connections.proofs.Closing.{fits_none}
 use Rattle.connections.proofs.Steps.{lasts_both, lasts_none, some_there}
 use Rattle.connections.proofs.Unkept.{told_on}
-use Rattle.connections.proofs.Wanting.{lines_more}
 
 -- nothing happened yet
 pub all_free : (places : List (Option Talk)) → ((place : ℕ) → get_or places place None ≡ None) → FitAll places []
@@ -458,21 +457,21 @@ module _ {S : Type 0} (opens : S → ℕ → S → Type 0) (refuses : S → ℕ 
     -- ---- rounds, one after another
 
     -- by the test of a reply that says that something could not be kept, and that of sessions of which one was answered so
-    module _ (is_unkept : List ℕ → Bool) (any_unkept : S → Bool) where
+    module _ (is_unkept : List ℕ → Bool) (any_unkept : S → Bool) (every : ℕ) where
       -- how the loop stands after so many rounds, when so many more connections may be taken, what it wrote, and whether it
       -- told what could not be kept
       abbrev pub Stands : ℕ → ℕ → ℕ → S → Option (List ℕ) → Option (List ℕ) → Bool → C → S → List (Option Talk) → Option ℕ → ℕ → ℕ → ℕ → Type 0
       Stands idle count size start written errors told connections sessions places stop left pause turns = (acts : History) × Has opens refuses hears misses ends has idle start connections sessions acts
-          × (stopped acts ≡ stop) × FitAll places acts × (rounds acts ≡ turns) × TellsLines told (losses acts) written errors × (told ≡ (has_unkept is_unkept acts || any_unkept start)) × HasWholeRounds idle count size left pause acts
+          × (stopped acts ≡ stop) × FitAll places acts × (rounds acts ≡ turns) × TellsLines every told (losses acts) written errors × (told ≡ (has_unkept is_unkept acts || any_unkept start)) × HasWholeRounds idle count size left pause acts
 
       -- one round more
       pub turned : (idle idle_now count size left left_new pause pause_new turns wanting : ℕ) (stop stop_new : Option ℕ) (kept told told_new : Bool) (connections connections_new : C) (sessions new : S) (places places_new : List (Option Talk))
-          → idle_now ≡ idle → length places ≡ size → MayGoOn left stop places → (start : S) (written errors middle errors_new : Option (List ℕ)) → Stands idle count size start written errors told connections sessions places stop left pause turns
+          → idle_now ≡ idle → length places ≡ size → MayGoOn left stop places → (start : S) (written errors errors_new : Option (List ℕ)) → Stands idle count size start written errors told connections sessions places stop left pause turns
           → ((start : S) (acts : History) (after : S) → Leads opens refuses hears misses ends start acts after → any_unkept after ≡ (answered_unkept is_unkept acts || any_unkept start))
-          → TellsTimes wanting errors middle → ((count : ℕ) (old : Option (List ℕ)) → TellsLines told count old middle → TellsLines told_new count old errors_new) → told_new ≡ (told || (if kept then any_unkept new else true))
+          → ((count : ℕ) (old : Option (List ℕ)) → TellsLines every told count old errors → TellsLines every told_new (count + wanting) old errors_new) → told_new ≡ (told || (if kept then any_unkept new else true))
           → Turns opens refuses hears misses ends has idle_now stop left pause connections sessions places stop_new left_new pause_new wanting kept connections_new new places_new
           → Stands idle count size start written errors_new told_new connections_new new places_new stop_new left_new pause_new (turns + 1)
-      turned idle idle_now count size left left_new pause pause_new turns wanting stop stop_new kept told told_new connections connections_new sessions new places places_new same_idle same_size goes start written errors middle errors_new (acts, known, order, fit, began, lines, is_told, whole) follows more line told_now one =
+      turned idle idle_now count size left left_new pause pause_new turns wanting stop stop_new kept told told_new connections connections_new sessions new places places_new same_idle same_size goes start written errors errors_new (acts, known, order, fit, began, lines, is_told, whole) follows more told_now one =
           let turns_now = subst (λ (i : ℕ). Turns opens refuses hears misses ends has i stop left pause connections sessions places stop_new left_new pause_new wanting kept connections_new new places_new) same_idle one in
           let t = turns_now count start acts known order fit (subst (λ (n : ℕ). HasWholeRounds idle count n left pause acts) (sym same_size) whole)
           (not_finished count left stop acts places order fit whole.0 goes) in
@@ -483,7 +482,7 @@ module _ {S : Type 0} (opens : S → ℕ → S → Type 0) (refuses : S → ℕ 
             t.2,
             t.3,
             round ∙ ap (λ (n : ℕ). n + 1) began,
-            line (losses t.0) written (subst (λ (n : ℕ). TellsLines told n written middle) (sym lost) (lines_more told (losses acts) wanting written errors middle lines more)),
+            subst (λ (n : ℕ). TellsLines every told_new n written errors_new) (sym lost) (more (losses acts) written lines),
             told_on kept (unsynced acts) (answered_unkept is_unkept acts) (any_unkept start) told (unsynced t.0) (answered_unkept is_unkept t.0) (any_unkept new) told_new is_told t.7 (t.8 is_unkept) (follows start t.0 new t.1.1) told_now,
             subst (λ (n : ℕ). HasWholeRounds idle count n left_new pause_new t.0) same_size t.6,
           )
@@ -491,7 +490,7 @@ module _ {S : Type 0} (opens : S → ℕ → S → Type 0) (refuses : S → ℕ 
       -- what is so when the loop ends
       abbrev pub EndsWell : ℕ → ℕ → ℕ → S → Option (List ℕ) → Option (List ℕ) → C → S → Type 0
       EndsWell idle count size start written errors connections sessions = (acts : History) × Has opens refuses hears misses ends has idle start connections sessions acts × AreWithin count acts × HasEnded count acts
-          × IsFair idle count size acts × IsWhole idle acts × AreInside size acts × TellsAll is_unkept (any_unkept start) acts written errors
+          × IsFair idle count size acts × IsWhole idle acts × AreInside size acts × TellsAll is_unkept every (any_unkept start) acts written errors
 
       closing : (count left : ℕ) (stop : Option ℕ) (acts : History) → stopped acts ≡ stop → comers acts + left ≡ most_comers count → (left ≡ 0) ⊎ (stop ≢ None) → IsClosing count acts
       closing count left stop acts order most (inl none) = inr (let m : comers acts + left ≡ most_comers count = most in omega arith)
@@ -509,7 +508,7 @@ module _ {S : Type 0} (opens : S → ℕ → S → Type 0) (refuses : S → ℕ 
         whole.1,
         whole.2,
         whole.3,
-        subst (λ (b : Bool). TellsLines b (losses acts) written errors) is_told lines,
+        subst (λ (b : Bool). TellsLines every b (losses acts) written errors) is_told lines,
       )
 
       pub ended_late : (idle count size left pause turns : ℕ) (stop : Option ℕ) (start : S) (written errors : Option (List ℕ)) (told : Bool) (connections : C) (sessions : S) (places : List (Option Talk))
@@ -522,5 +521,5 @@ module _ {S : Type 0} (opens : S → ℕ → S → Type 0) (refuses : S → ℕ 
         whole.1,
         whole.2,
         whole.3,
-        subst (λ (b : Bool). TellsLines b (losses acts) written errors) is_told lines,
+        subst (λ (b : Bool). TellsLines every b (losses acts) written errors) is_told lines,
       )

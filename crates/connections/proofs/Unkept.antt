@@ -1,17 +1,10 @@
 -- What could not be kept is known by the answers of sessions.
 use Rattle.std.proofs.Common.{◌≡◌, ℕ, List, [], ◌∷◌, ◌||◌, Bool, true, false, refl, sym, ap, ◌∙◌}
 use Rattle.std.specs.Prelude.{if◌then◌else◌}
+use mathlib.Core.Bool.{or-true, or_assoc}
 use Rattle.connections.specs.declared.ending.SessionFault.{SessionFault}
 use Rattle.connections.specs.Histories.{At, Ordered, GoesOn, Syncs, NoneWaits, On, Comes, Opens, Refuses, Reads, IsOver, IsSilent, Hears, Misses, Lacks, Takes, TakesNone, Fails, Ends, Closes, History, Leads}
 use Rattle.connections.specs.Telling.{answered_unkept}
-
-or_true : (one : Bool) → (one || true) ≡ true
-or_true true = refl
-or_true false = refl
-
-or_or : (one two three : Bool) → (one || (two || three)) ≡ ((one || two) || three)
-or_or true two three = refl
-or_or false two three = refl
 
 -- what is told after a round, by what was so before: whether what was answered was kept, and whether an answer or the
 -- sessions before them said that something could not be
@@ -19,9 +12,9 @@ told_now : (kept unsynced answered before answered_new : Bool) → (answered ≡
     → (((unsynced || answered) || before) || (if kept then (answered_new || before) else true)) ≡ (((if kept then unsynced else true) || answered_new) || before)
 told_now true true answered before answered_new on = refl
 told_now true false true before answered_new on = rw (on refl) refl
-told_now true false false true answered_new on = sym (or_true answered_new)
+told_now true false false true answered_new on = sym (or-true answered_new)
 told_now true false false false answered_new on = refl
-told_now false unsynced answered before answered_new on = or_true ((unsynced || answered) || before)
+told_now false unsynced answered before answered_new on = or-true ((unsynced || answered) || before)
 
 pub told_on : (kept unsynced answered before told unsynced_new answered_new any told_new : Bool) → told ≡ ((unsynced || answered) || before) → unsynced_new ≡ (if kept then unsynced else true)
     → (answered ≡ true → answered_new ≡ true) → any ≡ (answered_new || before) → told_new ≡ (told || (if kept then any else true)) → told_new ≡ ((unsynced_new || answered_new) || before)
@@ -48,7 +41,7 @@ module _ {S : Type 0} (opens : S → ℕ → S → Type 0) (refuses : S → ℕ 
   follows start (On place IsOver ∷ acts) after leads = follows start acts after leads
   follows start (On place IsSilent ∷ acts) after leads = follows start acts after leads
   follows start (On place (Hears part reply) ∷ acts) after (middle, leads, does) =
-      heard middle place part reply after does ∙ ap (λ (b : Bool). is_unkept reply || b) (follows start acts middle leads) ∙ or_or (is_unkept reply) (answered_unkept is_unkept acts) (any_unkept start)
+      heard middle place part reply after does ∙ ap (λ (b : Bool). is_unkept reply || b) (follows start acts middle leads) ∙ sym (or_assoc (is_unkept reply) (answered_unkept is_unkept acts) (any_unkept start))
   follows start (On place (Misses part why) ∷ acts) after (middle, leads, does) = missed middle place part why after does ∙ follows start acts middle leads
   follows start (On place Lacks ∷ acts) after leads = follows start acts after leads
   follows start (On place (Takes bytes) ∷ acts) after leads = follows start acts after leads

@@ -1,61 +1,52 @@
--- Lines about memory, one after another, and the one about what cannot be kept.
-use Rattle.std.proofs.Math.Nat.{add-suc}
-use Rattle.std.proofs.Math.Numerals.{suc-eq-add-one}
-use Rattle.std.proofs.Common.{◌≡◌, ◌+◌, ℕ, zero, suc, Bool, true, false, List, [], Option, Result, Ok, Err, OnOk, IfErr, refl, sym, subst, append-nil, arith}
+-- One line more on the errors.
+use Rattle.std.proofs.Common.{◌≡◌, ◌+◌, ◌<◌, ℕ, Bool, true, false, List, [], ◌∷◌, Option, Result, Ok, Err, OnOk, IfErr, sym, ap, subst, append-nil, arith}
 use Rattle.std.specs.Io.KnownBytes.{Appends}
 use Rattle.textio.specs.declared.stream_fault.StreamFault.{StreamFault}
 use Rattle.textio.specs.declared.stream_fault.StreamFault.TheVariants.{CannotWrite}
-use Rattle.textio.specs.Output.{WritesBeginning, WritesBut}
-use Rattle.connections.specs.Telling.{memory_line, unkept_line, TellsLines, TellsSome, TellsTimes}
+use Rattle.textio.specs.Output.{WritesBeginning, WritesSome}
+use Rattle.connections.specs.Telling.{line_text, Line, OutOfMemory, Report, TellsLines, Unkept}
 
 writes_some : (old new : Option (List ℕ)) (text : List ℕ) (result : Result (Unit {0}) StreamFault) → OnOk result (Appends old new text)
-    → IfErr result (λ fault. (fault ≡ CannotWrite) × WritesBeginning old new text) → (rest : List ℕ) × WritesBut old new text rest
+    → IfErr result (λ fault. (fault ≡ CannotWrite) × WritesBeginning old new text) → WritesSome old new text
 writes_some old new text (Ok done) whole none = ([], (text, sym (append-nil text), whole))
 writes_some old new text (Err fault) none (same, less) = (less.0, less.2)
 
--- one line more
-pub tells_more : (count : ℕ) (old middle new : Option (List ℕ)) (result : Result (Unit {0}) StreamFault) → TellsTimes count old middle → OnOk result (Appends middle new memory_line)
-    → IfErr result (λ fault. (fault ≡ CannotWrite) × WritesBeginning middle new memory_line) → TellsTimes (count + 1) old new
-tells_more count old middle new result tells ok err =
-    let wrote = writes_some middle new memory_line result ok err in
-    subst (λ (n : ℕ). TellsTimes n old new) (suc-eq-add-one count) (middle, tells, wrote.0, wrote.1)
+module _ (every count : ℕ) (start old new : Option (List ℕ)) (result : Result (Unit {0}) StreamFault) where
+  -- the line is written, or a beginning of it
+  abbrev pub Wrote : Line → Type 0
+  Wrote line = OnOk result (Appends old new (line_text line)) × IfErr result (λ fault. (fault ≡ CannotWrite) × WritesBeginning old new (line_text line))
 
--- two lists of lines
-pub tells_times : (count more : ℕ) (old middle new : Option (List ℕ)) → TellsTimes count old middle → TellsTimes more middle new → TellsTimes (count + more) old new
-tells_times count zero old middle new one same =
-    let all : count ≡ count + 0 = omega arith in
-    subst (λ (n : ℕ). TellsTimes n old new) all (subst (TellsTimes count old) (sym same) one)
-tells_times count (suc more) old middle new one (between, tells, rest, wrote) =
-    subst (λ (n : ℕ). TellsTimes n old new) (sym (add-suc count more)) (between, tells_times count more old middle between one tells, rest, wrote)
+  wrote : (line : Line) → Wrote line → WritesSome old new (line_text line)
+  wrote line (ok, err) = writes_some old new (line_text line) result ok err
 
--- more lines about memory
-pub lines_more : (told : Bool) (count more : ℕ) (old middle new : Option (List ℕ)) → TellsLines told count old middle → TellsTimes more middle new → TellsLines told (count + more) old new
-lines_more false count more old middle new lines times = tells_times count more old middle new lines times
-lines_more true count more old middle new (earlier, later, before, after, sum, one, line, two) times = (
-  earlier,
-  later + more,
-  before,
-  after,
-  let s : count ≡ earlier + later = sum in omega arith,
-  one,
-  line,
-  tells_times later more after middle new two times,
-)
+  pub memory_more : (told : Bool) → TellsLines every told count start old → Wrote OutOfMemory → TellsLines every told (count + 1) start new
+  memory_more told (lines, written, memory, unkept, none) one = (OutOfMemory ∷ lines, (old, written, wrote OutOfMemory one), ap (λ (n : ℕ). n + 1) memory, unkept, none)
 
-pub some_told : (told told_new : Bool) (more : ℕ) (old middle between new : Option (List ℕ)) → TellsSome told old middle → TellsTimes more middle between
-    → ((count : ℕ) (start : Option (List ℕ)) → TellsLines told count start between → TellsLines told_new count start new) → TellsSome told_new old new
-some_told told told_new more old middle between new (count, lines) times line = (count + more, line (count + more) old (lines_more told count more old middle between lines times))
+  pub unkept_more : TellsLines every false count start old → Wrote Unkept → TellsLines every true count start new
+  unkept_more (lines, written, memory, unkept, none) one = (Unkept ∷ lines, (old, written, wrote Unkept one), memory, ap (λ (n : ℕ). n + 1) unkept, none)
 
--- the line about what cannot be kept
-pub line_more : (count : ℕ) (old middle new : Option (List ℕ)) (result : Result (Unit {0}) StreamFault) → OnOk result (Appends middle new unkept_line)
-    → IfErr result (λ fault. (fault ≡ CannotWrite) × WritesBeginning middle new unkept_line) → TellsLines false count old middle → TellsLines true count old new
-line_more count old middle new result ok err lines = (
-  count,
-  0,
-  middle,
-  new,
-  omega arith,
-  lines,
-  writes_some middle new unkept_line result ok err,
-  refl,
-)
+  pub report_more : (told : Bool) (words : List ℕ) → 0 < every → TellsLines every told count start old → Wrote (Report words) → TellsLines every told count start new
+  report_more told words wanted (lines, written, memory, unkept, none) one =
+      (Report words ∷ lines, (old, written, wrote (Report words) one), memory, unkept, λ never. let n : every ≡ 0 = never in let w : 0 < every = wanted in omega arith)
+
+  pub report_of : (told : Bool) (words text : List ℕ) → text ≡ line_text (Report words) → 0 < every → TellsLines every told count start old → OnOk result (Appends old new text)
+      → IfErr result (λ fault. (fault ≡ CannotWrite) × WritesBeginning old new text) → TellsLines every told count start new
+  report_of told words text is wanted lines ok err =
+      report_more told words wanted lines (subst (λ (t : List ℕ). OnOk result (Appends old new t)) is ok, subst (λ (t : List ℕ). IfErr result (λ fault. (fault ≡ CannotWrite) × WritesBeginning old new t)) is err)
+
+-- one line about memory more, behind so many
+pub memory_next : (every count lines : ℕ) (start old new : Option (List ℕ)) (result : Result (Unit {0}) StreamFault) (told : Bool) → TellsLines every told (count + lines) start old
+    → Wrote every count start old new result OutOfMemory → TellsLines every told (count + (lines + 1)) start new
+memory_next every count lines start old new result told before one =
+    let same : (count + lines) + 1 ≡ count + (lines + 1) = omega arith in
+    subst (λ (n : ℕ). TellsLines every told n start new) same (memory_more every (count + lines) start old new result told before one)
+
+-- what a round tells: lines about memory, perhaps the one about what cannot be kept, and perhaps a report
+pub told_more : (every wanted wanting : ℕ) (told told_new : Bool) (errors middle between new : Option (List ℕ)) → wanted ≡ every
+    → ((every : ℕ) (told : Bool) (count : ℕ) (start : Option (List ℕ)) → TellsLines every told count start errors → TellsLines every told (count + wanting) start middle)
+    → ((every count : ℕ) (start : Option (List ℕ)) → TellsLines every told count start middle → TellsLines every told_new count start between)
+    → ((told : Bool) (count : ℕ) (start : Option (List ℕ)) → TellsLines wanted told count start between → TellsLines wanted told count start new)
+    → (count : ℕ) (start : Option (List ℕ)) → TellsLines every told count start errors → TellsLines every told_new (count + wanting) start new
+told_more every wanted wanting told told_new errors middle between new same memory unkept report count start lines =
+    let before = unkept every (count + wanting) start (memory every told count start lines) in
+    subst (λ (e : ℕ). TellsLines e told_new (count + wanting) start new) same (report told_new (count + wanting) start (subst (λ (e : ℕ). TellsLines e told_new (count + wanting) start between) (sym same) before))

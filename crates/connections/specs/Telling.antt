@@ -1,31 +1,56 @@
--- What is told of connections that were closed for want of memory, and of what cannot be kept.
-use Rattle.std.specs.Prelude.{◌≡◌, ◌+◌, ◌||◌, ℕ, zero, suc, Bool, true, false, List, [], ◌∷◌, Option, codes, if◌then◌else◌}
-use Rattle.textio.specs.Output.{WritesBut, WritesSome}
+-- What is told of connections that were closed for want of memory, of what cannot be kept, and of how a server stands.
+use Rattle.std.specs.Prelude.{◌≡◌, ◌+◌, ◌++◌, ◌||◌, ℕ, Bool, true, false, List, [], ◌∷◌, Option, codes, if◌then◌else◌}
+use Rattle.textio.specs.Output.{WritesSome}
 use Rattle.connections.specs.declared.ending.Ending.{Ending}
 use Rattle.connections.specs.declared.ending.Ending.TheVariants.{Done, Fault, Idle, Stopped, Unsynced, Memory, Refused}
 use Rattle.connections.specs.Histories.{At, Ordered, GoesOn, Syncs, NoneWaits, On, Deed, Comes, Opens, Refuses, Reads, IsOver, IsSilent, Hears, Misses, Lacks, Takes, TakesNone, Fails, Ends, Closes, History}
 
-abbrev pub memory_line : List ℕ
-memory_line = codes "out of memory\n"
+-- a line of the errors
+pub data Line : Type 0 where
+  OutOfMemory : Line
+  Unkept : Line
+  -- a report in these words
+  Report : List ℕ → Line
 
--- the line is written so many times, whole or less of it
-abbrev pub TellsTimes : ℕ → Option (List ℕ) → Option (List ℕ) → Type 0
-TellsTimes zero old new = new ≡ old
-TellsTimes (suc count) old new = (middle : Option (List ℕ)) × TellsTimes count old middle × (rest : List ℕ) × WritesBut middle new memory_line rest
+abbrev pub line_text : Line → List ℕ
+line_text OutOfMemory = codes "out of memory\n"
+line_text Unkept = codes "journal: cannot write, edits are refused until a restart\n"
+line_text (Report words) = codes "report: " ++ words ++ 10 ∷ []
 
--- the line about what cannot be kept
-abbrev pub unkept_line : List ℕ
-unkept_line = codes "journal: cannot write, edits are refused until a restart\n"
+-- these lines are written, the latest first, each whole or less of it
+abbrev pub Writes : List Line → Option (List ℕ) → Option (List ℕ) → Type 0
+Writes [] old new = new ≡ old
+Writes (line ∷ before) old new = (middle : Option (List ℕ)) × Writes before old middle × WritesSome middle new (line_text line)
 
--- so many lines about memory, and, where something could not be kept, among them one about that, whole or less of it
-abbrev pub TellsLines : Bool → ℕ → Option (List ℕ) → Option (List ℕ) → Type 0
-TellsLines false count old new = TellsTimes count old new
-TellsLines true count old new = (earlier later : ℕ) × (before after : Option (List ℕ)) × (count ≡ earlier + later) × TellsTimes earlier old before
-    × WritesSome before after unkept_line × TellsTimes later after new
+-- how many of the lines are about memory
+abbrev pub about_memory : List Line → ℕ
+about_memory [] = 0
+about_memory (OutOfMemory ∷ before) = about_memory before + 1
+about_memory (Unkept ∷ before) = about_memory before
+about_memory (Report words ∷ before) = about_memory before
+
+-- how many are about what cannot be kept
+abbrev pub about_unkept : List Line → ℕ
+about_unkept [] = 0
+about_unkept (OutOfMemory ∷ before) = about_unkept before
+about_unkept (Unkept ∷ before) = about_unkept before + 1
+about_unkept (Report words ∷ before) = about_unkept before
+
+-- how many are reports
+abbrev pub reports : List Line → ℕ
+reports [] = 0
+reports (OutOfMemory ∷ before) = reports before
+reports (Unkept ∷ before) = reports before
+reports (Report words ∷ before) = reports before + 1
+
+-- so many lines about memory, one about what cannot be kept if that was told, and reports, of which there is none where
+-- they are wanted every 0 milliseconds
+abbrev pub TellsLines : ℕ → Bool → ℕ → Option (List ℕ) → Option (List ℕ) → Type 0
+TellsLines every told count old new = (lines : List Line) × Writes lines old new × (about_memory lines ≡ count) × (about_unkept lines ≡ (if told then 1 else 0)) × (every ≡ 0 → reports lines ≡ 0)
 
 -- some number of them
-abbrev pub TellsSome : Bool → Option (List ℕ) → Option (List ℕ) → Type 0
-TellsSome told old new = (count : ℕ) × TellsLines told count old new
+abbrev pub TellsSome : ℕ → Bool → Option (List ℕ) → Option (List ℕ) → Type 0
+TellsSome every told old new = (count : ℕ) × TellsLines every told count old new
 
 -- how many connections are closed for want of memory, by a reason and by a deed
 abbrev pub lost_by : Ending → ℕ
@@ -106,6 +131,6 @@ module _ (is_unkept : List ℕ → Bool) where
   has_unkept acts = unsynced acts || answered_unkept acts
 
   -- each connection that was closed for want of memory has its line, and there is one if something could not be kept, or
-  -- could not before
-  abbrev pub TellsAll : Bool → History → Option (List ℕ) → Option (List ℕ) → Type 0
-  TellsAll before acts old new = TellsLines (has_unkept acts || before) (losses acts) old new
+  -- could not before; reports are wanted every so many milliseconds, or never
+  abbrev pub TellsAll : ℕ → Bool → History → Option (List ℕ) → Option (List ℕ) → Type 0
+  TellsAll every before acts old new = TellsLines every (has_unkept acts || before) (losses acts) old new

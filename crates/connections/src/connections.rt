@@ -2,6 +2,7 @@ ghost use Rattle.std.specs.Prelude.{◌≡◌, ◌≤◌, ◌∷◌, ℕ, List, 
 ghost use Rattle.connections.specs.Histories.{Act, At, Deed, Ordered, GoesOn, IsOfSession, Leads, Syncs, NoneWaits, On, Comes, Reads, IsOver, IsSilent, Takes, TakesNone, Fails, Closes};
 
 use crate::{Ending, Sessions};
+use std::alloc::{AllocError, Global};
 
 /// What a read of a connection gave.
 #[derive(Clone, Copy, Debug, PartialEq, Eq)]
@@ -79,6 +80,9 @@ pub trait Connections<S: Sessions> {
     /// Puts on its disk what the answers so far tell of, and says whether it is there.
     fn sync(&mut self, sessions: &S) -> bool
         ensures { (start : S) (acts : List Act) → Leads S.opens S.refuses S.hears S.misses S.ends start acts sessions.now → has self.old acts → has self.new (Syncs result ∷ acts) };
+
+    /// Says how many are open, for a report, and what else it knows, in words `key=value`. No clause speaks of them.
+    fn report(&self, alloc: Global) -> Result<String, AllocError>;
 
     // What happens to a session leaves the connections as they are.
     ghost passes: { (connections : Self) (acts : List Act) (place : ℕ) (deed : Deed) → IsOfSession deed → has connections acts → has connections (On place deed ∷ acts) };

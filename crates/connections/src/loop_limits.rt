@@ -1,4 +1,4 @@
-/// What a loop over connections allows.
+/// What a loop over connections allows, and how often it reports.
 #[derive(Clone, Copy, Debug, PartialEq, Eq)]
 pub struct Limits {
     /// How many connections are taken; 0 for no end.
@@ -6,6 +6,8 @@ pub struct Limits {
     /// For how many milliseconds a connection may be idle; 0 for ever. It is idle from the end of the round in which
     /// something was last read from it or taken by it, or else in which it was taken.
     pub idle: u64,
+    /// Every how many milliseconds a report is written; 0 for never.
+    pub report: u64,
 }
 
 /// Where more bytes than these wait for a connection, nothing is read from it, and its session hears

@@ -8,11 +8,12 @@ ghost use Rattle.connections.specs.Fairness.{AreAttended, AreUsed, IsFair, IsWho
 ghost use Rattle.connections.specs.Fitting.{AreFree, AreUnread, Begins, FitAll, Has, IsKnownBusy, MayOrder, Tours, Turns, size_of};
 ghost use Rattle.connections.specs.Histories.{History, Hearing, clock, stopped};
 ghost use Rattle.connections.specs.Pauses.{IsPause, pause_of};
-ghost use Rattle.connections.specs.Telling.{TellsAll, TellsLines, TellsSome, TellsTimes};
+ghost use Rattle.connections.specs.Telling.{TellsAll, TellsLines, TellsSome};
 
 use crate::connections::Connections;
 use crate::loop_limits::LONGEST_WAIT;
 use crate::places::{Places, are_free, hear_all, rest_all, take_all, tell_all};
+use crate::reports::Reports;
 use crate::slots::{Round, Work};
 use crate::talk::Talk;
 use crate::{Limits, Sessions};
@@ -84,7 +85,7 @@ fn hear_new<S: Sessions, C: Connections<S>>(
 /// Writes so many lines about connections that were closed for want of memory. One that cannot be written is
 /// passed over.
 fn tell_wanting<E: Write>(errors: &mut E, wanting: u64)
-    ensures { TellsTimes wanting (E.contents errors.old) (E.contents errors.new) }
+    ensures { (every : ℕ) (told : Bool) (count : ℕ) (start : Option (List ℕ)) → TellsLines every told count start (E.contents errors.old) → TellsLines every told (count + wanting) start (E.contents errors.new) }
 {
     for _line in 0..wanting {
         let _told = write_text(errors, b"out of memory\n");
@@ -100,7 +101,7 @@ fn tell_unkept<S: Sessions, E: Write>(
     was_told: bool,
 ) -> bool
     ensures told { result ≡ (was_told || (if is_synced then S.any_unkept sessions.now else true)) }
-    ensures lines { (count : ℕ) (start : Option (List ℕ)) → TellsLines was_told count start (E.contents errors.old) → TellsLines result count start (E.contents errors.new) }
+    ensures lines { (every count : ℕ) (start : Option (List ℕ)) → TellsLines every was_told count start (E.contents errors.old) → TellsLines every result count start (E.contents errors.new) }
 {
     if was_told || (is_synced && !sessions.has_unkept()) {
         return was_told;
@@ -234,13 +235,14 @@ fn turn_all<S: Sessions, C: Connections<S>, E: Write>(
     errors: &mut E,
 )
     requires { (place : ℕ) → get_or places.old place None ≡ None }
-    ensures tells { (told : Bool) × TellsSome told (E.contents errors.old) (E.contents errors.new) }
+    ensures tells { (told : Bool) × TellsSome limits.report told (E.contents errors.old) (E.contents errors.new) }
     ensures happens { C.has connections.old [] → (acts : History) × Has S.opens S.refuses S.hears S.misses S.ends C.has limits.idle sessions.old connections.new sessions.new acts × AreWithin limits.count acts × HasEnded limits.count acts
         × IsFair limits.idle limits.count (length places.old) acts × IsWhole limits.idle acts × AreInside (length places.old) acts
-        × TellsAll S.is_unkept (S.any_unkept sessions.old) acts (E.contents errors.old) (E.contents errors.new) }
+        × TellsAll S.is_unkept limits.report (S.any_unkept sessions.old) acts (E.contents errors.old) (E.contents errors.new) }
 {
     let mut is_told = tell_unkept(sessions, true, errors, false);
     let mut state = State::new(limits);
+    let mut reports = Reports::new(limits.report);
     // Pieces are read into this one room: what is heard at once is kept nowhere else.
     let mut room = [0; PIECE_SIZE];
     // Every loop of Rattle has an end: this one's is past any life of a server.
@@ -248,6 +250,7 @@ fn turn_all<S: Sessions, C: Connections<S>, E: Write>(
         state = turn(alloc, places, sessions, connections, state, &mut room);
         tell_wanting(errors, state.work.wanting);
         is_told = tell_unkept(sessions, state.round.is_synced, errors, is_told);
+        reports.tell(alloc, sessions, connections, state.round.now, errors);
         if is_finished(state, places) {
             return;
         }
@@ -259,7 +262,7 @@ fn turn_all<S: Sessions, C: Connections<S>, E: Write>(
 /// is sound: each connection takes a beginning of what its session was answered, in order, and is closed for
 /// a reason that holds; and each round gives each connection its turn, until the loop is over. A connection
 /// that is closed for want of memory is told of in a line to the errors, and so is, once, that something could not be kept:
-/// an answer said so, or a sync failed.
+/// an answer said so, or a sync failed. A report is written as often as the limits say.
 pub fn answer_all<S: Sessions, C: Connections<S>, E: Write>(
     alloc: Global,
     places: Places,
@@ -269,10 +272,10 @@ pub fn answer_all<S: Sessions, C: Connections<S>, E: Write>(
     errors: &mut E,
 )
     requires { AreFree places }
-    ensures tells { (told : Bool) × TellsSome told (E.contents errors.old) (E.contents errors.new) }
+    ensures tells { (told : Bool) × TellsSome limits.report told (E.contents errors.old) (E.contents errors.new) }
     ensures happens { C.has connections.old [] → (acts : History) × Has S.opens S.refuses S.hears S.misses S.ends C.has limits.idle sessions.old connections.new sessions.new acts × AreWithin limits.count acts × HasEnded limits.count acts
         × IsFair limits.idle limits.count (size_of places) acts × IsWhole limits.idle acts × AreInside (size_of places) acts
-        × TellsAll S.is_unkept (S.any_unkept sessions.old) acts (E.contents errors.old) (E.contents errors.new) }
+        × TellsAll S.is_unkept limits.report (S.any_unkept sessions.old) acts (E.contents errors.old) (E.contents errors.new) }
 {
     let mut places = places;
     turn_all(

@@ -2,6 +2,7 @@ ghost use Rattle.std.specs.Prelude.{◌≡◌, ◌≢◌, ◌≤◌, ◌++◌, �
 ghost use Rattle.connections.specs.declared.ending.SessionFault.{SessionFault};
 
 use crate::SessionFault;
+use std::alloc::{AllocError, Global};
 
 /// Sessions that hear bytes and are answered, each by its number.
 pub trait Sessions {
@@ -61,6 +62,9 @@ pub trait Sessions {
     /// Whether an answer so far said that what was asked could not be kept.
     fn has_unkept(&self) -> bool
         ensures { result ≡ any_unkept self.now };
+
+    /// Says what they were asked so far, for a report, in words `key=value`. No clause speaks of them.
+    fn report(&self, alloc: Global) -> Result<String, AllocError>;
 
     // Only an answer changes that.
     ghost opens_as: { (before : Self) (session : ℕ) (after : Self) → opens before session after → any_unkept after ≡ any_unkept before };

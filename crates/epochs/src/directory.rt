@@ -134,4 +134,14 @@ impl<H: NodeHash, V: Vuf, S: Signer, R: Rng> Directory<H, V, S, R> {
         root.body.vuf_key.bytes();
         root
     }
+
+    /// How many names it has, those among them that wait for their first epoch.
+    pub fn count_names(&self) -> usize {
+        self.names.count()
+    }
+
+    /// How many operations wait for the next epoch.
+    pub fn count_waiting(&self) -> usize {
+        self.waiting.count()
+    }
 }

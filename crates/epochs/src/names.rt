@@ -53,6 +53,11 @@ impl Names {
         }
     }
 
+    /// How many names there are.
+    pub(crate) fn count(&self) -> usize {
+        self.histories.len()
+    }
+
     /// The history of a name.
     pub(crate) fn find(&self, name: &[u8]) -> Option<&History>
         ensures versions { option_map (λ history. history.now.versions) result ≡ at self.now.versions name.now }

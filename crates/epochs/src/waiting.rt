@@ -50,6 +50,11 @@ impl Waiting {
         }
     }
 
+    /// How many operations wait.
+    pub(crate) fn count(&self) -> usize {
+        self.commitments.len()
+    }
+
     /// Whether something waits at this index.
     pub(crate) fn contains(&self, index: &Index) -> bool
         ensures { result ≡ is_some (commitment_of self.now index.now) }

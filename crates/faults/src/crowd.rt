@@ -92,13 +92,15 @@ fn tell_all(case: &mut Case<'_>, peers: &[Peer]) -> Result<(), AllocError> {
     Ok(())
 }
 
-fn run(case: &mut Case<'_>) -> Result<(), AllocError> {
+/// Runs the loop, with a report every so many milliseconds.
+fn run(case: &mut Case<'_>, report: u64) -> Result<(), AllocError> {
     let alloc = case.alloc();
     let count = case.number_to(MOST);
     let most = case.number_to(MOST);
     let limits = Limits {
         count: case.number(),
         idle: case.number(),
+        report,
     };
     let acts = read_acts(case)?;
     let mut echoes = Echoes::new(alloc, count, most)?;
@@ -121,7 +123,15 @@ fn run(case: &mut Case<'_>) -> Result<(), AllocError> {
 /// `crowd PLACES OPEN COUNT IDLE ACT..`: at so many places, of sessions of which so many may be open, so many
 /// connections, of which one may be idle for so long.
 pub(crate) fn crowd(case: &mut Case<'_>) {
-    if run(case).is_err() {
+    if run(case, 0).is_err() {
+        case.lack_memory();
+    }
+}
+
+/// `reports EVERY PLACES OPEN COUNT IDLE ACT..`: the same, with a report every so many milliseconds.
+pub(crate) fn reports(case: &mut Case<'_>) {
+    let report = case.number();
+    if run(case, report).is_err() {
         case.lack_memory();
     }
 }

@@ -163,4 +163,8 @@ impl Sessions for Echoes {
     fn has_unkept(&self) -> bool {
         false
     }
+
+    fn report(&self, alloc: Global) -> Result<String, AllocError> {
+        format!(in alloc; "sessions={}", self.open)
+    }
 }

@@ -8,8 +8,8 @@
 //! What a failing writer leaves of a journal is opened: the answer tells after how many commands of the
 //! run the directory stands, or `other` where it is no beginning of the run.
 //!
-//! `crowd` answers many connections at once, which do what a script says. `piece` tells what a session's one
-//! piece brings, and what an empty piece brings behind it where memory ran out.
+//! `crowd` answers many connections at once, which do what a script says; `reports` does so with reports. `piece`
+//! tells what a session's one piece brings, and what an empty piece brings behind it where memory ran out.
 //!
 //! The stored answers come from `scripts/fault_questions.py`, which computes them from the definitions.
 #![tactic(auto)]
@@ -38,6 +38,7 @@ impl Subjects for Sweeps {
     fn answer(&mut self, case: &mut Case<'_>) {
         match case.word() {
             b"crowd" => crowd::crowd(case),
+            b"reports" => crowd::reports(case),
             b"directory" => keeping::directory(case),
             b"hub" => keeping::hub(case),
             b"piece" => keeping::piece(case),

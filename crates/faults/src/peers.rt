@@ -285,4 +285,9 @@ impl<S: Sessions> Connections<S> for Peers<'_> {
     fn sync(&mut self, _sessions: &S) -> bool {
         self.is_synced
     }
+
+    fn report(&self, alloc: Global) -> Result<String, AllocError> {
+        let open = self.places.iter().filter(|place| place.is_some()).count();
+        format!(in alloc; "connections={open}")
+    }
 }

@@ -24,6 +24,7 @@ use nodehash::NodeHash;
 use rand_core::Rng;
 use rootchain::{SignedPromise, SignedRoot};
 use sigiface::Signer;
+use std::alloc::{AllocError, Global};
 use std::marker::Model;
 use vrfiface::Vuf;
 use wire::{Answer, Request, begin_proof, end_proof};
@@ -194,6 +195,12 @@ impl<H: NodeHash, V: Vuf, S: Signer, R: Rng, K: Keeper> Service for Desk<H, V, S
             Ok(request) => self.serve(&request, output),
             Err(refusal) => write_refused(refusal.number(), output),
         }
+    }
+
+    fn report(&self, alloc: Global) -> Result<String, AllocError> {
+        let epoch = self.directory.head().body.epoch;
+        let (names, waiting) = (self.directory.count_names(), self.directory.count_waiting());
+        format!(in alloc; "epoch={epoch} names={names} waiting={waiting}")
     }
 }
 

@@ -2,6 +2,8 @@ ghost use Rattle.std.specs.Prelude.{◌≡◌, ◌+◌, ◌≤◌, ◌++◌, Lis
 ghost use Rattle.wire.specs.Frames.{Frame};
 ghost use Rattle.wire.specs.declared.answer.TheConstants.{MAX_ANSWER_LEN};
 
+use std::alloc::{AllocError, Global};
+
 /// What answers the frames of sessions, one at a time.
 pub trait Service {
     // The service before, a frame, the bytes of the reply, and the service after.
@@ -12,4 +14,7 @@ pub trait Service {
         requires { vec_len output.old + MAX_ANSWER_LEN ≤ vec_capacity output.old }
         ensures { (reply : List ℕ) × answers self.old (record { kind = kind; body = body.now }) reply self.new
             × (output.new.items ≡ output.old.items ++ reply) };
+
+    /// Says how it stands, in words `key=value`. No clause speaks of them.
+    fn report(&self, alloc: Global) -> Result<String, AllocError>;
 }

@@ -132,6 +132,11 @@ impl<D: Service + Drop> Hub<D> {
         }
     }
 
+    /// Says how the service stands, in words `key=value`.
+    pub fn report(&self) -> Result<String, AllocError> {
+        self.service.report(self.alloc)
+    }
+
     /// How many of these bytes, from the front on, are the next part of a session's stream. A part ends at most
     /// one message. Of a session that is not open, it is all of them.
     pub fn part(&self, session: u32, bytes: &[u8]) -> usize
