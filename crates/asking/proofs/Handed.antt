@@ -9,7 +9,7 @@ use Rattle.wire.specs.Requests.{RequestContent, Put, Query, Turn}
 use Rattle.asking.specs.declared.said.Said.{Said}
 use Rattle.asking.specs.Asking.{handed_told, Hands, HandsAll, HandsTo, IsChange}
 use Rattle.asking.specs.Reports.{Report, Tells, report_of, silent, told_after, worse}
-use Rattle.asking.proofs.Going.{told_onto}
+use Rattle.asking.proofs.Going.{after_after, told_onto}
 use Rattle.asking.proofs.Telling.{worse_none}
 use Rattle.play.proofs.Moved.{AreMoved, moved-begin, moved-step}
 
@@ -37,6 +37,15 @@ told_both empty now noted said said' told shown quiet first second joined =
     let one : report_of now ≡ told = told_onto empty now told first ∙ ap (λ (r : Report). told_after r told) quiet ∙ told_alone told in
     let both : report_of noted ≡ told_after told shown = told_onto now noted shown second ∙ ap (λ (r : Report). told_after r shown) one in
     told_onto said said' (report_of noted) joined ∙ ap (λ (r : Report). told_after (report_of said) r) both
+
+-- and three
+pub told_three : (empty now noted tested said said' : Said) (told shown found : Report) → report_of empty ≡ silent → Tells empty told now → Tells now shown noted → Tells noted found tested → Tells said (report_of tested) said'
+    → report_of said' ≡ told_after (report_of said) (told_after told (told_after shown found))
+told_three empty now noted tested said said' told shown found quiet first second third joined =
+    let one : report_of now ≡ told = told_onto empty now told first ∙ ap (λ (r : Report). told_after r told) quiet ∙ told_alone told in
+    let both : report_of noted ≡ told_after told shown = told_onto now noted shown second ∙ ap (λ (r : Report). told_after r shown) one in
+    let all : report_of tested ≡ told_after (told_after told shown) found = told_onto noted tested found third ∙ ap (λ (r : Report). told_after r found) both in
+    told_onto said said' (report_of tested) joined ∙ ap (λ (r : Report). told_after (report_of said) r) (all ∙ sym (after_after told shown found))
 
 -- nothing is said
 pub tells_silent : (said : Said) → Tells said silent said

@@ -14,7 +14,7 @@ use Rattle.asking.specs.Reports.{Report, Tells, report_of, silent, told_after}
 use Rattle.memory.specs.declared.mark.Mark.{Mark}
 use Rattle.asking.specs.Scenes.{GivesBody, HaltsAfter, Scene, scene}
 use Rattle.asking.specs.Visiting.{TestsAll, TestsSome}
-use Rattle.asking.specs.Watching.{AllStep, DropsKept, GoesOn, GoesSome, SomeStep, StepsOnce, StepsSome, StepsThrough, WatchesAt, WatchesBy}
+use Rattle.asking.specs.Watching.{AllStep, GoesOn, GoesSome, SomeStep, StepsOnce, StepsSome, StepsThrough, TestsShown, WatchesAt, WatchesBy}
 use Rattle.asking.proofs.Going.{told_onto}
 use Rattle.asking.proofs.Handed.{told_silent}
 
@@ -50,21 +50,22 @@ module _ {H V S T : Type 0} (hash : List ℕ → List ℕ) (accepted : List ℕ 
           shows = inl (given.1, refl, refl);
           shown = silent;
           notes = inl (given.1, refl, refl);
-          tells = told_onto said said' given.0 given.2 ∙ ap (λ (r : Report). told_after (report_of said) r) (sym (told_silent given.0));
+          found = silent;
+          client = inl (given.1, refl, refl);
+          tells = told_onto said said' given.0 given.2 ∙ ap (λ (r : Report). told_after (report_of said) r) (sym (told_silent given.0) ∙ ap (told_after given.0) (sym (told_silent silent)));
           monitors = set_to_itself asker.monitors.items place monitor at;
-          client = inl (given.1, refl);
         }))
 
     -- the frame was one, and the monitor watched by it, or refused it
-    pub steps_some : (empty now said' said'' : Said) (body : List ℕ) (went : Bool) (monitors' : List Monitor) (last : Asker H V S) (shown : Report) → DropsKept hash accepted asker.client spelled epoch body last.client → last.monitors.items ≡ monitors'
-        → NotesReply hash accepted asker.client.chain spelled body asker.finals shown last.finals → ((told : Report) → Tells empty told now → report_of said'' ≡ told_after (report_of said') (told_after told shown)) → slice_get asker.monitors.items place ≡ Some monitor
+    pub steps_some : (empty now said' said'' : Said) (body : List ℕ) (went : Bool) (monitors' : List Monitor) (last : Asker H V S) (shown found : Report) → TestsShown hash accepted asker.client spelled epoch body found last.client → last.monitors.items ≡ monitors'
+        → NotesReply hash accepted asker.client.chain spelled body asker.finals shown last.finals → ((told : Report) → Tells empty told now → report_of said'' ≡ told_after (report_of said') (told_after told (told_after shown found))) → slice_get asker.monitors.items place ≡ Some monitor
         → IsNextEpoch monitor (Some epoch) → spelled ≡ monitor.name → exchanged stream (Query (Lookup spelled epoch)) frame later
         → GivesBody (Query (Lookup spelled epoch)) frame said (Some body) said' → WatchesAt hash accepted asker.monitors.items place epoch body empty went now monitors'
         → StepsOnce hash accepted exchanged (scene asker said stream) place went (scene last said'' later)
-    steps_some empty now said' said'' body went monitors' last shown drops watchers noted joined at next named exchange gives (inl (none, not, still, same)) = absurd (none-some monitor (slice_get asker.monitors.items place) none at)
-    steps_some empty now said' said'' body went monitors' last shown drops watchers noted joined at next named exchange gives (inr (found, watched, there, (told, watches, tells), set)) =
+    steps_some empty now said' said'' body went monitors' last shown found tests watchers noted joined at next named exchange gives (inl (none, not, still, same)) = absurd (none-some monitor (slice_get asker.monitors.items place) none at)
+    steps_some empty now said' said'' body went monitors' last shown found tests watchers noted joined at next named exchange gives (inr (seen, watched, there, (told, watches, tells), set)) =
         let given = subst (λ (n : List ℕ). GivesBody (Query (Lookup n epoch)) frame said (Some body) said') named gives in
-        let same : found ≡ monitor = same-some found monitor (slice_get asker.monitors.items place) there at in
+        let same : seen ≡ monitor = same-some seen monitor (slice_get asker.monitors.items place) there at in
         let by_this = subst (λ (one : Monitor). WatchesBy hash accepted one epoch body went told watched) same watches in
         inr (inr (record {
           monitor = monitor;
@@ -82,13 +83,14 @@ module _ {H V S T : Type 0} (hash : List ℕ → List ℕ) (accepted : List ℕ 
             subst (λ (n : List ℕ). NotesReply hash accepted asker.client.chain n frame.body asker.finals shown last.finals) named
                 (subst (λ (b : List ℕ). NotesReply hash accepted asker.client.chain spelled b asker.finals shown last.finals) given.1 noted),
           );
-          tells = joined told tells ∙ ap (λ (s : Said). told_after (report_of s) (told_after told shown)) given.2;
-          monitors = watchers ∙ set;
+          found = found;
           client = inr (
             given.0,
-            subst (λ (n : List ℕ). DropsKept hash accepted asker.client n epoch frame.body last.client) named
-                (subst (λ (b : List ℕ). DropsKept hash accepted asker.client spelled epoch b last.client) given.1 drops),
+            subst (λ (n : List ℕ). TestsShown hash accepted asker.client n epoch frame.body found last.client) named
+                (subst (λ (b : List ℕ). TestsShown hash accepted asker.client spelled epoch b found last.client) given.1 tests),
           );
+          tells = joined told tells ∙ ap (λ (s : Said). told_after (report_of s) (told_after told (told_after shown found))) given.2;
+          monitors = watchers ∙ set;
         }))
 
 module _ {T : Type 0} (hash : List ℕ → List ℕ) (accepted : List ℕ → List ℕ → List ℕ → Type 0) (exchanged : T → RequestContent → Frame → T → Type 0) where

@@ -1,10 +1,12 @@
 -- Promises that were tested.
-use Rattle.std.proofs.Common.{◌≡◌, ◌∙◌, ℕ, suc, Bool, false, if◌then◌else◌, List, Option, Some, None, Global, Vec, ap, refl, subst, sym, inl, inr}
-use Rattle.std.specs.Prelude.{slice_get}
+use Rattle.std.proofs.Common.{◌≡◌, ◌∙◌, ℕ, suc, Bool, false, if◌then◌else◌, List, Option, Some, None, Result, Ok, Err, Global, Vec, ap, refl, subst, sym, inl, inr}
+use Rattle.std.specs.Prelude.{slice_get, OnOk}
 use Rattle.commands.specs.Operations.{Lookup}
 use Rattle.rootchain.specs.declared.signed_promise.SignedPromise.{SignedPromise}
 use Rattle.client.specs.Clients.{Client}
 use Rattle.client.specs.Dues.{Dues, IsDueEpoch}
+use Rattle.client.specs.declared.client_refusal.Refusal.{Refusal}
+use Rattle.client.specs.declared.due.Due.{Due}
 use Rattle.monitor.specs.Monitors.{Monitor}
 use Rattle.wire.specs.Frames.{Frame}
 use Rattle.wire.specs.Requests.{RequestContent, Query}
@@ -12,10 +14,11 @@ use Rattle.asking.specs.declared.asker.Asker.{Asker}
 use Rattle.memory.specs.declared.mark.Mark.{Mark}
 use Rattle.asking.specs.declared.said.Said.{Said}
 use Rattle.asking.specs.Scenes.{GivesBody, Scene, scene}
-use Rattle.asking.specs.Testing.{due_told, TellsDue}
+use Rattle.asking.specs.Testing.{due_told, shown_told, TellsDue}
 use Rattle.asking.specs.FinalBindings.{NotesReply}
 use Rattle.asking.specs.Reports.{Report, Tells, report_of, silent, told_after}
 use Rattle.asking.specs.Visiting.{AwaitsMonitor, TestsName, Visits}
+use Rattle.asking.specs.Watching.{TestsShown}
 use Rattle.asking.proofs.Going.{told_onto}
 use Rattle.asking.proofs.Handed.{told_silent}
 
@@ -61,6 +64,13 @@ module _ {H V S T : Type 0} (hash : List ℕ → List ℕ) (accepted : List ℕ 
           tells = joined (due_told found) tells ∙ ap (λ (s : Said). told_after (report_of s) (told_after (due_told found) shown)) given.2;
           monitors = ap (λ (all : Vec Monitor Global). all.items) watchers;
         })
+
+-- what a monitor was shown is evidence, which was told
+pub shown_evidence : {A E : Type 0} (hash : List ℕ → List ℕ) (accepted : List ℕ → List ℕ → List ℕ → Type 0) (result : Result A E) (before : Client) (name : List ℕ) (epoch : ℕ) (reply : List ℕ) (due : Option ℕ) (shown : Result Due Refusal) (after : Client)
+    (said said' : Said) → IsDueEpoch before name due → due ≡ Some epoch → Dues hash accepted before name reply shown after → OnOk result (Tells said (shown_told shown) said')
+    → OnOk result ((found : Report) × TestsShown hash accepted before name epoch reply found after × Tells said found said')
+shown_evidence hash accepted (Ok done) before name epoch reply due shown after said said' is there dues tells = (shown_told shown, (due, is, inr (there, (shown, dues, refl))), tells)
+shown_evidence hash accepted (Err why) before name epoch reply due shown after said said' is there dues tells = tt
 
 module _ {T : Type 0} (hash : List ℕ → List ℕ) (accepted : List ℕ → List ℕ → List ℕ → Type 0) (exchanged : T → RequestContent → Frame → T → Type 0) where
   module _ (marks : List Mark) (before after : Scene T) (place next : ℕ) (signed : SignedPromise) (name : List ℕ) where

@@ -19,6 +19,13 @@ due_told (Ok (Broken broken)) = caught (evidence_text (evidence.Broken broken))
 due_told (Ok OtherIndex) = refused (refuses_text (codes "client refuses promise") OTHER_INDEX)
 due_told (Err why) = client_refuses (codes "client refuses proof") why
 
+-- of a reply that came for a monitor only the evidence
+abbrev pub shown_told : Result Due Refusal → Report
+shown_told (Ok (Broken broken)) = caught (evidence_text (evidence.Broken broken))
+shown_told (Ok Kept) = silent
+shown_told (Ok OtherIndex) = silent
+shown_told (Err why) = silent
+
 -- whether it was kept
 abbrev pub was_kept : Result Due Refusal → Bool
 was_kept (Ok Kept) = true

@@ -20,7 +20,8 @@ use Rattle.asking.specs.declared.said.TheConstants.{CAUGHT}
 use Rattle.asking.specs.Noting.{NotesAnswer}
 use Rattle.asking.specs.Refused.{client_refuses}
 use Rattle.asking.specs.Scenes.{Scene, FrameAnswers, IsUnanswered}
-use Rattle.asking.specs.Reports.{Report, Tells, told_after}
+use Rattle.asking.specs.Reports.{Report, Tells, silent, told_after}
+use Rattle.asking.specs.Testing.{shown_told}
 use Rattle.asking.specs.Visiting.{TestsAll, TestsSome}
 
 -- what a step tells
@@ -49,16 +50,18 @@ module _ (hash : List ℕ → List ℕ) (accepted : List ℕ → List ℕ → Li
   ShowsEpoch before epoch asked frame went told after =
       (IsUnanswered asked frame told × (went ≡ false) × (after ≡ before)) ⊎ (FrameAnswers asked frame × WatchesBy before epoch frame.body went told after)
 
-  -- a promise for the name that is due in this epoch is tested by the reply, and dropped if that shows that it was kept
-  abbrev pub DropsKept : ChainClient → List ℕ → ℕ → List ℕ → ChainClient → Type 0
-  DropsKept before name epoch reply after =
+  -- a promise for the name that is due in this epoch is tested by the reply: it is dropped if it was kept, and evidence that
+  -- it was not is told
+  abbrev pub TestsShown : ChainClient → List ℕ → ℕ → List ℕ → Report → ChainClient → Type 0
+  TestsShown before name epoch reply found after =
       (due : Option ℕ) × IsDueEpoch before name due
-      × (((due ≢ Some epoch) × (after ≡ before)) ⊎ ((due ≡ Some epoch) × ((shown : Result Due Refusal) × Dues hash accepted before name reply shown after)))
+      × (((due ≢ Some epoch) × (found ≡ silent) × (after ≡ before))
+      ⊎ ((due ≡ Some epoch) × ((shown : Result Due Refusal) × Dues hash accepted before name reply shown after × (found ≡ shown_told shown))))
 
-  -- what a frame that came for a look-up shows the client
-  abbrev pub ShowsKept : ChainClient → List ℕ → ℕ → RequestContent → Frame → Report → ChainClient → Type 0
-  ShowsKept before name epoch asked frame told after =
-      (IsUnanswered asked frame told × (after ≡ before)) ⊎ (FrameAnswers asked frame × DropsKept before name epoch frame.body after)
+  -- what a frame that came for a look-up shows of a promise
+  abbrev pub ShowsPromise : ChainClient → List ℕ → ℕ → RequestContent → Frame → Report → Report → ChainClient → Type 0
+  ShowsPromise before name epoch asked frame told found after =
+      (IsUnanswered asked frame told × (found ≡ silent) × (after ≡ before)) ⊎ (FrameAnswers asked frame × TestsShown before name epoch frame.body found after)
 
   module _ {T : Type 0} (exchanged : T → RequestContent → Frame → T → Type 0) where
     -- the monitor at a place looks its name up in its next epoch, and this is told of what comes back
@@ -74,9 +77,10 @@ module _ (hash : List ℕ → List ℕ) (accepted : List ℕ → List ℕ → Li
       pub shows : ShowsEpoch monitor epoch (Query (Lookup monitor.name epoch)) frame went told watched
       pub shown : Report
       pub notes : NotesAnswer hash accepted before.client.chain monitor.name (Query (Lookup monitor.name epoch)) frame told before.finals shown after.finals
-      pub tells : after.told ≡ told_after before.told (told_after told shown)
+      pub found : Report
+      pub client : ShowsPromise before.client monitor.name epoch (Query (Lookup monitor.name epoch)) frame told found after.client
+      pub tells : after.told ≡ told_after before.told (told_after told (told_after shown found))
       pub monitors : after.monitors ≡ slice_set before.monitors place watched
-      pub client : ShowsKept before.client monitor.name epoch (Query (Lookup monitor.name epoch)) frame told after.client
 
     -- whether the monitor at a place watched an epoch: it asks nothing where none is new
     abbrev pub StepsOnce : Scene T → ℕ → Bool → Scene T → Type 0

@@ -20,7 +20,7 @@ use crate::watching::hand_one;
 use crate::{AskFault, Asker, Checks, Said};
 use client::{Client, Refusal};
 use encoding::{BoundKey, Hash32, Name};
-use memory::{Alarm, Mark, is_awaited};
+use memory::{Mark, is_awaited};
 use monitor::Monitor;
 use nodehash::NodeHash;
 use play::{push_hex, push_number};
@@ -66,8 +66,7 @@ where
         ensures tells { OnOk result ((again : Report) × TellsAlarms name.now (self.now).known again × Tells said.old again said.new) }
         ensures untold { OnErr result (report_of said.new ≡ report_of said.old) }
     {
-        let mut now = alarms_said(self.alloc, &self.known, name)?;
-        explain_again(self.alloc, name, self.known.alarms(), &mut now)?;
+        let now = alarms_said(self.alloc, &self.known, name)?;
         said.join(now)
     }
 
@@ -171,28 +170,6 @@ fn alarms_said(alloc: Global, known: &memory::Memory, name: &Name) -> Result<Sai
     }
     said.raise(CAUGHT);
     Ok(said)
-}
-
-/// Says that the alarms of a name are of an earlier run, in lines of the errors.
-fn explain_again(
-    alloc: Global,
-    name: &Name,
-    alarms: &[Alarm],
-    said: &mut Said,
-) -> Result<(), AllocError>
-    ensures { report_of said.new ≡ report_of said.old }
-{
-    let mut words = Vec::new(alloc);
-    for alarm in alarms {
-        if alarm.name == *name {
-            words.extend_from_slice(b"watching ")?;
-            push_hex(&mut words, name.bytes())?;
-            words.extend_from_slice(b" at epoch ")?;
-            push_number(&mut words, alarm.epoch)?;
-            words.extend_from_slice(b": alarm of an earlier run\n")?;
-        }
-    }
-    said.words.extend_from_slice(&words)
 }
 
 /// Where the watching of a name goes on.

@@ -198,7 +198,7 @@ fn tell_proof(alloc: Global, broken: BrokenPromise, said: &mut Said) -> Result<(
 }
 
 /// Tells that the promise for a name was not kept.
-fn tell_broken(
+pub(crate) fn tell_broken(
     alloc: Global,
     name: &Name,
     broken: BrokenPromise,

@@ -12,13 +12,15 @@ ghost use Rattle.asking.specs.FinalBindings.{NotesReply};
 ghost use Rattle.asking.specs.Refused.{client_refuses};
 ghost use Rattle.asking.specs.Scenes.{scene, GivesBody, HaltsAfter, HaltsIn, Remains, StaysWhole};
 ghost use Rattle.asking.specs.Reports.{report_of, silent, Report, Tells};
-ghost use Rattle.asking.specs.Watching.{step_told, AllStep, DropsKept, GoesOn, GoesSome, SomeStep, StepsOnce, StepsSome, StepsThrough, WatchesAt, WatchesEpoch};
+ghost use Rattle.asking.specs.Watching.{step_told, AllStep, TestsShown, GoesOn, GoesSome, SomeStep, StepsOnce, StepsSome, StepsThrough, WatchesAt, WatchesEpoch};
 ghost use Rattle.asking.specs.declared.ask_fault.AskFault.TheVariants.{Stopped};
 
 use crate::answering::ask_for;
 use crate::checking::tell_client;
+use crate::promises::tell_broken;
 use crate::said::CAUGHT;
 use crate::{AskFault, Asker, Checks, Said};
+use client::Due;
 use encoding::Name;
 use monitor::{Monitor, Refusal, Step};
 use nodehash::NodeHash;
@@ -143,22 +145,34 @@ where
         let (monitors, checks) = (&mut self.monitors, &mut self.checks);
         let went = watch_at(self.alloc, monitors, place, checks, epoch, &found, &mut now)?;
         self.note(&name, &found, &mut now)?;
-        self.drop_kept(&name, epoch, &found);
+        self.test_shown(&name, epoch, &found, &mut now)?;
         said.join(now)?;
         Ok(went)
     }
 
-    /// Tests a promise for a name that is due in this epoch by a reply that came for its monitor, so that it is not asked
-    /// for once more. Nothing is told: one that was not kept stays, and is tested again.
-    fn drop_kept(&mut self, name: &Name, epoch: u64, reply: &[u8])
-        ensures drops { DropsKept H.digest_of V.accepted (self.old).client name.now epoch reply.now (self.new).client }
+    /// Tests the promise for a name by a reply that came for its monitor, if it is due in this epoch. One that was kept is
+    /// dropped, and so not asked for. Evidence of one that was not is told; it stays, and is tested again.
+    fn test_shown(
+        &mut self,
+        name: &Name,
+        epoch: u64,
+        reply: &[u8],
+        said: &mut Said,
+    ) -> Result<(), AllocError>
+        ensures tests { OnOk result ((found : Report) × TestsShown H.digest_of V.accepted (self.old).client name.now epoch reply.now found (self.new).client × Tells said.old found said.new) }
         ensures monitors { (self.new).monitors ≡ (self.old).monitors }
         ensures finals { (self.new).finals ≡ (self.old).finals }
         ensures stays { StaysWhole self.old self.new }
     {
-        if self.client.due_epoch(name) == Some(epoch) {
-            let checks = &mut self.checks;
-            let _shown = self.client.due(&mut checks.hash, &checks.vuf, name, reply);
+        if self.client.due_epoch(name) != Some(epoch) {
+            return Ok(());
+        }
+        let checks = &mut self.checks;
+        match self.client.due(&mut checks.hash, &checks.vuf, name, reply) {
+            Ok(Due::Broken(broken)) => tell_broken(self.alloc, name, broken, said),
+            Ok(Due::Kept) => Ok(()),
+            Ok(Due::OtherIndex) => Ok(()),
+            Err(_) => Ok(()),
         }
     }
 

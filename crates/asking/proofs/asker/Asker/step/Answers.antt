@@ -7,8 +7,8 @@ use Rattle.client.specs.Clients.{Client}
 use Rattle.monitor.specs.Monitors.{Monitor}
 use Rattle.asking.specs.Exchanges.{ExchangesFrames}
 use Rattle.asking.specs.FinalBindings.{Finals, NotesReply}
-use Rattle.asking.specs.Watching.{DropsKept, WatchesAt}
-use Rattle.asking.proofs.Handed.{report_silent, told_both}
+use Rattle.asking.specs.Watching.{TestsShown, WatchesAt}
+use Rattle.asking.proofs.Handed.{report_silent, told_three}
 use Rattle.asking.proofs.Stepped.{steps_none, steps_some}
 use Rattle.asking.proofs.asker.Asker.step.Goals as goal
 
@@ -40,12 +40,13 @@ returns-clause-steps g c =
     let noted = c.in_ok-note.ensures.notes in
     let same : c.deref-3.result.now ≡ c.deref-2.result.now = c.deref-3.ensures.value ∙ sym c.deref-2.ensures.value in
     let quiet = report_silent c.new-now.result c.new-now.ensures.text c.new-now.ensures.status in
-    let drops = subst (λ (client : Client). DropsKept g.H.NodeHash.digest_of g.V.VufCheck.accepted client c.copied-name.result c.in-Some-next_epoch.epoch c.deref-2.result.now c.drop_kept.new.self.client) c.in_ok-note.ensures.client
-    (subst (λ (b : List ℕ). DropsKept g.H.NodeHash.digest_of g.V.VufCheck.accepted c.note.new.self.client c.copied-name.result c.in-Some-next_epoch.epoch b c.drop_kept.new.self.client) (c.deref-4.ensures.value ∙ sym c.deref-2.ensures.value) c.drop_kept.ensures.drops) in
+    let tested = c.in_ok-test_shown.ensures.tests in
+    let tests = subst (λ (client : Client). TestsShown g.H.NodeHash.digest_of g.V.VufCheck.accepted client c.copied-name.result c.in-Some-next_epoch.epoch c.deref-2.result.now tested.0 c.test_shown.new.self.client) c.in_ok-note.ensures.client
+    (subst (λ (b : List ℕ). TestsShown g.H.NodeHash.digest_of g.V.VufCheck.accepted c.note.new.self.client c.copied-name.result c.in-Some-next_epoch.epoch b tested.0 c.test_shown.new.self.client) (c.deref-4.ensures.value ∙ sym c.deref-2.ensures.value) tested.1) in
     steps_some g.H.NodeHash.digest_of g.V.VufCheck.accepted (ExchangesFrames g.T.Write.contents g.T.Read.remaining) c.args.self.now c.args.said.now c.args.stream.now c.args.place
     c.in-Some.monitor.now c.copied-name.result c.in-Some-next_epoch.epoch gives.0 c.look_up.new.stream c.new-now.result c.watch_at.new.said c.look_up.new.said c.join.new.self
-    c.deref-2.result.now c.in_ok-went.went (with_items c.args.self.now.monitors c.watch_at.new.monitors).items c.drop_kept.new.self noted.0 drops
-    (ap (λ (all : Vec Monitor Global). all.items) (c.drop_kept.ensures.monitors ∙ c.in_ok-note.ensures.monitors))
-    (subst (λ (b : List ℕ). NotesReply g.H.NodeHash.digest_of g.V.VufCheck.accepted c.args.self.now.client.chain c.copied-name.result b c.args.self.now.finals noted.0 c.drop_kept.new.self.finals) same (subst (λ (f : Finals). NotesReply g.H.NodeHash.digest_of g.V.VufCheck.accepted c.args.self.now.client.chain c.copied-name.result c.deref-3.result.now c.args.self.now.finals noted.0 f) (sym c.drop_kept.ensures.finals) noted.1))
-    (λ told tells. told_both c.new-now.result c.watch_at.new.said c.note.new.said c.look_up.new.said c.join.new.self told noted.0 quiet tells noted.2 c.in_ok-join.ensures.tells)
+    c.deref-2.result.now c.in_ok-went.went (with_items c.args.self.now.monitors c.watch_at.new.monitors).items c.test_shown.new.self noted.0 tested.0 tests
+    (ap (λ (all : Vec Monitor Global). all.items) (c.in_ok-test_shown.ensures.monitors ∙ c.in_ok-note.ensures.monitors))
+    (subst (λ (b : List ℕ). NotesReply g.H.NodeHash.digest_of g.V.VufCheck.accepted c.args.self.now.client.chain c.copied-name.result b c.args.self.now.finals noted.0 c.test_shown.new.self.finals) same (subst (λ (f : Finals). NotesReply g.H.NodeHash.digest_of g.V.VufCheck.accepted c.args.self.now.client.chain c.copied-name.result c.deref-3.result.now c.args.self.now.finals noted.0 f) (sym c.in_ok-test_shown.ensures.finals) noted.1))
+    (λ told tells. told_three c.new-now.result c.watch_at.new.said c.note.new.said c.test_shown.new.said c.look_up.new.said c.join.new.self told noted.0 tested.0 quiet tells noted.2 tested.2 c.in_ok-join.ensures.tells)
     at next (c.copied-name.ensures ∙ c.name.ensures) gives.1 (gives.2.0, c.deref-2.ensures.value ∙ gives.2.1, gives.2.2) watched
