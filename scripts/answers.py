@@ -477,12 +477,20 @@ class Answers(Lines):
         """`keyed KIND KEY TEXT`"""
         return [told(keyed_digest(w.number(255), w.hash(), w.bytes()))]
 
-    def nodes_four(self, w):
-        """`four M0 M1 M2 M3`: four messages of 56 to 119 bytes; their digests, joined."""
-        messages = [w.bytes() for _ in range(4)]
+    @staticmethod
+    def joined_digests(w, count):
+        messages = [w.bytes() for _ in range(count)]
         if not all(56 <= len(message) <= 119 for message in messages):
             raise BadQuestion
         return [told(b"".join(map(sha256, messages)))]
+
+    def nodes_four(self, w):
+        """`four M0 M1 M2 M3`: four messages of 56 to 119 bytes; their digests, joined."""
+        return self.joined_digests(w, 4)
+
+    def nodes_eight(self, w):
+        """`eight M0 .. M7`: the same of eight."""
+        return self.joined_digests(w, 8)
 
     def nodes_empty(self, w):
         """`empty NONCE INDEX LEVEL`, LEVEL at most 256."""
@@ -735,6 +743,14 @@ class Answers(Lines):
             return ["repeated"]
         tree = Tree(sha256, nonce, items)
         return self.kept(tree, len(tree.places()))
+
+    def trees_bare(self, w):
+        """`bare NONCE (INDEX COMMITMENT)..`: the root without a tree, and the digests; or `repeated`."""
+        nonce, items = w.hash(), self.items(w)
+        if len(dict(items)) < len(items):
+            return ["repeated"]
+        tree = Tree(sha256, nonce, items)
+        return [told(tree.root()), str(len(tree.places()))]
 
     def trees_more(self, w):
         """`more (INDEX COMMITMENT)..`: all put in at once."""

@@ -233,15 +233,15 @@ class Told:
         for line in memory.evidence:
             self.text.append(line)
             self.explain(f"state: {path}.kept", "evidence of an earlier run", 3)
-        for _ in memory.alarms:
-            self.explain(f"state: {path}.kept", "alarm of an earlier run", 0)
+        for line in memory.alarms:
+            _, name, epoch, *_ = line.split(" ")
+            self.explain(f"state: {path}.kept", f"alarm of an earlier run for {name} at epoch {epoch}", 0)
 
     def raise_again(self, alarms):
         """Tells alarms of earlier runs."""
         for line in alarms:
-            _, name, epoch, *_ = line.split(" ")
             self.text.append(line)
-            self.explain(f"watching {name} at epoch {epoch}", "alarm of an earlier run", 3)
+            self.status = 3
 
 
 # What is asked ----------------------------------------------------------------------------------------------
@@ -687,13 +687,18 @@ class Asked(Followed):
                 return self.refuse("proof", refusal, f"watching {monitor.name.hex()} at epoch {epoch}: ")
             self.tell_step(monitor.name, epoch, step)
             self.note(monitor.name, got[2])
-            self.drop_kept(monitor.name, epoch, got[2])
+            self.test_shown(monitor.name, epoch, got[2])
 
-    def drop_kept(self, name, epoch, body):
-        """Tests a promise of a name that is due in this epoch by the reply of its monitor. One that is not kept stays."""
-        if self.client.due_epoch(name) == epoch:
-            with contextlib.suppress(Refusal):
-                self.client.due(name, body)
+    def test_shown(self, name, epoch, body):
+        """Tests the promise of a name that is due in this epoch by the reply of its monitor. One that is not kept stays, and
+        evidence of that is told."""
+        if self.client.due_epoch(name) != epoch:
+            return
+        with contextlib.suppress(Refusal):
+            due = self.client.due(name, body)
+            if due not in (KEPT, OTHER_INDEX):
+                self.tell_evidence(due)
+                self.explain(f"promise for {name.hex()}", "it was not kept")
 
     # The end
 

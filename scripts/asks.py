@@ -573,6 +573,16 @@ def promise_and_root(epochs=1):
     return evidence_json(BrokenPromise(promise, roots[0], directory.lookup(b"a", 2).write()))
 
 
+def broken_change():
+    """The evidence of a change that was promised over epoch 2, and is not in epoch 3."""
+    directory = keyed_directory(1, ZERO32, SIGNING_KEY, VUF_KEY, SALT_KEY)
+    directory.register(b"a", b"k1")
+    directory.close(2)
+    promise = directory.change(b"a", b"k2")
+    directory.waiting.clear()
+    return evidence_json(BrokenPromise(promise, directory.close(3), directory.lookup(b"a", 3).write()))
+
+
 def final_promise_and_root():
     """The evidence of a key that was promised as final, and is shown as open."""
     directory = keyed_directory(1, ZERO32, SIGNING_KEY, VUF_KEY, SALT_KEY)
@@ -690,7 +700,7 @@ BEGUN_LINES = "register 61 6b31", "close 2", "watch 61 6b31"
 BEGUN = run_of_lines(*BEGUN_LINES)
 BEGUN_FINAL = run_of_lines("register2 61 6b31 final", "close 2", "watch2 61 6b31 final")
 WATCH_FINAL = run_of_lines("close 3", "watch2 61 6b31 final")
-IS_FINAL = "refused 25: the binding of the name on the latest page is final"
+IS_FINAL = "refused 25: the binding of the name in the latest epoch is final"
 BEGUN_LATER = run_of_lines("close 5", "close 6")
 THREE_ROOTS = [run_of_lines("close 2", "close 3"), run_of_words("history 1 64")]
 ALL_ROOTS = [BEGUN_LATER, run_of_words("history 1 64")]
@@ -704,12 +714,13 @@ PROOF_7 = "client refuses proof 7: the siblings do not lead from the root to the
 PROMISE_26 = "client refuses promise 26: the name has another index"
 NO_MEMORY, NO_EPOCH = "refused 14: out of memory", "refused 10: there is no such epoch"
 BEGINS = "state: begins at epoch 1"
-ALARM, EARLIER_ALARM = "alarm 61 3 6576", "watching 61 at epoch 3: alarm of an earlier run"
-KEPT_ALARM = "state: FILE.kept: alarm of an earlier run"
+ALARM, KEPT_ALARM = "alarm 61 3 6576", "state: FILE.kept: alarm of an earlier run for 61 at epoch 3"
+KEPT_ALARM_OF_2 = "state: FILE.kept: alarm of an earlier run for 61 at epoch 2"
 FORKED = evidence_json(RootEvidence(FORK, root_2(b"k1"), root_2(EVIL)))
 LINKED = evidence_json(RootEvidence(LINK, root_2(b"k1"), roots_of(EVIL)[1]))
 AFTER_1027 = "no root is taken after epoch 1027"
 EARLIER_EVIDENCE = "state: FILE.kept: evidence of an earlier run"
+BROKEN_CHANGE = broken_change()
 FINAL_CHANGED = "final binding of 61: it was changed"
 ROBBED_FINAL = change_in(final_directory(becomes(EVIL, None)))
 OTHERS_FINAL = change_in(others_final())
@@ -893,12 +904,12 @@ STORED_LIES = {
     "an alarm that was told": (
         lies((2, None, key_is_robbed)),
         [BEGUN, run_of_lines("close 3", "watch 61 6b31"), WATCH],
-        Ending([ALARM, "watched 61 3"], 3, [KEPT_ALARM, EARLIER_ALARM]),
+        Ending([ALARM, "watched 61 3"], 3, [KEPT_ALARM]),
     ),
     "an alarm, and new epochs": (
         lies((2, None, key_is_robbed)),
         [BEGUN, run_of_lines("close 3", "watch 61 6b31"), run_of_lines("close 4", "watch 61 6576", "watch 61 6b31")],
-        Ending(["root 4 after 3", ALARM, "kept 61 4", ALARM, "alarm 61 4 6576"], 3, [KEPT_ALARM, EARLIER_ALARM, EARLIER_ALARM]),
+        Ending(["root 4 after 3", ALARM, "kept 61 4", ALARM, "alarm 61 4 6576"], 3, [KEPT_ALARM]),
     ),
     "an alarm that is settled": (
         lies((2, None, key_is_robbed)),
@@ -930,6 +941,26 @@ STORED_LIES = {
         lies((1, "register", nothing_is_kept)),
         [run_of_lines("register 61 6b31", "close 2")],
         Ending(["promise 1", "root 2 after 1", promise_and_root()], 3, ["state: begins at epoch 1", "promise for 61: it was not kept"]),
+    ),
+    # The reply that a monitor is shown tests the promise too, and what would have tested it then may be refused.
+    "a promise that was not kept, which a monitor is shown": (
+        lies((2, "change", nothing_is_kept), (2, "lookup", memory_runs_out_but_once_for(3))),
+        [BEGUN, run_of_lines("change 61 6b32", "close 3", "watch 61 6b32")],
+        Ending(
+            ["promise 2", "root 3 after 2", "alarm 61 3 6b31", BROKEN_CHANGE, "refused 14"], 3,
+            ["promise for 61: it was not kept", NO_MEMORY]),
+    ),
+    "a promise that was not kept, which a monitor is shown, and then the client": (
+        lies((2, "change", nothing_is_kept)),
+        [BEGUN, run_of_lines("change 61 6b32", "close 3", "watch 61 6b32")],
+        Ending(
+            ["promise 2", "root 3 after 2", "alarm 61 3 6b31", BROKEN_CHANGE, BROKEN_CHANGE], 3,
+            ["promise for 61: it was not kept"] * 2),
+    ),
+    "a promise that was not kept, which a monitor is shown, and a run later": (
+        lies((2, "change", nothing_is_kept), (2, "lookup", memory_runs_out_but_once_for(3))),
+        [BEGUN, run_of_lines("change 61 6b32", "close 3", "watch 61 6b32"), SETTLE],
+        Ending([BROKEN_CHANGE, "settled 61 1"], 3, [EARLIER_EVIDENCE, KEPT_ALARM]),
     ),
     "evidence among roots that were asked for": (
         lies((2, "history", list_is_forked)),
@@ -1176,7 +1207,7 @@ STORED_LIES = {
     "an alarm of an earlier run, and no new epoch": (
         lies((2, None, key_is_robbed)),
         [BEGUN, run_of_lines("close 3", "watch 61 6b31"), run_of_words("watch 61 6b31", 3)],
-        Ending([ALARM, "watched 61 3", "stale 3"], 3, [KEPT_ALARM, EARLIER_ALARM]),
+        Ending([ALARM, "watched 61 3", "stale 3"], 3, [KEPT_ALARM]),
     ),
     "evidence of an earlier run, no reply, and no new epoch": (
         lies((2, None, directory_goes_back(1)), (3, None, nothing_comes)),
@@ -1227,12 +1258,12 @@ STORED_LIES = {
     "a policy that the owner does not expect": (
         lies(),
         [run_of_lines("register2 61 6b31 open", "close 2", "watch 61 6b31"), WATCH],
-        Ending(["alarm 61 2 6b31 open", "watched 61 2"], 3, [KEPT_ALARM, "watching 61 at epoch 2: alarm of an earlier run"]),
+        Ending(["alarm 61 2 6b31 open", "watched 61 2"], 3, [KEPT_ALARM_OF_2]),
     ),
     "another policy than the owner expects": (
         lies(),
         [run_of_lines("register2 61 6b31 open", "close 2", "watch2 61 6b31 final"), SETTLE],
-        Ending(["settled 61 1"], 0, [KEPT_ALARM]),
+        Ending(["settled 61 1"], 0, [KEPT_ALARM_OF_2]),
     ),
     "a change to a final key whose monitor was held up": (
         lies((2, "lookup", memory_runs_out_for(3))),
@@ -1274,7 +1305,7 @@ STORED_LIES = {
     "another key in the place of a final one, and a run later": (
         lies((2, None, key_is_robbed)),
         [BEGUN_FINAL, WATCH_FINAL, run_of_words("watch2 61 6b31 final")],
-        Ending([ROBBED_FINAL, ALARM, "watched 61 3"], 3, [EARLIER_EVIDENCE, KEPT_ALARM, EARLIER_ALARM]),
+        Ending([ROBBED_FINAL, ALARM, "watched 61 3"], 3, [EARLIER_EVIDENCE, KEPT_ALARM]),
     ),
     "another final key in the place of a final one": (
         lies((2, None, binding_becomes(EVIL, FINAL))),
@@ -1352,7 +1383,7 @@ STORED_LIES = {
         lies((2, None, key_is_robbed)),
         [BEGUN_FINAL, WATCH_FINAL, run_of_lines("close 4", "close 5", "lookup 61 0", "watch 61 6576")],
         Ending(
-            [ROBBED_FINAL, "root 4 after 3", "root 5 after 4", "present 5 6576", ALARM, "kept 61 4", "kept 61 5"], 3, [EARLIER_EVIDENCE, KEPT_ALARM, EARLIER_ALARM]),
+            [ROBBED_FINAL, "root 4 after 3", "root 5 after 4", "present 5 6576", ALARM, "kept 61 4", "kept 61 5"], 3, [EARLIER_EVIDENCE, KEPT_ALARM]),
     ),
     "a final key that is changed twice": (
         lies((2, None, binding_becomes(EVIL, FINAL)), (3, None, binding_becomes(b"k1", FINAL))),
@@ -1699,7 +1730,7 @@ def settled_alone(program):
         order = asking(program, f"{folder}/state", "127.0.0.1:1", "settle", "61")
         run = subprocess.run(order, capture_output=True, timeout=SECONDS)
     got = run.stdout, run.stderr.replace(os.fsencode(folder), b""), run.returncode
-    wanted = b"settled 61 1\n", b"state: /state.kept: alarm of an earlier run\n", 0
+    wanted = b"settled 61 1\n", b"state: /state.kept: alarm of an earlier run for 61 at epoch 3\n", 0
     return None if got == wanted else f"settle without a directory: {got}"
 
 

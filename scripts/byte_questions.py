@@ -145,11 +145,13 @@ def of_digests(q, rng):
         q.ask("nodes sha256", message(size, size))
     q.note("sums, up to 65,535 and past it")
     q.ask("nodes sum", b"", b"\1\2\3", b"\xff\xff", b"\xff" * 257, b"\xff" * 258, b"\xff" * 65536)
-    q.note("many texts at once, in fours and with up to three left over: the digests joined, and their number")
+    q.note("many texts at once, in eights and with up to seven left over: the digests joined, and their number")
     many = [bytes([n % 251]) * (n % 102) for n in range(300)]
-    for size in [0, 1, 2, 3, 4, 5, 6, 7, 8, 9, 300]:
+    for size in [*range(18), 300]:
         q.ask("nodes all", *many[:size])
         q.ask("nodes all-sum", *many[:size])
+    for size in range(1, 18):
+        q.ask("nodes all", *(message(k, 64) for k in range(size)))
     q.ask("nodes all", *(message(k, 64) for k in range(40)))
     q.ask("nodes all", *(message(k, 101) for k in range(41)))
     q.ask("nodes all-sum", *(u32(n) for n in range(300)))
@@ -161,6 +163,11 @@ def of_digests(q, rng):
         q.ask("nodes four", *(message(56 + (turn + lane) % 64, 64) for lane in range(4)))
     for _ in range(8):
         q.ask("nodes four", *(rng.randbytes(rng.randrange(56, 120)) for _ in range(4)))
+    q.note("and eight")
+    for turn in range(0, 64, 2):
+        q.ask("nodes eight", *(message(size, size) for size in (56 + (turn + lane) % 64 for lane in range(8))))
+    for turn in range(0, 64, 8):
+        q.ask("nodes eight", *(message(56 + (turn + lane) % 64, 64) for lane in range(8)))
     q.note("a kind, a key and a text")
     q.ask("nodes keyed", ord("K"), run(0), b"abc")
     q.ask("nodes keyed", 0, ZERO32, b"")

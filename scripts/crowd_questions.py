@@ -21,6 +21,10 @@ Once all acts are done, rounds follow each other until one finds nothing to do. 
 
 The answer says of each connection how many bytes were read of it, why it was closed (or `waiting`) and what it took; of
 more than eight their number, and a line for each. Then come the lines to the errors.
+
+`reports EVERY PLACES OPEN COUNT IDLE ACT..` is the same with a report at the end of the first round that is EVERY milliseconds
+or more after the start, and then after the round of the last report (0: never): how many sessions are open, and how many
+connections.
 """
 
 import itertools
@@ -140,7 +144,8 @@ class Connection:
 class Crowd:
     """The loop."""
 
-    def __init__(self, places, most_open, count, idle):
+    def __init__(self, report, places, most_open, count, idle):
+        self.report = self.report_at = report
         self.places, self.most_open = [None] * places, most_open
         self.left, self.idle = count or inf, idle
         self.connections, self.coming = [], 0
@@ -163,8 +168,15 @@ class Crowd:
             if not self.is_synced and not self.is_told:
                 self.errors += UNKEPT
                 self.is_told = True
+            self.tell_report()
             if (self.left == 0 or self.stopped is not None) and not any(self.places):
                 return
+
+    def tell_report(self):
+        if self.report and self.now >= self.report_at:
+            self.report_at = self.now + self.report
+            count = len(self.places) - self.places.count(None)
+            self.errors += b"report: sessions=%d connections=%d\n" % (count, count)
 
     def round(self):
         """A round, and how long the next one may wait."""
@@ -258,8 +270,8 @@ def read_act(verb, words):
     return change(words.number(MOST), words.number(MOST), read_change(verb, words))
 
 
-def answer(words):
-    crowd = Crowd(words.number(MOST), words.number(MOST), words.number(), words.number())
+def answer(words, has_reports=False):
+    crowd = Crowd(words.number() if has_reports else 0, words.number(MOST), words.number(MOST), words.number(), words.number())
     steps = []
     while words.left():
         verb = words.word()
@@ -368,6 +380,14 @@ def of_thousands(q):
         )
 
 
+def of_reports(q):
+    q.note("A report after the first round of each second, or of each hour, or never; between other lines of the errors.")
+    steps = ("at 0 come 3 at 999 give 0 1", b"a\n", "at 1000 over 0 1 at 1001 at 1999 unsynced give 1 1", b"M\n", "at 2000 at 2000 at 9000 over 0 3")
+    for every in (0, 1, 999, 1000, 1001, 3600000, 18446744073709551615):
+        q.ask("reports", every, "3 3 3 0", *steps)
+    q.ask("reports 1000 2 2 0 100 at 1000000000000000000 come 2 at 1000000000000000999 at 1000000000000001000")
+
+
 def ask_all(q):
-    for of in (of_readiness, of_cut_lines, of_full_output, of_faults, of_closings, of_thousands):
+    for of in (of_readiness, of_cut_lines, of_full_output, of_faults, of_closings, of_reports, of_thousands):
         of(q)

@@ -22,7 +22,7 @@ on. The answer is what is replied without a failure, and in each of these runs.
 `piece FRAMES` tells how many bytes of replies a piece brings to a session; where memory ran out once it was taken,
 then `14`, and how many an empty piece brings behind it.
 
-`crowd ..` answers many connections at once: see crowd_questions.py.
+`crowd ..` and `reports ..` answer many connections at once: see crowd_questions.py.
 
 `journal PIECE COUNT MESSAGE..` runs a directory over the first COUNT messages, with a journal whose writer takes at
 most PIECE bytes a call and fails at its first call, its second, and so on. What is written then is opened. The answer
@@ -262,7 +262,7 @@ class Sweeps(Lines):
     """Answers questions. The method of a verb takes the words, and gives the program of devices, piece and input."""
 
     def verb(self, subject, words):
-        if subject in ("crowd", "directory", "hub", "journal", "piece"):
+        if subject in ("crowd", "directory", "hub", "journal", "piece", "reports"):
             return getattr(self, subject)
         of = getattr(self, f"of_{subject}", None)
         if of is None:
@@ -343,6 +343,9 @@ class Sweeps(Lines):
 
     def crowd(self, words):
         return crowd_questions.answer(words)
+
+    def reports(self, words):
+        return crowd_questions.answer(words, has_reports=True)
 
     def directory(self, words):
         requests = [read_request(message[0], message[1:]) for message in words.all_bytes()]

@@ -88,15 +88,25 @@ ends "other keys" 1 "" "journal: other keys" "$folder/head" serve $other --journ
 same "a journal of other keys stays" "" "$(cmp "$journal" "$folder/whole" 2>&1)"
 
 # The keys come before the file, and the file before the address.
-ends "a bad nonce" 1 "" "bad hex" "$folder/head" serve $keys --nonce 00 --journal "$folder/bad"
-ends "a folder that is not there" 1 "" "cannot write" "$folder/head" serve $keys --journal "$folder/none/journal"
-ends "a folder" 1 "" "cannot read" "$folder/head" serve $keys --journal "$folder"
+ends "a bad nonce" 1 "" "nonce is not 64 hexadecimal digits
+bad hex" "$folder/head" serve $keys --nonce 00 --journal "$folder/bad"
+none="journal: $folder/none/journal: No such file or directory (os error 2)
+cannot write"
+ends "a folder that is not there" 1 "" "$none" "$folder/head" serve $keys --journal "$folder/none/journal"
+ends "a folder that is not there, listening" 1 "" "$none" /dev/null listen $keys --journal "$folder/none/journal" nowhere
+ends "a folder" 1 "" "journal: $folder: Is a directory (os error 21)
+cannot read" "$folder/head" serve $keys --journal "$folder"
+said=$(trap "" XFSZ; ulimit -f 0; "$program" serve $keys --journal "$folder/tight" <"$folder/head" 2>&1)
+same "a start record without room, status" 1 $?
+same "a start record without room" "journal: $folder/tight: File too large (os error 27)
+cannot write" "$said"
 ends "no address" 1 "" "journal: $count records taken
 cannot listen" /dev/null listen $keys --journal "$journal" nowhere
 got=0
 flock "$journal" "$program" serve $keys --journal "$journal" <"$folder/head" >"$folder/out" 2>"$folder/err" || got=$?
 same "a file that another holds, status" 1 "$got"
-same "a file that another holds" "cannot write" "$(cat "$folder/err")"
+same "a file that another holds" "journal: $journal: another process has it
+cannot write" "$(cat "$folder/err")"
 
 # It is locked before it is read and cut.
 head -c $((size - 1)) "$folder/whole" >"$folder/held"
@@ -109,6 +119,25 @@ got=0
 "$program" serve $keys --journal "$journal" <"$folder/head" >"$folder/out" 2>/dev/full || got=$?
 same "a line that cannot be written, status" 1 "$got"
 same "a line that cannot be written, output" "" "$(od -An -v -tx1 "$folder/out")"
+
+# An output that cannot be written is no fault of the journal, also once no record could be written.
+printf '\0\0\0\11\1\0\3zed\0\1k' >"$folder/edit"
+unheard="journal: $count records taken
+cannot write"
+for input in head edit; do
+    cp "$folder/whole" "$folder/unheard"
+    said=$("$program" serve $keys --journal "$folder/unheard" <"$folder/$input" 2>&1 >/dev/full)
+    same "an output that is full, $input, status" 1 $?
+    same "an output that is full, $input" "$unheard" "$said"
+done
+cp "$folder/whole" "$folder/unkept"
+said=$(trap "" XFSZ; ulimit -f 0; "$program" serve $keys --journal "$folder/unkept" <"$folder/edit" 2>&1 >/dev/full)
+same "a journal and an output that are full, status" 1 $?
+same "a journal and an output that are full" "$unheard" "$said"
+said=$(trap "" XFSZ; ulimit -f 0
+    "$program" serve $keys --journal "$folder/unkept" <"$folder/edit" 2>/dev/null | od -An -v -tx1 | tr -d ' \n')
+same "a journal that is full" 00000002ff13 "$said"
+same "a journal that is full stays" "" "$(cmp "$folder/unkept" "$folder/whole" 2>&1)"
 
 # Starts on the journal, where the allocation of this number fails: starts NUMBER COUNT
 starts() {

@@ -527,13 +527,20 @@ def failing(program, folder, library, number):
     server.stop()
 
 
+def told_of(journal, errors):
+    """Whether a line says what the system said of the journal, and the line behind it."""
+    said, fault = errors.split(b"\n")[-3:-1]
+    return said.startswith(f"journal: {journal}: ".encode()) and said.endswith(b")"), fault
+
+
 def unserved(program, folder, library):
     """`serve` ends where its sync fails, and writes nothing."""
     log = Log(f"{folder}/log of serve", library, 1)
-    words = [program, "serve", *keys().split(), "--journal", f"{folder}/unserved"]
+    journal = f"{folder}/unserved"
+    words = [program, "serve", *keys().split(), "--journal", journal]
     served = subprocess.run(words, input=request_frame("head"), capture_output=True, **log.how)
-    told = (served.returncode, served.stdout, served.stderr.split(b"\n")[-2])
-    if told != (1, b"", b"cannot write"):
+    told = (served.returncode, served.stdout, *told_of(journal, served.stderr))
+    if told != (1, b"", True, b"cannot write"):
         yield f"serve, whose sync fails: {told}"
     yield from wrong_order(log.calls())
 
@@ -547,8 +554,8 @@ def uncut(program, folder, library):
             file.write(data)
         log = Log(f"{folder}/log of cuts", library, FAIL_CUT="1")
         served = subprocess.run(words, input=request_frame("head"), capture_output=True, **log.how)
-        told = (served.returncode, served.stdout, served.stderr.split(b"\n")[-2])
-        if told != (1, b"", b"cannot write"):
+        told = (served.returncode, served.stdout, *told_of(journal, served.stderr))
+        if told != (1, b"", True, b"cannot write"):
             yield f"serve, which cannot cut its journal: {told}"
         with open(journal, "rb") as file:
             if file.read() != data:

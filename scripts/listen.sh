@@ -6,7 +6,7 @@
 #   scripts/listen.sh
 #
 # Takes the built programs, or those that DIRECTORYD and EXAMPLE_CLIENT name. The last line is
-# `N passed, M failed`, and the status is 0 where none failed. It takes some fifty seconds, and ends
+# `N passed, M failed`, and the status is 0 where none failed. It takes about a minute, and ends
 # after five minutes whatever happens.
 set -uo pipefail
 cd "$(dirname "$0")/.." || exit 1
@@ -115,8 +115,8 @@ starts --count 310
 # The keys come before the address, and the words before both.
 ends "an address in use" 1 "" "cannot listen" /dev/null listen $keys "$address"
 ends "no address" 1 "" "cannot listen" /dev/null listen $keys nowhere
-ends "a bad token and an address in use" 1 "" "bad hex" /dev/null listen ${keys% *} 00 "$address"
-ends "a bad nonce and an address in use" 1 "" "bad hex" /dev/null listen $keys --nonce 00 "$address"
+ends "a bad token and an address in use" 1 "" "token is not 64 hexadecimal digits" /dev/null listen ${keys% *} 00 "$address"
+ends "a bad nonce and an address in use" 1 "" "nonce is not 64 hexadecimal digits" /dev/null listen $keys --nonce 00 "$address"
 ends "a bad token and epoch 0" 2 "" \
     "error: invalid value '0' for '--epoch <E>': 0 is not in 1..18446744073709551615" \
     /dev/null listen ${keys% *} 00 --epoch 0 "$address"
@@ -239,6 +239,80 @@ for option in "" "--count 0" "--count 00"; do
     wait "$server" 2>/dev/null
     server=
 done
+
+# Reports: every second, and each has what was asked until then. One connection stays open and is silent.
+asks() {
+    scripts/send_frames.py "$address" "$@" >"$folder/seen" 2>&1
+}
+
+# Soon a report has to be this line, behind its first word: reports WHAT LINE
+reports() {
+    local got=
+    for _ in {1..100}; do
+        got=$(sed -n 's/^report: //p' "$folder/server_err" | tail -n 1)
+        [ "$got" != "$2" ] || break
+        sleep 0.05
+    done
+    same "$1" "$2" "$got"
+}
+
+# How many bytes the journal of the reports has.
+size() {
+    stat -c %s "$folder/reported"
+}
+
+register="00000009 01 0003 7a6564 0001 6b"
+close="00000029 07 ${keys##* } 0000000000000007"
+begun=$SECONDS
+starts --report 1 --journal "$folder/reported"
+exec 7<>"/dev/tcp/${address/:/\/}"
+reports "a report before anything" "epoch=1 names=0 waiting=0 requests=0 refused=0 connections=1 journal=$(size)"
+asks $register
+reports "a report on a name that waits" "epoch=1 names=1 waiting=1 requests=1 refused=0 connections=1 journal=$(size)"
+asks $close
+reports "a report on an epoch" "epoch=7 names=1 waiting=0 requests=2 refused=0 connections=1 journal=$(size)"
+asks 0000000a 02 0003 7a6564 0002 6b32 $close
+reports "a report on a change, and a refusal" "epoch=7 names=1 waiting=1 requests=4 refused=1 connections=1 journal=$(size)"
+asks 00000001 06 00000001 06 00000002 05 00
+reports "a report on a refused message" "epoch=7 names=1 waiting=1 requests=7 refused=2 connections=1 journal=$(size)"
+exec 7>&-
+reports "a report on the end of a connection" "epoch=7 names=1 waiting=1 requests=7 refused=2 connections=0 journal=$(size)"
+count=$(grep -c '^report: ' "$folder/server_err")
+most=$((SECONDS - begun + 1))
+same "a report a second: $count in $most" yes "$([ "$count" -ge 6 ] && [ "$count" -le $most ] && echo yes)"
+same "nothing but reports" "" "$(grep -v '^report: \|^journal: 0 records taken$\|^listening on ' "$folder/server_err")"
+ends_now
+
+starts --report 1
+reports "a report without a journal" "epoch=1 names=0 waiting=0 requests=0 refused=0 connections=0"
+ends_now
+
+# No record can be written, and standard error is a pipe, which nobody reads once a report says so: the server goes on.
+read_errors() {
+    local line
+    while IFS= read -r line; do
+        printf '%s\n' "$line"
+        [[ $line != *" edits=refused" ]] || return
+    done
+}
+mkfifo "$folder/errors"
+: >"$folder/server_err"
+read_errors <"$folder/errors" >"$folder/server_err" &
+reader=$!
+(trap "" XFSZ; ulimit -f 0; exec "$program" listen $keys --report 1 --journal "$folder/reported" 127.0.0.1:0) \
+    >"$folder/server_out" 2>"$folder/errors" &
+server=$!
+hears_address
+told "a record that cannot be written" "${close/%7/8}" 00000002ff13
+reports "a report on refused edits" \
+    "epoch=7 names=1 waiting=1 requests=1 refused=1 connections=0 journal=$(size) edits=refused"
+same "a line on the journal" 1 "$(grep -c '^journal: cannot write, edits are refused until a restart$' "$folder/server_err")"
+kill $reader 2>/dev/null
+wait $reader 2>/dev/null
+sleep 2.1
+well "clients of a server whose errors nobody reads" scripts/connections.py "$address" heads 3
+same "a server whose errors nobody reads goes on" yes "$(kill -0 "$server" 2>/dev/null && echo yes)"
+ends_now
 
 # A client that follows the directory and watches a name.
 starts

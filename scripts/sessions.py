@@ -113,15 +113,15 @@ class DirectoryRefusal(Refusal):
     texts = {
         4: "the name has no byte, or more than 255",
         5: "the key has no byte, or more than 2,048",
-        6: "the latest page has the name",
-        7: "the latest page lacks the name",
+        6: "the latest epoch has the name",
+        7: "the latest epoch lacks the name",
         8: "an operation on the name waits for the next epoch",
         9: "another name has the index of this one",
         10: "there is no such epoch",
         11: "the epoch is not above the latest",
         13: "no operation on the name waits",
         15: "no root is asked for, or more than 64",
-        25: "the binding of the name on the latest page is final",
+        25: "the binding of the name in the latest epoch is final",
         26: "the policy is neither open nor final",
     }
 

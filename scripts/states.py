@@ -313,10 +313,12 @@ def killed_at_times(program, seed):
 
 
 def full_disk(program, library):
-    """Calls that fail: one alone, or it and all after it, or so that half of a write is written."""
+    """Calls that fail: one alone, or it and all after it, or so that half of a write is written. A line names the file and says
+    why."""
 
     def is_end(wanted, errors, status):
-        return status in wanted and errors[-1:] == ["cannot write"]
+        is_named = any(re.fullmatch(r"state: .*: .* \(os error \d+\)", line) for line in errors[:-1])
+        return status in wanted and is_named and errors[-1:] == ["cannot write"]
 
     return at_each_call(program, library, ("once", "full", "short"), is_end)
 
@@ -565,6 +567,12 @@ def cut_finals(begun):
                 f"lookup 61 {epoch}\n".encode(), printed)
 
 
+def said_of_alarm(line):
+    """What is said of an alarm that an earlier run told, behind FILE."""
+    _, name, epoch, *_ = line.split(" ")
+    return f".kept: alarm of an earlier run for {name} at epoch {epoch}"
+
+
 def cut_lines(program):
     """A last line that was cut short is dropped."""
     for runs, cases in (KEPT_RUNS, [cut_roots, cut_kept]), (POLICY_RUNS, [cut_kept]), (FINAL_RUNS, [cut_kept, cut_finals]):
@@ -580,8 +588,8 @@ def cut_lines(program):
                 state = f"{folder}/{number}"
                 put(state, cut.roots, cut.kept)
                 # The alarms whose lines are whole are said behind that.
-                alarms = sum(line.startswith(b"alarm ") for line in cut.kept.split(b"\n")[:-1])
-                said = [*cut.said, *[".kept: alarm of an earlier run"] * alarms]
+                alarms = [line for line in cut.kept.decode().split("\n")[:-1] if line.startswith("alarm ")]
+                said = [*cut.said, *map(said_of_alarm, alarms)]
                 words = "".join(f"state: {state}{line}\n" for line in said)
                 got = done(program, state, address, cut.script), sorted_kept(bytes_of(state))
                 wanted = (cut.printed, words, 0), sorted_kept([whole, cut.kept_then])
@@ -758,7 +766,13 @@ def beginnings(program):
             yield different("the roots", 1, len(files_of(state)[0]))
             os.remove(state)
         got = done(program, f"{folder}/none/state", address, b"head\n")
-        yield different("a folder that is not there", ("", "cannot write", 1), (got[0], *got[1].splitlines()[-1:], got[2]))
+        words = f"state: {folder}/none/state: No such file or directory (os error 2)\ncannot write\n"
+        yield different("a folder that is not there", ("", words, 1), got)
+        done(program, state, address, b"head\n")
+        for name, path in ("FILE", f"{folder}/other"), ("FILE.kept", f"{state}.kept"):
+            os.mkdir(path)
+            words = f"state: {path}: Is a directory (os error 21)\ncannot read\n"
+            yield different(f"{name} is a folder", ("", words, 1), done(program, path.removesuffix(".kept"), address, b"head\n"))
     with tempfile.TemporaryDirectory() as folder:
         state, provider = f"{folder}/state", Provider(cut(1, 1))
         got = ran(program, provider, b"head\n", state), bytes_of(state)
@@ -832,7 +846,7 @@ NO_MEMORY_BEHIND_ALARM = Watched(
     POLICY_RUNS,
     ["watch2", "61", "6b31", "final", "--after=2"],
     [([], 1), (["stale 2"], 3), ([OPEN_ALARM, "stale 2"], 3), ([OPEN_ALARM, "kept 61 3"], 3)],
-    ["state: FILE.kept: alarm of an earlier run", "watching 61 at epoch 2: alarm of an earlier run"],
+    [KEPT_ALARM_OF_2],
 )
 
 

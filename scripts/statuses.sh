@@ -202,7 +202,8 @@ for name in serve listen; do
     for key in sign-key vuf-key salt-key token; do
         some=${keys/--$key $zeros/}
         given "" $name $some $address
-        ends 1 "" "bad hex"
+        ends 1 "" "$key is missing
+bad hex"
         refused "the argument '--$key <HEX>' cannot be used multiple times" $name $keys --$key $zeros $address
         refused "unexpected argument '--${key%?}' found" $name $some --${key%?} $zeros $address
     done
@@ -285,11 +286,20 @@ begins 0000000000000001 --token= --nonce=
 keys=$own
 head -n 3 "$folder/keys" >"$folder/some"
 given "" serve --keys "$folder/some"
-ends 1 "" "bad hex"
+ends 1 "" "token is missing
+bad hex"
+given "" listen --keys "$folder/some" --nonce 00 nowhere
+ends 1 "" "token is missing
+bad hex"
 given "" ask --keys "$folder/some" nowhere
-ends 1 "" "bad hex"
+ends 1 "" "provider is missing
+bad hex"
+given "" ask nowhere head
+ends 1 "" "provider is missing
+bad hex"
 given "" serve --keys "$folder/some" --token=
-ends 1 "" "bad hex"
+ends 1 "" "token is missing
+bad hex"
 given "" ask --keys "$folder/keys" --token= nowhere
 ends 1 "" "cannot connect"
 for line in "token $zeros " "token ${zeros%0}" "token  $zeros" "token" "" "token-$zeros"; do
@@ -300,13 +310,27 @@ for line in "token $zeros " "token ${zeros%0}" "token  $zeros" "token" "" "token
     ends 1 "" "bad hex"
 done
 echo "provider $ones" >"$folder/public"
-for words in "serve $keys --keys $folder/none" "ask --provider $folder/public --keys $folder nowhere" \
-    "ask --provider $folder/none nowhere" "ask --provider $ones nowhere" "ask --provider= nowhere"; do
-    given "" $words
-    ends 1 "" "cannot read"
+none="No such file or directory (os error 2)"
+given "" serve $keys --keys "$folder/none"
+ends 1 "" "keys: $folder/none: $none
+cannot read"
+given "" listen $keys --keys "$folder/none" nowhere
+ends 1 "" "keys: $folder/none: $none
+cannot read"
+given "" ask --provider "$folder/public" --keys "$folder" nowhere
+ends 1 "" "keys: $folder: Is a directory (os error 21)
+cannot read"
+for file in "$folder/none" "$ones" ""; do
+    given "" ask --provider="$file" nowhere
+    ends 1 "" "provider: $file: $none
+cannot read"
 done
 given "" ask --provider "$folder/public" --token 00 nowhere
-ends 1 "" "bad hex"
+ends 1 "" "token is not 64 hexadecimal digits
+bad hex"
+given "" ask --provider "$folder/public" --after 7 --token= nowhere head
+ends 1 "" "token is missing
+bad hex"
 for address in nowhere 127.0.0.1:1; do
     for words in "--keys $folder/keys" "--provider $folder/public" "--provider $folder/public --keys $folder/some"; do
         given "" ask $words $address head
@@ -394,11 +418,23 @@ for input in "x\n" ""; do
     ends 1 "" "bad hex"
     for key in sign-key vuf-key salt-key token; do
         given "$input" serve ${keys/--$key $zeros/--$key=${zeros:2}}
-        ends 1 "" "bad hex"
+        ends 1 "" "$key is not 64 hexadecimal digits
+bad hex"
     done
     given "$input" serve $keys --nonce a0
-    ends 1 "" "bad hex"
+    ends 1 "" "nonce is not 64 hexadecimal digits
+bad hex"
+    given "$input" serve $keys --nonce=
+    ends 1 "" "nonce is missing
+bad hex"
 done
+# The first of them that cannot be used is named.
+given "" serve
+ends 1 "" "sign-key is missing
+bad hex"
+given "" serve --nonce 00 --token 00 --salt-key $zeros --vuf-key $zeros --sign-key $zeros
+ends 1 "" "token is not 64 hexadecimal digits
+bad hex"
 
 # Faults of the items.
 given "x\n" root
@@ -453,18 +489,20 @@ full err root
 ends 1 "" ""
 full err root --nonce 00
 ends 1 "" ""
-for words in "ask --text nowhere" "ask --provider $folder/secret nowhere" "ask --keys $folder/public nowhere"; do
+for words in "ask --text nowhere" "ask --provider $folder/secret nowhere" "ask --keys $folder/public nowhere" \
+    serve "serve --keys $folder/none" "serve $keys --journal $folder" "judge --key $ones $folder/none"; do
     full err $words
     ends 1 "" ""
 done
 if [ $is_limited = yes ]; then
     python3 -c 'for k in range(200000): print(f"{k:064x} {0:064x}")' >"$folder/items"
-    for words in root "prove --index $zeros"; do
-        within 40000 "$folder/items" $words
-        ends 1 "" "out of memory"
-    done
-    within 40000 /dev/null judge --key $ones /dev/zero
+    within 20000 "$folder/items" root
     ends 1 "" "out of memory"
+    within 40000 "$folder/items" prove --index $zeros
+    ends 1 "" "out of memory"
+    within 40000 /dev/null judge --key $ones /dev/zero
+    ends 1 "" "/dev/zero: out of memory
+out of memory"
     python3 -c 'for k in range(200000): print(f"register {k:064x} 6b")' >"$folder/script"
     within 40000 "$folder/script" play
     sort -u -o "$folder/out" "$folder/out"
@@ -567,10 +605,12 @@ ends 1 "" "not an evidence file"
 given "" judge --key $ones "$folder/wide.json"
 ends 0 "evidence" ""
 
-for file in "$folder/none" "$folder"; do
-    given "" judge --key $ones "$file"
-    ends 1 "" "cannot read"
-done
+given "" judge --key $ones "$folder/none"
+ends 1 "" "$folder/none: $none
+cannot read"
+given "" judge --key $ones "$folder"
+ends 1 "" "$folder: Is a directory (os error 21)
+cannot read"
 given "" judge --key $ones /dev/null
 ends 1 "" "not an evidence file"
 full out judge --key $ones "$folder/fork.json"

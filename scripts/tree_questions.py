@@ -7,6 +7,12 @@ from formats import *
 # Trees -------------------------------------------------------------------------------------------------------
 
 
+def ask_from(q, nonce, *words):
+    """Asks for the tree of these items, and for their root without a tree."""
+    q.ask("trees from", nonce, *words)
+    q.ask("trees bare", nonce, *words)
+
+
 @subject("small trees")
 def of_small_trees(q, rng):
     low, middle, high, last = index(0), index(0x40), index(0x80), index(last=1)
@@ -16,7 +22,7 @@ def of_small_trees(q, rng):
     for i in [low, high]:
         q.ask("trees get", i)
         q.ask("trees path", i)
-    q.ask("trees from", ZERO32)
+    ask_from(q, ZERO32)
     q.ask("trees count")
     q.ask("trees more")
     q.ask("trees count")
@@ -31,20 +37,20 @@ def of_small_trees(q, rng):
         q.ask("trees path", index(0xC0))
         q.ask("trees get", i)
     q.note("an index put into a copy of a tree of one: at most 4 digests")
-    q.ask("trees from", ZERO32, low, ZERO32)
+    ask_from(q, ZERO32, low, ZERO32)
     q.ask("trees copy")
     q.ask("trees with", high, ZERO32)
     q.ask("trees count")
     q.ask("trees root")
     q.note("in any order, and with other nonces")
     for nonce in [ZERO32, run(0xA0)]:
-        q.ask("trees from", nonce, *joined((i, ZERO32) for i in (high, low, middle)))
+        ask_from(q, nonce, *joined((i, ZERO32) for i in (high, low, middle)))
         q.ask("trees count")
-        q.ask("trees from", nonce, *joined([(low, run(0x20)), (middle, run(0xA0)), (run(0xC0), run(0x40))]))
+        ask_from(q, nonce, *joined([(low, run(0x20)), (middle, run(0xA0)), (run(0xC0), run(0x40))]))
         for i in [low, middle, high, run(0xC0), index(0xFF)]:
             q.ask("trees path", i)
     q.note("an index that stands twice")
-    q.ask("trees from", ZERO32, middle, ZERO32, low, ZERO32, middle, number32(1))
+    ask_from(q, ZERO32, middle, ZERO32, low, ZERO32, middle, number32(1))
     q.ask("trees more", low, ZERO32, low, ZERO32)
     q.ask("trees root")
     q.note("many at once: how many digests, by what was there")
@@ -55,20 +61,20 @@ def of_small_trees(q, rng):
         ([0x00, 0x40], [0x20]),
         ([0x00], [0x20]), ([0x00, 0x40], [0x80, 0xC0]),
     ]:
-        q.ask("trees from", ZERO32, *joined((index(first), ZERO32) for first in old))
+        ask_from(q, ZERO32, *joined((index(first), ZERO32) for first in old))
         q.ask("trees more", *joined((index(first), number32(1)) for first in changes))
         q.ask("trees count")
         for first in changes[:1]:
             q.ask("trees get", index(first))
     q.note("the same items under another nonce: one digest for each node")
     for firsts in [[], [0x61], [0x00, 0x80], [0x00, 0x20, 0x40, 0x80, 0xC0]]:
-        q.ask("trees from", ZERO32, *joined((index(first), number32(first)) for first in firsts))
+        ask_from(q, ZERO32, *joined((index(first), number32(first)) for first in firsts))
         for nonce in [index(0x01), index(0x01), ZERO32]:
             q.ask("trees renew", nonce)
             q.ask("trees count")
             q.ask("trees path", index(0x40))
     q.note("two indices that differ in the last bit alone: 256 siblings")
-    q.ask("trees from", ZERO32, low, ZERO32)
+    ask_from(q, ZERO32, low, ZERO32)
     q.ask("trees with", last, number32(7))
     q.ask("trees count")
     for i in [low, last, index(last=2), high]:
@@ -121,12 +127,12 @@ def of_ways(q, rng):
 @subject("a tree with a leaf at each level")
 def of_tall_trees(q, rng):
     items = [(ZERO32, ZERO32)] + [(with_one(ZERO32, place), number32(place)) for place in range(256)]
-    q.ask("trees from", ZERO32, *joined(items))
+    ask_from(q, ZERO32, *joined(items))
     q.ask("trees count")
     for place in range(0, 256, 15):
         q.ask("trees path", items[place + 1][0])
     q.note("the same from one leaf, by changes of every other")
-    q.ask("trees from", ZERO32, *items[0])
+    ask_from(q, ZERO32, *items[0])
     for changes in [items[2::2], items[1::2]]:
         q.ask("trees more", *joined(changes))
         q.ask("trees count")
@@ -160,7 +166,7 @@ def of_wide_trees(q, rng):
     q.ask("trees more", *joined((i, number32(7)) for i, _ in items[3:700:25]))
     q.ask("trees count")
     q.note("a thousand")
-    q.ask("trees from", ZERO32, *joined((i, ZERO32) for i, _ in items))
+    ask_from(q, ZERO32, *joined((i, ZERO32) for i, _ in items))
     q.ask("trees count")
     for i, _ in items[5::199]:
         q.ask("trees get", i)
@@ -174,6 +180,22 @@ def of_wide_trees(q, rng):
     q.ask("trees path", items[5][0])
     q.ask("trees with", *spread_item(1002))
     q.ask("trees count")
+
+
+@subject("roots without a tree, of items that begin alike")
+def of_bare_roots(q, rng):
+    q.let("y", ZERO32)
+    q.note("pairs that differ in the last bit alone")
+    starts = [u16(number * 0x9E37 % 65536) + bytes(29) for number in range(200)]
+    q.ask("trees bare", run(0), *joined((start + bytes([bit]), ZERO32) for start in starts for bit in (0, 1)))
+    q.note("all in one prefix of 200 bits, and one beside it")
+    q.let("x", bytes(25))
+    near = [(bytes(25) + u16(number * 0x9E37 % 65536) + bytes(5), number32(number)) for number in range(600)]
+    q.ask("trees bare", run(0), *joined(near))
+    q.ask("trees bare", run(0), *joined([*near, (index(0x80), ZERO32)]))
+    q.note("as many as a row begins with, and one more")
+    for count in [255, 256, 257, 258]:
+        q.ask("trees bare", ZERO32, *joined(spread_item(number) for number in range(count)))
 
 
 def near_item(rng):

@@ -1,5 +1,5 @@
 -- What `judge` says of a file.
-use Rattle.std.specs.Prelude.{◌≡◌, ℕ, List, Option, None, Some, Result, Ok, Err, IsSome, codes}
+use Rattle.std.specs.Prelude.{◌≡◌, ℕ, List, [], Option, None, Some, Result, Ok, Err, IsSome, codes}
 use Rattle.std.specs.Io.KnownBytes.{Appends, Keeps}
 use Rattle.nodehash.specs.Sha256.{sha256}
 use Rattle.textio.specs.Digits.{hex32}
@@ -11,6 +11,7 @@ use Rattle.auditor.specs.Evidence.{IsEvidence}
 use Rattle.audits.specs.declared.judging.Verdict.{Verdict}
 use Rattle.audits.specs.declared.judging.Verdict.TheVariants as verdict
 use Rattle.audits.specs.Files.{IsFileOf}
+use Rattle.files.specs.Telling.{TellsError}
 use Rattle.vrfiface.specs.StandIns.{KeyedAccepts}
 use Rattle.sigiface.specs.StandIn.{KeyedVerifies}
 
@@ -63,3 +64,9 @@ abbrev pub JudgesAt : List ℕ → Option (List ℕ) → Result Verdict ProgramF
 JudgesAt key old (Err CannotRead) new = IsSome (hex32 key) × Keeps old new
 JudgesAt key old (Err OutOfMemory) new = IsSome (hex32 key) × Keeps old new
 JudgesAt key old result new = (file : List ℕ) × JudgesFile key file old result new
+
+-- where the file of this path cannot be read, a line may say what the system said of it
+abbrev pub TellsOfFile : List ℕ → Result Verdict ProgramFault → Option (List ℕ) → Option (List ℕ) → Type 0
+TellsOfFile path (Err CannotRead) old new = TellsError [] path old new
+TellsOfFile path (Err OutOfMemory) old new = TellsError [] path old new
+TellsOfFile path result old new = Keeps old new

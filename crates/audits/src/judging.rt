@@ -1,6 +1,6 @@
 ghost use Rattle.std.specs.Prelude.{◌≡◌};
 ghost use Rattle.nodehash.specs.Sha256.{sha256};
-ghost use Rattle.audits.specs.Verdicts.{verdict_line, verdict_status, IsVerdict, Judges, JudgesAt, JudgesFile};
+ghost use Rattle.audits.specs.Verdicts.{verdict_line, verdict_status, IsVerdict, Judges, JudgesAt, JudgesFile, TellsOfFile};
 ghost use Rattle.vrfiface.specs.StandIns.{KeyedAccepts};
 ghost use Rattle.sigiface.specs.StandIn.{KeyedVerifies};
 
@@ -8,12 +8,13 @@ use crate::orders::JudgeOrder;
 use crate::reading::read_evidence;
 use auditor::{Evidence, judge};
 use encoding::Hash32;
+use files::{read_at, tell_error};
 use nodehash::{NodeHash, Sha256Hash};
 use sigiface::{KeyedSign, Verifier};
 use std::alloc::Global;
 use std::fs::Files;
 use std::io::Write;
-use textio::{ProgramFault, file_bytes, option_hex32, write_text};
+use textio::{ProgramFault, option_hex32, write_text};
 use vrfiface::{KeyedVuf, VufCheck};
 
 /// Whether a file is evidence against a provider.
@@ -116,17 +117,24 @@ pub fn judge_file<W: Write>(
 ///
 /// # Errors
 ///
-/// `BadHex`, before the file is opened; `CannotRead` if the file cannot be opened or read; then those
-/// of `judge_file`.
-pub fn judge_at<F: Files, W: Write>(
+/// `BadHex`, before the file is opened; `CannotRead` if the file cannot be opened or read, with a line to the errors that says
+/// why; then those of `judge_file`.
+pub fn judge_at<F: Files, W: Write, E: Write>(
     alloc: Global,
     files: &F,
     order: JudgeOrder<'_>,
     writer: &mut W,
+    errors: &mut E,
 ) -> Result<Verdict, ProgramFault>
     ensures judges { JudgesAt order.entry.signing_key.now (W.contents writer.old) result (W.contents writer.new) }
+    ensures tells { TellsOfFile order.entry.file.now result (E.contents errors.old) (E.contents errors.new) }
 {
     let key = Hash32::new(option_hex32(order.signing_key)?);
-    let file = file_bytes(alloc, files, order.file)?;
-    judge_keyed(alloc, key, &file, writer)
+    match read_at(alloc, files, order.file) {
+        Ok(file) => judge_keyed(alloc, key, &file, writer),
+        Err(why) => {
+            tell_error(alloc, "", order.file, &why.error, errors);
+            Err(why.fault)
+        }
+    }
 }

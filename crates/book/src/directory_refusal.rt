@@ -16,13 +16,13 @@ pub enum Refusal {
     #[error("the policy is neither open nor final")]
     BadPolicy,
 
-    #[error("the latest page has the name")]
+    #[error("the latest epoch has the name")]
     NameTaken,
 
-    #[error("the latest page lacks the name")]
+    #[error("the latest epoch lacks the name")]
     NoSuchName,
 
-    #[error("the binding of the name on the latest page is final")]
+    #[error("the binding of the name in the latest epoch is final")]
     FinalBinding,
 
     #[error("an operation on the name waits for the next epoch")]

@@ -10,7 +10,8 @@ use Rattle.textio.specs.Digits.{hex32}
 use Rattle.textio.specs.declared.program_fault.ProgramFault.{ProgramFault}
 use Rattle.textio.specs.declared.program_fault.ProgramFault.TheVariants.{BadHex, CannotWrite}
 use Rattle.textio.specs.Faults.{IsDeviceFault}
-use Rattle.textio.specs.Output.{WritesBeginning}
+use Rattle.textio.specs.Output.{WritesBeginning, WritesSome}
+use Rattle.files.specs.Telling.{file_line, TellsError}
 use Rattle.clap.specs.Words.{Text}
 use Rattle.server.specs.DirectoryOptions.{DirectoryOptions}
 use Rattle.runs.specs.AskOptions.{AskOptions}
@@ -76,11 +77,11 @@ option_of Secret = codes "keys: "
 
 -- the line about the file of a path of which something is said
 abbrev pub complaint_line : KeysKind → Text → Text → List ℕ
-complaint_line kind path what = option_of kind ++ path ++ codes ": " ++ what ++ codes "\n"
+complaint_line kind path what = file_line (option_of kind) path what
 
--- the file cannot be read, or is no file of keys
-abbrev pub IsKeysFault : ProgramFault → Type 0
-IsKeysFault fault = (fault ≡ BadHex) ⊎ IsDeviceFault fault
+-- the file of a path is no file of keys; or it cannot be read, and a line may say what the system said of it
+abbrev pub IsNotRead : KeysKind → Text → ProgramFault → Option (List ℕ) → Option (List ℕ) → Type 0
+IsNotRead kind path fault err err-new = ((fault ≡ BadHex) × Keeps err err-new) ⊎ (IsDeviceFault fault × TellsError (option_of kind) path err err-new)
 
 -- A line is written to the errors, and this is the fault behind it; or less of the line if a write failed.
 abbrev pub TellsLine : List ℕ → ProgramFault → Option (List ℕ) → Option (List ℕ) → Type 0
@@ -88,7 +89,7 @@ TellsLine line fault err err-new = ((fault ≡ BadHex) × Appends err err-new li
 
 -- The file of a path is not taken: it cannot be read, or is no file of keys; or it is not of this kind, as a line says.
 abbrev pub RefusesFile : KeysKind → Text → ProgramFault → Option (List ℕ) → Option (List ℕ) → Type 0
-RefusesFile kind path fault err err-new = (IsKeysFault fault × Keeps err err-new)
+RefusesFile kind path fault err err-new = IsNotRead kind path fault err err-new
     ⊎ ((text what : Text) × IsKeysFile text × (complaint kind text ≡ Some what) × TellsLine (complaint_line kind path what) fault err err-new)
 
 -- so for a path that may be there
@@ -140,3 +141,37 @@ Uses kind with_text (Some path) asked used = (file : Text) × IsKeysFile file ×
 -- a file of keys is not taken, and this is what the errors get
 abbrev pub HasNoKeys : {A : Type 0} → KeysKind → Option Text → Option (List ℕ) → Option (List ℕ) → Result A ProgramFault → Type 0
 HasNoKeys kind keys err err-new outcome = (fault : ProgramFault) × (outcome ≡ Err fault) × RefusesKeys kind keys fault err err-new
+
+-- the line about the text of a key that cannot be used, where it is missing, and where it is not 64 hexadecimal digits
+abbrev pub no_key_line : List ℕ → List ℕ → Text → Option (List ℕ)
+no_key_line missing wrong [] = Some missing
+no_key_line missing wrong (byte ∷ more) = if is_some (hex32 (byte ∷ more)) then None else Some wrong
+
+-- the first line, or the other if there is none
+abbrev pub or_else : Option (List ℕ) → Option (List ℕ) → Option (List ℕ)
+or_else None other = other
+or_else (Some line) other = Some line
+
+-- the line about a text that may be left out
+abbrev pub option_line : List ℕ → List ℕ → Option Text → Option (List ℕ)
+option_line missing wrong None = None
+option_line missing wrong (Some text) = no_key_line missing wrong text
+
+-- the line about the first key of these options that cannot be used
+abbrev pub unusable_line : DirectoryOptions → Option (List ℕ)
+unusable_line asked =
+    or_else (or_else (or_else (or_else (no_key_line (codes "sign-key is missing\n") (codes "sign-key is not 64 hexadecimal digits\n") asked.signing_key)
+    (no_key_line (codes "vuf-key is missing\n") (codes "vuf-key is not 64 hexadecimal digits\n") asked.vuf_key))
+    (no_key_line (codes "salt-key is missing\n") (codes "salt-key is not 64 hexadecimal digits\n") asked.salt_key))
+    (no_key_line (codes "token is missing\n") (codes "token is not 64 hexadecimal digits\n") asked.token))
+    (option_line (codes "nonce is missing\n") (codes "nonce is not 64 hexadecimal digits\n") asked.nonce)
+
+-- the same of what is asked of a directory
+abbrev pub unusable_ask : AskOptions → Option (List ℕ)
+unusable_ask asked =
+    or_else (no_key_line (codes "provider is missing\n") (codes "provider is not 64 hexadecimal digits\n") asked.signing_key)
+    (option_line (codes "token is missing\n") (codes "token is not 64 hexadecimal digits\n") asked.token)
+
+-- such a line is told, or less of it if a write failed, and the fault comes behind it
+abbrev pub RefusesKey : List ℕ → ProgramFault → Option (List ℕ) → Option (List ℕ) → Type 0
+RefusesKey line fault err err-new = (fault ≡ BadHex) × WritesSome err err-new line

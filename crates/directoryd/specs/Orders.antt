@@ -92,6 +92,7 @@ connections_in rows = record {
   count = number_from 0 (text_in (codes "count") rows);
   sessions = number_from 1 (text_in (codes "sessions") rows);
   idle = number_from 0 (text_in (codes "idle") rows);
+  report = number_from 0 (text_in (codes "report") rows);
   until_eof = flag_in (codes "until-eof") rows;
   address = text_in (codes "address") rows;
 }

@@ -13,7 +13,7 @@ use Rattle.textio.specs.Faults.{fault_text}
 use Rattle.textio.specs.Output.{Ends, WritesBeginning}
 use Rattle.audits.specs.declared.judging.Verdict.{Verdict}
 use Rattle.audits.specs.Auditing.{AuditsText}
-use Rattle.audits.specs.Verdicts.{verdict_status, JudgesAt}
+use Rattle.audits.specs.Verdicts.{verdict_status, JudgesAt, TellsOfFile}
 use Rattle.items.specs.Prove.{Proves}
 use Rattle.items.specs.Root.{root_answer}
 use Rattle.play.specs.Beginnings.{script_index, script_salts}
@@ -26,7 +26,7 @@ use Rattle.directoryd.specs.declared.ending.Ending.{Ending}
 use Rattle.directoryd.specs.declared.refusing.TheConstants.{WRONG_WORDS}
 use Rattle.directoryd.specs.CommandLine.{status_of, RefusesWords}
 use Rattle.directoryd.specs.Orders.{AskTextValues, IsTask, Task, the_root, the_path, the_audit, the_verdict, the_script, the_session, the_connections, the_questions}
-use Rattle.directoryd.specs.KeyFiles.{ask_with, directory_with, provided, HasNoKeys, Uses}
+use Rattle.directoryd.specs.KeyFiles.{ask_with, directory_with, unusable_ask, unusable_line, provided, HasNoKeys, RefusesKey, Uses}
 use Rattle.directoryd.specs.TextNames.{has_last, lacks_command, texted}
 use Rattle.directoryd.specs.declared.keys.KeysKind.TheVariants.{Public, Secret}
 use Rattle.server.specs.ConnectionOptions.{ConnectionOptions}
@@ -80,17 +80,27 @@ Prints status text old new (Err OtherKeys) = ⊥
 Prints status text old new (Err CannotRead) = ⊥
 Prints status text old new (Err CannotListen) = ⊥
 
+-- a session is served, or a line says which key cannot be used
+abbrev pub ServesUsed : Option (List ℕ) → DirectoryOptions → Option (List ℕ) → Option (List ℕ) → Option (List ℕ) → Result (Unit {0}) ProgramFault → Option (List ℕ) → Option (List ℕ) → Option (List ℕ) → Type 0
+ServesUsed (Some line) used input out err result left out-new err-new = (fault : ProgramFault) × (result ≡ Err fault) × RefusesKey line fault err err-new × Keeps out out-new
+ServesUsed None used input out err result left out-new err-new = DirectoryServes used input out err result left out-new err-new
+
 -- a session is served with the keys that are used, or they are not taken
 abbrev pub ServesKeyed : DirectoryOptions → Option Text → Option (List ℕ) → Option (List ℕ) → Option (List ℕ) → Option (List ℕ) → Option (List ℕ) → Result (Unit {0}) ProgramFault → Type 0
 ServesKeyed asked keys input out out-new err err-new result =
     (HasNoKeys Secret keys err err-new result × Keeps out out-new)
-    ⊎ ((used : DirectoryOptions) × (left : Option (List ℕ)) × Uses Secret directory_with keys asked used × DirectoryServes used input out err result left out-new err-new)
+    ⊎ ((used : DirectoryOptions) × (left : Option (List ℕ)) × Uses Secret directory_with keys asked used × ServesUsed (unusable_line used) used input out err result left out-new err-new)
+
+-- connections are answered, or a line says which key cannot be used
+abbrev pub ListensUsed : Option (List ℕ) → DirectoryOptions → ConnectionOptions → Option (List ℕ) → Result (Unit {0}) ProgramFault → Option (List ℕ) → Type 0
+ListensUsed (Some line) used taken err result err-new = (fault : ProgramFault) × (result ≡ Err fault) × RefusesKey line fault err err-new
+ListensUsed None used taken err result err-new = ListenTells used taken err result err-new
 
 -- connections are answered with them, as ordered
 abbrev pub ListensKeyed : DirectoryOptions → ConnectionOptions → Option Text → Option (List ℕ) → Option (List ℕ) → Result (Unit {0}) ProgramFault → Type 0
 ListensKeyed asked taken keys err err-new result =
     HasNoKeys Secret keys err err-new result
-    ⊎ ((used : DirectoryOptions) × Uses Secret directory_with keys asked used × ((result ≡ Err BadHex) ↔ (keys_of used ≡ None)) × ListenTells used taken err result err-new)
+    ⊎ ((used : DirectoryOptions) × Uses Secret directory_with keys asked used × ((result ≡ Err BadHex) ↔ (keys_of used ≡ None)) × ListensUsed (unusable_line used) used taken err result err-new)
 
 -- the line about a name that is to be text where the lines of the input are asked
 abbrev pub no_command : List ℕ
@@ -106,15 +116,20 @@ wrong_line asked texts =
     if texts.is_text && lacks_command asked.words then Some no_command
     else (if is_some asked.after && not (has_last asked.words) then Some no_last else None)
 
+-- a directory is asked, or a line says which key cannot be used
+abbrev pub AsksUsed : Type 0 → Option (List ℕ) → AskOptions → Option (List ℕ) → Option (List ℕ) → Option (List ℕ) → Option (List ℕ) → Option (List ℕ) → Result ℕ ProgramFault → Type 0
+AsksUsed Clock (Some line) used input out out-new err err-new outcome = (fault : ProgramFault) × (outcome ≡ Err fault) × RefusesKey line fault err err-new × Keeps out out-new
+AsksUsed Clock None used input out out-new err err-new outcome = (outcome ≡ Err BadHex → Keeps out out-new × Keeps err err-new)
+    × IfErr outcome (λ fault. (fault ≡ BadHex) ⊎ IsRunFault used input fault) × Grows out out-new
+    × IfOk outcome (λ status. AsksOverSocket Clock used input status out out-new) × IfErr outcome (λ fault. FailsOverSocket Clock used input fault out out-new)
+
 -- a directory is asked with the keys that are used, or they are not taken: a text that is no key is a fault before all else
 abbrev pub AsksFrom : Type 0 → AskOptions → AskTextValues → Option (List ℕ) → Option (List ℕ) → Option (List ℕ) → Option (List ℕ) → Option (List ℕ) → Result ℕ ProgramFault → Type 0
 AsksFrom Clock asked texts input out out-new err err-new outcome =
     (HasNoKeys Public texts.provider err err-new outcome × Keeps out out-new)
     ⊎ ((HasNoKeys Secret texts.keys err err-new outcome × Keeps out out-new)
     ⊎ ((public used : AskOptions) × Uses Public provided texts.provider asked public × Uses Secret ask_with texts.keys public used
-    × ((outcome ≡ Err BadHex) ↔ (ask_keys_of used ≡ None)) × (outcome ≡ Err BadHex → Keeps out out-new × Keeps err err-new)
-    × IfErr outcome (λ fault. (fault ≡ BadHex) ⊎ IsRunFault used input fault) × Grows out out-new
-    × IfOk outcome (λ status. AsksOverSocket Clock used input status out out-new) × IfErr outcome (λ fault. FailsOverSocket Clock used input fault out out-new)))
+    × ((outcome ≡ Err BadHex) ↔ (ask_keys_of used ≡ None)) × AsksUsed Clock (unusable_ask used) used input out out-new err err-new outcome))
 
 -- such a line is told
 abbrev pub RefusesLine : List ℕ → Option (List ℕ) → Option (List ℕ) → Option (List ℕ) → Option (List ℕ) → Result ℕ ProgramFault → Type 0
@@ -138,8 +153,8 @@ Obeys Clock (the_root asked) input out out-new err err-new outcome = EndsWithSta
 Obeys Clock (the_path index asked) input out out-new err err-new outcome = EndsWithStatus 0 (Proves asked.hash (hex32_or_zeros asked.nonce) (hex32 index)) input out out-new outcome × Keeps err err-new
 Obeys Clock (the_audit key) input out out-new err err-new outcome = IsZero outcome × Keeps err err-new
     × (left : Option (List ℕ)) × AuditsText key input left out (without_status outcome) out-new
-Obeys Clock (the_verdict key file) input out out-new err err-new outcome = Keeps err err-new
-    × (verdict : Result Verdict ProgramFault) × (outcome ≡ verdict_outcome verdict) × JudgesAt key out verdict out-new
+Obeys Clock (the_verdict key file) input out out-new err err-new outcome =
+    (verdict : Result Verdict ProgramFault) × (outcome ≡ verdict_outcome verdict) × JudgesAt key out verdict out-new × TellsOfFile file verdict err err-new
 Obeys Clock the_script input out out-new err err-new outcome = IsZero outcome × Keeps err err-new
     × PlaysTo (printed script_index script_salts) input out out-new (without_status outcome)
 Obeys Clock (the_session asked keys) input out out-new err err-new outcome = IsZero outcome

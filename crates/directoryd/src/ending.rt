@@ -4,7 +4,7 @@
 ghost use Rattle.std.specs.Prelude.{◌≡◌, map, Result};
 ghost use Rattle.textio.specs.declared.program_fault.ProgramFault.{ProgramFault};
 ghost use Rattle.audits.specs.declared.judging.Verdict.{Verdict};
-ghost use Rattle.audits.specs.Verdicts.{JudgesAt};
+ghost use Rattle.audits.specs.Verdicts.{JudgesAt, TellsOfFile};
 ghost use Rattle.directoryd.specs.Orders.{values_in};
 ghost use Rattle.directoryd.specs.Programs.{verdict_outcome, with_zero, EndsAs, Obeys, RunsProgram, StartsProgram};
 
@@ -30,16 +30,18 @@ pub struct Ending {
 }
 
 /// Judges the file of an order, and answers the status of the verdict.
-fn judge<F: Files, W: Write>(
+fn judge<F: Files, W: Write, E: Write>(
     alloc: Global,
     files: &F,
     order: JudgeOrder<'_>,
     writer: &mut W,
+    errors: &mut E,
 ) -> Result<u8, ProgramFault>
     ensures { (verdict : Result Verdict ProgramFault) × (result ≡ verdict_outcome verdict)
-        × JudgesAt order.entry.signing_key.now (W.contents writer.old) verdict (W.contents writer.new) }
+        × JudgesAt order.entry.signing_key.now (W.contents writer.old) verdict (W.contents writer.new)
+        × TellsOfFile order.entry.file.now verdict (E.contents errors.old) (E.contents errors.new) }
 {
-    match judge_at(alloc, files, order, writer) {
+    match judge_at(alloc, files, order, writer, errors) {
         Ok(verdict) => Ok(verdict.status()),
         Err(fault) => Err(fault),
     }
@@ -76,7 +78,7 @@ where
         Order::Root(order) => done(root(alloc, order, reader, writer)),
         Order::Prove(order) => done(prove(alloc, order, reader, writer)),
         Order::Audit(order) => done(audit(alloc, order, reader, writer)),
-        Order::Judge(order) => judge(alloc, system, order, writer),
+        Order::Judge(order) => judge(alloc, system, order, writer, errors),
         Order::Play => done(play(alloc, reader, writer)),
         Order::Serve(order, keys) => done(serve_keyed(
             alloc, system, order, keys, reader, writer, errors,

@@ -10,6 +10,7 @@ use crate::keys::{KeysKind, ask_with, directory_with, keys_at, listen_with, prov
 use crate::naming::{digits_of, with_digits};
 use crate::order::AskTexts;
 use crate::refusing::{refuse_line, wrong_line};
+use crate::unusable::{refuse_key, unusable_ask, unusable_line};
 use crate::{ask, listen, serve_directory};
 use runs::AskOrder;
 use server::{DirectoryOrder, ListenOrder};
@@ -41,7 +42,10 @@ where
     match keys_at(alloc, files, KeysKind::Secret, keys, errors) {
         Ok(file) => {
             let order = directory_with(order, file.as_str());
-            serve_directory(alloc, files, order, reader, writer, errors)
+            match unusable_line(&order) {
+                Some(line) => Err(refuse_key(line, errors)),
+                None => serve_directory(alloc, files, order, reader, writer, errors),
+            }
         }
         Err(fault) => Err(fault),
     }
@@ -65,7 +69,10 @@ where
     match keys_at(alloc, system, KeysKind::Secret, keys, errors) {
         Ok(file) => {
             let order = listen_with(order, file.as_str());
-            listen(alloc, system, order, input, errors)
+            match unusable_line(&order.directory) {
+                Some(line) => Err(refuse_key(line, errors)),
+                None => listen(alloc, system, order, input, errors),
+            }
         }
         Err(fault) => Err(fault),
     }
@@ -127,7 +134,10 @@ where
     match keys_at(alloc, system, KeysKind::Secret, texts.keys, errors) {
         Ok(file) => {
             let order = ask_with(order, file.as_str());
-            ask(alloc, system, order, reader, writer, errors)
+            match unusable_ask(&order) {
+                Some(line) => Err(refuse_key(line, errors)),
+                None => ask(alloc, system, order, reader, writer, errors),
+            }
         }
         Err(fault) => Err(fault),
     }

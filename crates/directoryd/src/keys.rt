@@ -5,15 +5,16 @@ ghost use Rattle.std.specs.Prelude.{◌≡◌, ◌⊎◌, Decides, IfErr, IfOk, 
 ghost use Rattle.std.specs.Io.KnownBytes.{Keeps};
 ghost use Rattle.runs.specs.AskOptions.{ask_values};
 ghost use Rattle.server.specs.DirectoryOptions.{directory_values};
-ghost use Rattle.directoryd.specs.KeyFiles.{HasKeyLines, IsKeysFault, IsKeysFile, IsKeysText, RefusesFile, RefusesKeys, TellsLine, ask_with, complaint, complaint_line, directory_with, gives, has_secrets, is_key_line, key_in, name_in, option_of, option_or, provided, text_or, value_in};
+ghost use Rattle.directoryd.specs.KeyFiles.{HasKeyLines, IsKeysFile, IsKeysText, IsNotRead, RefusesFile, RefusesKeys, TellsLine, ask_with, complaint, complaint_line, directory_with, gives, has_secrets, is_key_line, key_in, name_in, option_of, option_or, provided, text_or, value_in};
 ghost use Rattle.server.specs.ConnectionOptions.{connections_of};
 
+use files::{file_line, read_at, tell_error};
 use runs::AskOrder;
 use server::{DirectoryOrder, ListenOrder};
 use std::alloc::{AllocError, Global};
 use std::fs::Files;
 use std::io::Write;
-use textio::{ProgramFault, file_bytes, hex32, write_text};
+use textio::{ProgramFault, hex32, write_text};
 
 /// Which keys a file has to have.
 #[derive(Clone, Copy)]
@@ -86,18 +87,29 @@ fn keys_text(alloc: Global, bytes: &[u8]) -> Result<String, ProgramFault>
     }
 }
 
-/// The text of the file of this path.
+/// The text of the file of this path, which an option of this kind has. Where it cannot be read, a line says why.
 ///
 /// # Errors
 ///
 /// `CannotRead` and `OutOfMemory`; `BadHex` if a line is not an option's name, a space and 64 hexadecimal
 /// digits.
-fn text_at<F: Files>(alloc: Global, files: &F, path: &str) -> Result<String, ProgramFault>
-    ensures { MatchResult result (λ text. IsKeysFile (string_bytes text)) IsKeysFault }
+fn text_at<F: Files, E: Write>(
+    alloc: Global,
+    files: &F,
+    kind: KeysKind,
+    path: &str,
+    errors: &mut E,
+) -> Result<String, ProgramFault>
+    ensures ok { IfOk result (λ text. IsKeysFile (string_bytes text)) }
+    ensures still { OnOk result (errors.new ≡ errors.old) }
+    ensures err { IfErr result (λ fault. IsNotRead kind path.now fault (E.contents errors.old) (E.contents errors.new)) }
 {
-    match file_bytes(alloc, files, path) {
+    match read_at(alloc, files, path) {
         Ok(bytes) => keys_text(alloc, &bytes),
-        Err(fault) => Err(fault),
+        Err(why) => {
+            tell_error(alloc, kind.option(), path, &why.error, errors);
+            Err(why.fault)
+        }
     }
 }
 
@@ -134,12 +146,7 @@ fn complaint_line(
 ) -> Result<Vec<u8>, AllocError>
     ensures { IfOk result (λ line. line.items ≡ complaint_line kind path.now what.now) }
 {
-    let mut line = Vec::from_slice(alloc, kind.option().as_bytes())?;
-    line.extend_from_slice(path.as_bytes())?;
-    line.extend_from_slice(b": ")?;
-    line.extend_from_slice(what.as_bytes())?;
-    line.push(b'\n')?;
-    Ok(line)
+    file_line(alloc, kind.option(), path, what)
 }
 
 /// Says what is wrong with the file of a path. Returns the fault that is told behind it.
@@ -174,7 +181,7 @@ fn text_of_kind<F: Files, E: Write>(
     ensures still { OnOk result (errors.new ≡ errors.old) }
     ensures err { IfErr result (λ fault. RefusesFile kind path.now fault (E.contents errors.old) (E.contents errors.new)) }
 {
-    let text = text_at(alloc, files, path)?;
+    let text = text_at(alloc, files, kind, path, errors)?;
     match complaint(kind, text.as_str()) {
         Some(what) => Err(complain(alloc, kind, path, what, errors)),
         None => Ok(text),
@@ -265,6 +272,7 @@ pub(crate) fn listen_with<'a>(order: ListenOrder<'a>, file: &'a str) -> ListenOr
         count: order.count,
         sessions: order.sessions,
         idle: order.idle,
+        report: order.report,
         until_eof: order.until_eof,
         address: order.address,
     }

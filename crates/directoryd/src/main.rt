@@ -9,6 +9,7 @@ mod naming;
 mod order;
 mod refusing;
 mod streams;
+mod unusable;
 
 pub use audits::{audit, evidence_json, judge_at, judge_file, read_evidence};
 pub use ending::{Ending, end};

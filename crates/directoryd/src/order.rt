@@ -204,6 +204,7 @@ fn listen_order<'a>(found: &ArgMatches<'a>) -> Order<'a>
         count: number(found, "count", 0),
         sessions: number(found, "sessions", 1),
         idle: number(found, "idle", 0),
+        report: number(found, "report", 0),
         until_eof: flag(found, "until-eof"),
         address: text(found, "address"),
     };

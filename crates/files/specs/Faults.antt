@@ -3,7 +3,7 @@ use Rattle.std.specs.Prelude.{⊤}
 use Rattle.textio.specs.declared.program_fault.ProgramFault.{ProgramFault}
 use Rattle.textio.specs.declared.program_fault.ProgramFault.TheVariants.{BadHex, BadItem, IndexRepeated, NotACommand, NotEvidence, BadRecord, OtherKeys, CannotRead, CannotWrite, CannotListen, OutOfMemory}
 use Rattle.files.specs.declared.opening.LockFault.{LockFault}
-use Rattle.files.specs.declared.opening.LockFault.TheVariants.{Taken, Program}
+use Rattle.files.specs.declared.opening.LockFault.TheVariants.{Taken, File}
 
 -- a read, a write or memory failed
 abbrev pub IsSystemFault : ProgramFault → Type 0
@@ -22,4 +22,4 @@ IsSystemFault OutOfMemory = ⊤
 -- another process has the file, or the system failed
 abbrev pub IsLockFault : LockFault → Type 0
 IsLockFault Taken = ⊤
-IsLockFault (Program fault) = IsSystemFault fault
+IsLockFault (File why) = IsSystemFault why.fault

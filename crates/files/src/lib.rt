@@ -5,15 +5,23 @@
 //! and `scripts/journal.sh` and `scripts/states.py` show the rest.
 //!
 //! ```text
-//! let Ok(mut file) = open_locked(system, path) else {
-//!     return Err(ProgramFault::CannotWrite);
+//! let mut file = match open_locked(system, path) {
+//!     Ok(file) => file,
+//!     Err(LockFault::Taken) => return Err(ProgramFault::CannotWrite),
+//!     Err(LockFault::File(why)) => return Err(why.fault),
 //! };
 //! append(&mut file, b"a line\n")?;
 //! ```
 #![tactic(auto)]
 
+mod file_fault;
 mod opening;
+mod reading;
+mod telling;
 mod writing;
 
+pub use file_fault::FileFault;
 pub use opening::{LockFault, open_existing, open_kept, open_locked};
+pub use reading::{read_at, read_rest};
+pub use telling::{error_line, file_line, tell_error};
 pub use writing::{append, cut, replace};

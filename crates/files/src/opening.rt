@@ -4,6 +4,7 @@ ghost use Rattle.std.specs.Prelude.{◌≡◌, true, IfErr, Some};
 ghost use Rattle.files.specs.Faults.{IsLockFault, IsSystemFault};
 ghost use Rattle.files.specs.Folders.{folder_of, or_here};
 
+use crate::FileFault;
 use std::fs::{File, Files, OpenOptions, TryLockError};
 use std::io::{self, ErrorKind, Read};
 use std::os::unix::fs::OpenOptionsExt;
@@ -15,13 +16,13 @@ use thiserror::Error;
 pub(crate) const OWNER_ALONE: u32 = 0o600;
 
 /// Why a file could not be opened and locked.
-#[derive(Clone, Copy, Debug, PartialEq, Eq, Error)]
+#[derive(Clone, Copy, Debug, Error)]
 pub enum LockFault {
     /// Another process has it.
     #[error("another process has the file")]
     Taken,
     #[error("{0}")]
-    Program(ProgramFault),
+    File(FileFault),
 }
 
 /// Whether a file that is there can be read.
@@ -43,6 +44,16 @@ fn fault_of<F: Files<File = File>>(files: &F, path: &str, error: &io::Error) -> 
     match read_byte(files, path) {
         Ok(_) => ProgramFault::CannotWrite,
         Err(error) => file_fault(&error),
+    }
+}
+
+/// The same, with what the system said.
+fn unopened<F: Files<File = File>>(files: &F, path: &str, error: io::Error) -> FileFault
+    ensures { IsSystemFault result.fault }
+{
+    FileFault {
+        fault: fault_of(files, path, &error),
+        error,
     }
 }
 
@@ -70,16 +81,12 @@ pub(crate) fn sync_folder<F: Files<File = File>>(files: &F, path: &str) -> io::R
 
 /// A file whose entry is on the disk of its folder. That of one that is not new may not be: whoever made it, or had it take
 /// the place of another, may have been stopped before.
-fn with_entry<F: Files<File = File>>(
-    files: &F,
-    path: &str,
-    file: File,
-) -> Result<File, ProgramFault>
-    ensures { IfErr result IsSystemFault }
+fn with_entry<F: Files<File = File>>(files: &F, path: &str, file: File) -> Result<File, FileFault>
+    ensures { IfErr result (λ why. IsSystemFault why.fault) }
 {
     match sync_folder(files, path) {
         Ok(()) => Ok(file),
-        Err(_) => Err(ProgramFault::CannotWrite),
+        Err(error) => Err(FileFault::unwritten(error)),
     }
 }
 
@@ -103,14 +110,14 @@ fn options() -> OpenOptions
 pub fn open_existing<F: Files<File = File>>(
     files: &F,
     path: &str,
-) -> Result<Option<File>, ProgramFault>
-    ensures { IfErr result IsSystemFault }
+) -> Result<Option<File>, FileFault>
+    ensures { IfErr result (λ why. IsSystemFault why.fault) }
 {
     match options().open(files, path) {
         Ok(file) => Ok(Some(with_entry(files, path, file)?)),
         Err(error) => match error.kind() {
             ErrorKind::NotFound => Ok(None),
-            _ => Err(fault_of(files, path, &error)),
+            _ => Err(unopened(files, path, error)),
         },
     }
 }
@@ -121,14 +128,14 @@ pub fn open_existing<F: Files<File = File>>(
 /// # Errors
 ///
 /// `CannotRead`: it is there and cannot be read; `CannotWrite`; `OutOfMemory`.
-pub fn open_kept<F: Files<File = File>>(files: &F, path: &str) -> Result<File, ProgramFault>
-    ensures { IfErr result IsSystemFault }
+pub fn open_kept<F: Files<File = File>>(files: &F, path: &str) -> Result<File, FileFault>
+    ensures { IfErr result (λ why. IsSystemFault why.fault) }
 {
     let mut options = options();
     options.create(true);
     match options.open(files, path) {
         Ok(file) => with_entry(files, path, file),
-        Err(error) => Err(fault_of(files, path, &error)),
+        Err(error) => Err(unopened(files, path, error)),
     }
 }
 
@@ -142,11 +149,11 @@ pub fn open_locked<F: Files<File = File>>(files: &F, path: &str) -> Result<File,
 {
     let file = match open_kept(files, path) {
         Ok(file) => file,
-        Err(fault) => return Err(LockFault::Program(fault)),
+        Err(why) => return Err(LockFault::File(why)),
     };
     match file.try_lock() {
         Ok(()) => Ok(file),
         Err(TryLockError::WouldBlock) => Err(LockFault::Taken),
-        Err(TryLockError::Error(_)) => Err(LockFault::Program(ProgramFault::CannotWrite)),
+        Err(TryLockError::Error(error)) => Err(LockFault::File(FileFault::unwritten(error))),
     }
 }

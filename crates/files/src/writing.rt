@@ -2,20 +2,20 @@
 ghost use Rattle.std.specs.Prelude.{◌≡◌, ◌⊎◌, IfErr};
 ghost use Rattle.textio.specs.declared.program_fault.ProgramFault.TheVariants.{CannotWrite, OutOfMemory};
 
+use crate::FileFault;
 use crate::opening::{OWNER_ALONE, sync_folder};
 use std::alloc::Global;
 use std::fs::{self, File, Files, OpenOptions};
 use std::io::{self, ErrorKind, Write};
 use std::os::unix::fs::OpenOptionsExt;
-use textio::{ProgramFault, write_text};
 
 /// `CannotWrite`, if the system could not do what was asked.
-fn written(outcome: &io::Result<()>) -> Result<(), ProgramFault>
-    ensures { IfErr result (λ fault. fault ≡ CannotWrite) }
+fn written(outcome: io::Result<()>) -> Result<(), FileFault>
+    ensures { IfErr result (λ why. why.fault ≡ CannotWrite) }
 {
     match outcome {
         Ok(()) => Ok(()),
-        Err(_) => Err(ProgramFault::CannotWrite),
+        Err(error) => Err(FileFault::unwritten(error)),
     }
 }
 
@@ -24,14 +24,16 @@ fn written(outcome: &io::Result<()>) -> Result<(), ProgramFault>
 /// # Errors
 ///
 /// `CannotWrite`: a beginning of the bytes may be written.
-pub fn append(file: &mut File, bytes: &[u8]) -> Result<(), ProgramFault>
-    ensures { IfErr result (λ fault. fault ≡ CannotWrite) }
+pub fn append(file: &mut File, bytes: &[u8]) -> Result<(), FileFault>
+    ensures { IfErr result (λ why. why.fault ≡ CannotWrite) }
 {
     if bytes.is_empty() {
         return Ok(());
     }
-    write_text(file, bytes)?;
-    written(&file.sync_data())
+    match file.write_all(bytes) {
+        Ok(()) => written(file.sync_data()),
+        Err(error) => Err(FileFault::unwritten(error)),
+    }
 }
 
 /// Cuts a file to its first bytes, of this number.
@@ -39,10 +41,10 @@ pub fn append(file: &mut File, bytes: &[u8]) -> Result<(), ProgramFault>
 /// # Errors
 ///
 /// `CannotWrite`.
-pub fn cut(file: &File, size: usize) -> Result<(), ProgramFault>
-    ensures { IfErr result (λ fault. fault ≡ CannotWrite) }
+pub fn cut(file: &File, size: usize) -> Result<(), FileFault>
+    ensures { IfErr result (λ why. why.fault ≡ CannotWrite) }
 {
-    written(&file.set_len(size as u64))
+    written(file.set_len(size as u64))
 }
 
 /// Has the file of this path hold these bytes, by a new file with `.new` behind its name that takes its place and has
@@ -56,18 +58,18 @@ pub fn replace<F: Files<File = File>>(
     files: &F,
     path: &str,
     bytes: &[u8],
-) -> Result<(), ProgramFault>
-    ensures { IfErr result (λ fault. (fault ≡ CannotWrite) ⊎ (fault ≡ OutOfMemory)) }
+) -> Result<(), FileFault>
+    ensures { IfErr result (λ why. (why.fault ≡ CannotWrite) ⊎ (why.fault ≡ OutOfMemory)) }
 {
     let beside = format!(in alloc; "{path}.new")?;
     // A run that was stopped may have left one.
     let _removed = fs::remove_file(files, beside.as_str());
     match write_new(files, path, beside.as_str(), bytes) {
         Ok(()) => Ok(()),
-        Err(_) => {
+        Err(error) => {
             // It would take room on a disk that is full.
             let _removed = fs::remove_file(files, beside.as_str());
-            Err(ProgramFault::CannotWrite)
+            Err(FileFault::unwritten(error))
         }
     }
 }

@@ -83,7 +83,7 @@ module _ (hash : List ℕ → List ℕ) (accepted verified : List ℕ → List �
       takes = λ before after (frame, asks, (updates, monitors), same, above, finals) is. of-updated hash verified key frame.body before.client after.client updates is;
       stops = λ before after may (head, at, frame, exchange, told, stops, tells, finals) is. stopped-own before.client after.client before.monitors frame told after.monitors (asks_roots head) stops is;
       tests = λ before name kept after asks is. same-own before.client after.client (shown-chain hash accepted verified before.client name (Query (Lookup name asks.epoch)) asks.frame kept asks.told after.client asks.shows) is;
-      steps = λ before place went after asks is. same-own before.client after.client (step-chain hash accepted verified before.client asks.monitor.name asks.epoch (Query (Lookup asks.monitor.name asks.epoch)) asks.frame asks.told after.client asks.client) is;
+      steps = λ before place went after asks is. same-own before.client after.client (step-chain hash accepted verified before.client asks.monitor.name asks.epoch (Query (Lookup asks.monitor.name asks.epoch)) asks.frame asks.told asks.found after.client asks.client) is;
       joins = λ before key promised name given first monitor may unwatched joined is. is;
       hears = λ before after held asked frame heard told hears says monitors is. same-own before.client after.client (frame-chain hash accepted verified held before.client after.client asked frame heard hears) is;
       hands = λ before after held asked frame noted noted' hears notes may is. same-own before.client after.client (frame-chain hash accepted verified held before.client after.client asked frame hears.told hears.hears) is;

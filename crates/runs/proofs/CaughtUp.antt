@@ -25,7 +25,7 @@ module _ {T : Type 0} (hash : List ℕ → List ℕ) (accepted verified : List �
   once-chain : (before : Scene T) (place : ℕ) (went : Bool) (after : Scene T) → StepsOnce hash accepted exchanged before place went after → SameChain before after
   once-chain before place went after (inl (none, not, same)) = alike before after same
   once-chain before place went after (inr (inl (found, not, same))) = alike before after same
-  once-chain before place went after (inr (inr asks)) = step-chain hash accepted verified before.client asks.monitor.name asks.epoch (Query (Lookup asks.monitor.name asks.epoch)) asks.frame asks.told after.client asks.client
+  once-chain before place went after (inr (inr asks)) = step-chain hash accepted verified before.client asks.monitor.name asks.epoch (Query (Lookup asks.monitor.name asks.epoch)) asks.frame asks.told asks.found after.client asks.client
 
   through-chain : (count : ℕ) (before : Scene T) (place : ℕ) (after : Scene T) → StepsThrough hash accepted exchanged count before place after → SameChain before after
   through-chain zero before place after steps = once-chain before place false after steps

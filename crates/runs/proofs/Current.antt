@@ -150,7 +150,7 @@ module _ (hash : List ℕ → List ℕ) (accepted verified : List ℕ → List �
     stops = λ before after may stops. absurd may;
     tests = λ before name kept after asks.
         stays-on before after (shown-chain hash accepted verified before.client name (Query (Lookup name asks.epoch)) asks.frame kept asks.told after.client asks.shows) asks.monitors (owned.tests before name kept after asks);
-    steps = λ before place went after asks. goes-on before after (step-chain hash accepted verified before.client asks.monitor.name asks.epoch (Query (Lookup asks.monitor.name asks.epoch)) asks.frame asks.told after.client asks.client) (owned.steps before place went after asks) (λ owns current.
+    steps = λ before place went after asks. goes-on before after (step-chain hash accepted verified before.client asks.monitor.name asks.epoch (Query (Lookup asks.monitor.name asks.epoch)) asks.frame asks.told asks.found after.client asks.client) (owned.steps before place went after asks) (λ owns current.
         subst (AllByRecursion (IsCurrent key before.client.chain)) (sym asks.monitors) (all-set (IsCurrent key before.client.chain) before.monitors place asks.watched current
         (shown-current hash accepted verified key before.client.chain asks.monitor asks.epoch (Query (Lookup asks.monitor.name asks.epoch)) asks.frame went asks.told asks.watched asks.shows (all-at (IsCurrent key before.client.chain) before.monitors place asks.monitor current asks.at))));
     joins = λ before joins promised name given first monitor may is joined. goes-on before (record before { monitors = before.monitors ++ monitor ∷ [] }) refl (owned.joins before joins promised name given first monitor may.1 is joined) (λ owns current.

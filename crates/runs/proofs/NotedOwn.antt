@@ -156,7 +156,7 @@ module _ (hash : List ℕ → List ℕ) (accepted verified : List ℕ → List �
       takes = λ before after (frame, asks, (updates, monitors), same, above, finals). updated_key hash verified before.client after.client frame.body updates;
       stops = λ before after may (head, is, frame, exchange, told, stops, tells, finals). stopped-key (asks_roots head) before.client before.monitors frame told after.client after.monitors stops;
       tests = λ before name kept after asks. ap (λ (c : _). c.key) (shown-chain hash accepted verified before.client name (Query (Lookup name asks.epoch)) asks.frame kept asks.told after.client asks.shows);
-      steps = λ before place went after asks. ap (λ (c : _). c.key) (step-chain hash accepted verified before.client asks.monitor.name asks.epoch (Query (Lookup asks.monitor.name asks.epoch)) asks.frame asks.told after.client asks.client);
+      steps = λ before place went after asks. ap (λ (c : _). c.key) (step-chain hash accepted verified before.client asks.monitor.name asks.epoch (Query (Lookup asks.monitor.name asks.epoch)) asks.frame asks.told asks.found after.client asks.client);
       joins = λ before key promised name given first monitor may is joined. refl;
       hears = λ before after held asked frame heard told hears tells monitors. heard-key before after held asked frame heard hears;
       hands = λ before after held asked frame noted noted' hears notes may. heard-key before after held asked frame hears.told hears.hears;

@@ -260,17 +260,17 @@ module _ (hash : List ℕ → List ℕ) (accepted verified : List ℕ → List �
           let now = text ++ before.told.lines in
           let chain = before.client.chain in
           let own = all-at (Owner now chain) before.monitors place asks.monitor owns.watched asks.at in
-          let told = told_after asks.told asks.shown in
+          let told = told_after asks.told (told_after asks.shown asks.found) in
           let (stepped, go) = shown-owned now chain asks.monitor asks.epoch (Query (Lookup asks.monitor.name asks.epoch)) asks.frame went asks.told asks.watched asks.next asks.shows own in
-          let watched = subst (λ (t : List ℕ). Owner t chain asks.watched) (append_assoc now asks.told.lines asks.shown.lines)
-          (own-more hash accepted verified Given Own start (now ++ asks.told.lines) chain marks asks.shown.lines asks.watched stepped) in
+          let watched = subst (λ (t : List ℕ). Owner t chain asks.watched) (append_assoc now asks.told.lines (told_after asks.shown asks.found).lines)
+          (own-more hash accepted verified Given Own start (now ++ asks.told.lines) chain marks (told_after asks.shown asks.found).lines asks.watched stepped) in
           let others = all-map (Owner now chain) (Owner (now ++ told.lines) chain) before.monitors (λ monitor owned. own-more hash accepted verified Given Own start now chain marks told.lines monitor owned) owns.watched in
           let both = all-set (Owner (now ++ told.lines) chain) before.monitors place asks.watched others watched in
           let all : AllByRecursion (Owner (text ++ (told_after before.told told).lines) chain) (slice_set before.monitors place asks.watched) =
           subst (λ (t : List ℕ). AllByRecursion (Owner t chain) (slice_set before.monitors place asks.watched)) (append_assoc text before.told.lines told.lines) both in
           let there : AllByRecursion (Owner (text ++ after.told.lines) chain) (slice_set before.monitors place asks.watched) =
           subst (λ (r : Report). AllByRecursion (Owner (text ++ r.lines) chain) (slice_set before.monitors place asks.watched)) (sym asks.tells) all in
-          goes before after (step-chain hash accepted verified before.client asks.monitor.name asks.epoch (Query (Lookup asks.monitor.name asks.epoch)) asks.frame asks.told after.client asks.client)
+          goes before after (step-chain hash accepted verified before.client asks.monitor.name asks.epoch (Query (Lookup asks.monitor.name asks.epoch)) asks.frame asks.told asks.found after.client asks.client)
           (subst (λ (ms : List Monitor). AllByRecursion (Owner (text ++ after.told.lines) chain) ms × AllGo before.monitors ms) (sym asks.monitors) (there, all-but before.monitors place asks.monitor asks.watched asks.at go)) owns
 
       hears-one : (before after : Scene T) (held : ℕ) (asked : RequestContent) (frame : Frame) (noted noted' : List SignedPromise) → HearsOne hash accepted verified exchanged held asked frame before after

@@ -70,7 +70,7 @@ module _ (hash : List ℕ → List ℕ) (accepted verified : List ℕ → List �
     takes = λ before after takes. same-told before after takes.3;
     stops = λ before after may stops. more-told before after stops.4 stops.6;
     tests = λ before name kept after asks. more-told before after (told_after asks.told asks.shown) asks.tells;
-    steps = λ before place went after asks. more-told before after (told_after asks.told asks.shown) asks.tells;
+    steps = λ before place went after asks. more-told before after (told_after asks.told (told_after asks.shown asks.found)) asks.tells;
     joins = λ before key promised name given first monitor may is joined. at-most before.told.status;
     hears = λ before after held asked frame heard told hears tells monitors. more-told before after told tells;
     hands = λ before after held asked frame noted noted' hears notes may. twice-told before after (told_after hears.told hears.shown) hears.handed hears.tells;

@@ -19,7 +19,7 @@ use Rattle.asking.specs.Checking.{HearsFrame, HearsResponse, IsCheckedAs}
 use Rattle.asking.specs.Refused.{other_reply}
 use Rattle.asking.specs.Reports.{Report}
 use Rattle.asking.specs.Visiting.{ShowsDue}
-use Rattle.asking.specs.Watching.{ShowsKept}
+use Rattle.asking.specs.Watching.{ShowsPromise}
 use Rattle.asking.proofs.Heard.{keeps_same, looks_same}
 
 abbrev HasChain : Client → Client → Type 0
@@ -54,10 +54,10 @@ module _ (hash : List ℕ → List ℕ) (accepted verified : List ℕ → List �
   shown-chain before name asked frame kept told after (inr (answers, (due, dues, is, tells))) = due-chain before after name frame.body due dues
 
   -- one by the reply that came for a monitor
-  pub step-chain : (before : Client) (name : List ℕ) (epoch : ℕ) (asked : RequestContent) (frame : Frame) (told : Report) (after : Client) → ShowsKept hash accepted before name epoch asked frame told after → HasChain before after
-  step-chain before name epoch asked frame told after (inl (missed, same)) = same-chain before after same
-  step-chain before name epoch asked frame told after (inr (answers, (due, is, inl (other, same)))) = same-chain before after same
-  step-chain before name epoch asked frame told after (inr (answers, (due, is, inr (there, (shown, dues))))) = due-chain before after name frame.body shown dues
+  pub step-chain : (before : Client) (name : List ℕ) (epoch : ℕ) (asked : RequestContent) (frame : Frame) (told found : Report) (after : Client) → ShowsPromise hash accepted before name epoch asked frame told found after → HasChain before after
+  step-chain before name epoch asked frame told found after (inl (missed, quiet, same)) = same-chain before after same
+  step-chain before name epoch asked frame told found after (inr (answers, (due, is, inl (other, quiet, same)))) = same-chain before after same
+  step-chain before name epoch asked frame told found after (inr (answers, (due, is, inr (there, (shown, dues, tells))))) = due-chain before after name frame.body shown dues
 
   -- a frame
   module _ (held : ℕ) (before after : Client) (body : List ℕ) (asked : RequestContent) (told : Report) where

@@ -85,7 +85,8 @@ module _ {T : Type 0} (hash : List ℕ → List ℕ) (accepted verified : List �
     shows = asks.shows;
     shown = asks.shown;
     notes = asks.notes;
-    tells = further before after (told_after asks.told asks.shown) asks.tells;
+    found = asks.found;
+    tells = further before after (told_after asks.told (told_after asks.shown asks.found)) asks.tells;
     monitors = asks.monitors;
     client = asks.client;
   }

@@ -186,9 +186,9 @@ module _ (hash : List ℕ → List ℕ) (accepted verified : List ℕ → List �
     asks-keeps place went before after asks text all =
         let now = text ++ before.told.lines in
         let own = all-at (Told now) before.monitors place asks.monitor all asks.at in
-        let told = told_after asks.told asks.shown in
+        let told = told_after asks.told (told_after asks.shown asks.found) in
         let stepped = told-shown now asks.monitor asks.epoch (Query (Lookup asks.monitor.name asks.epoch)) asks.frame went asks.told asks.watched asks.next asks.shows own in
-        let watched = subst (λ (t : List ℕ). Told t asks.watched) (append_assoc now asks.told.lines asks.shown.lines) (told-more hash accepted verified (now ++ asks.told.lines) asks.shown.lines asks.watched stepped) in
+        let watched = subst (λ (t : List ℕ). Told t asks.watched) (append_assoc now asks.told.lines (told_after asks.shown asks.found).lines) (told-more hash accepted verified (now ++ asks.told.lines) (told_after asks.shown asks.found).lines asks.watched stepped) in
         let others = all-map (Told now) (Told (now ++ told.lines)) before.monitors (λ monitor is. told-more hash accepted verified now told.lines monitor is) all in
         let both = all-set (Told (now ++ told.lines)) before.monitors place asks.watched others watched in
         subst (λ (r : Report). AllByRecursion (Told (text ++ r.lines)) after.monitors) (sym asks.tells)

@@ -1,5 +1,6 @@
 // Where a run keeps its state. Contracts know what is handed to it, and what was written to the output before that.
-ghost use Rattle.std.specs.Prelude.{◌≡◌, ◌∷◌, [], List, IfErr, IfOk, OnErr};
+ghost use Rattle.std.specs.Prelude.{◌≡◌, ◌∷◌, ℕ, [], List, IfErr, IfOk, OnErr};
+ghost use Rattle.textio.specs.Output.{WritesSome};
 ghost use Rattle.asking.specs.Askers.{asker_changes, asker_client, asker_earlier, asker_finals, asker_key, asker_known, asker_marks, asker_monitors, asker_token};
 ghost use Rattle.asking.specs.FinalBindings.{IsKnownIn};
 ghost use Rattle.runs.specs.Remembering.{AreWithin};
@@ -105,4 +106,8 @@ pub trait Keeper {
     fn replace<W: Write>(&mut self, text: &[u8], writer: &W) -> Result<(), ProgramFault>
         ensures acts { (acts : List Act) → has self.old acts → has self.new (Writes text.now (W.contents writer.now) ∷ acts) }
         ensures err { IfErr result IsFaultOfSaving };
+
+    /// Says why something could not be added or written, in a line of the errors, if anything could not.
+    fn tell_unsaved<E: Write>(&self, errors: &mut E)
+        ensures { (text : List ℕ) × WritesSome (E.contents errors.old) (E.contents errors.new) text };
 }

@@ -286,6 +286,7 @@ where
     ensures limit { IsSameLimit (run.old).limit (run.new).limit }
 {
     let outcome = run.ask(keeper, stream, checks, &keys, order, reader, writer, errors);
+    keeper.tell_unsaved(errors);
     run.end(outcome, writer, errors)
 }
 

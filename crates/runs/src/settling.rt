@@ -117,6 +117,7 @@ where
     ensures grows { Grows (W.contents writer.old) (W.contents writer.new) }
 {
     let settled = run.settle_alarms(keeper, checks, keys, name, writer);
+    keeper.tell_unsaved(errors);
     let written = run.write(writer, errors);
     settled?;
     written?;

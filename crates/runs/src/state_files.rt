@@ -21,16 +21,22 @@ use crate::lines::{fault_of, line_bytes, remember, roots_text, take_lines};
 use asking::{Asker, Checks, Said};
 use client::Client;
 use encoding::Hash32;
-use files::{LockFault, append, cut, open_existing, open_kept, open_locked, replace};
+use files::{
+    FileFault, LockFault, append, cut, error_line, open_existing, open_kept, open_locked,
+    read_rest, replace,
+};
 use memory::{Memory, first_line};
 use nodehash::NodeHash;
-use play::push_number;
+use play::{push_hex, push_number};
 use sigiface::Verifier;
 use std::alloc::{AllocError, Global};
 use std::fs::{File, Files};
 use std::io::{ErrorKind, Write};
-use textio::{ProgramFault, read_whole};
+use textio::{ProgramFault, write_text};
 use vrfiface::VufCheck;
+
+/// How a line about a file of the state begins.
+const STATE: &str = "state: ";
 
 /// A file that was read.
 #[derive(Drop)]
@@ -48,6 +54,8 @@ pub(crate) struct StateFiles<'a, F> {
     beside: String,
     roots: Option<File>,
     kept: Option<File>,
+    /// The line that says why something could not be saved; empty if all was.
+    unsaved: Vec<u8>,
 }
 
 /// The front of the bytes up to the last LF.
@@ -71,7 +79,7 @@ fn tell_file(said: &mut Said, path: &str, what: &[u8]) -> Result<(), AllocError>
 
 /// Appends what is said of a file of the state.
 fn push_words(words: &mut Vec<u8>, path: &str, what: &[u8]) -> Result<(), AllocError> {
-    words.extend_from_slice(b"state: ")?;
+    words.extend_from_slice(STATE.as_bytes())?;
     words.extend_from_slice(path.as_bytes())?;
     words.extend_from_slice(b": ")?;
     words.extend_from_slice(what)?;
@@ -93,6 +101,18 @@ fn fault_in(path: &str, fault: ProgramFault, said: &mut Said) -> ProgramFault
     }
 }
 
+/// The fault of the system for a file of the state. What the system said is said in a line of the errors, where there is
+/// memory for it.
+fn system_fault(alloc: Global, path: &str, why: &FileFault, said: &mut Said) -> ProgramFault
+    ensures fault { result ≡ why.now.fault }
+    ensures said { report_of said.new ≡ report_of said.old }
+{
+    if let Ok(line) = error_line(alloc, STATE, path, &why.error) {
+        let _said = said.words.extend_from_slice(&line);
+    }
+    why.fault
+}
+
 /// Drops the end of a file that was cut short, and says so.
 fn drop_rest(
     alloc: Global,
@@ -112,7 +132,10 @@ fn drop_rest(
     push_number(&mut what, rest as u64)?;
     what.extend_from_slice(b" bytes cut off")?;
     tell_file(said, path, &what)?;
-    cut(&read.file, whole)
+    match cut(&read.file, whole) {
+        Ok(()) => Ok(()),
+        Err(why) => Err(system_fault(alloc, path, &why, said)),
+    }
 }
 
 /// Whether there is a file of this path.
@@ -134,12 +157,12 @@ fn open_roots<F: Files<File = File>>(
     ensures said { report_of said.new ≡ report_of said.old }
 {
     match open_locked(files, path) {
-        Ok(file) => read_lines(alloc, file),
+        Ok(file) => read_lines(alloc, path, file, said),
         Err(LockFault::Taken) => {
             tell_file(said, path, b"another run has it")?;
             Err(ProgramFault::CannotWrite)
         }
-        Err(LockFault::Program(fault)) => Err(fault),
+        Err(LockFault::File(why)) => Err(system_fault(alloc, path, &why, said)),
     }
 }
 
@@ -148,23 +171,31 @@ fn open_second<F: Files<File = File>>(
     alloc: Global,
     files: &F,
     path: &str,
+    said: &mut Said,
 ) -> Result<Option<LineFile>, ProgramFault>
-    ensures { IfErr result IsFaultOfState }
+    ensures err { IfErr result IsFaultOfState }
+    ensures said { report_of said.new ≡ report_of said.old }
 {
     match open_existing(files, path) {
-        Ok(Some(file)) => Ok(Some(read_lines(alloc, file)?)),
+        Ok(Some(file)) => Ok(Some(read_lines(alloc, path, file, said)?)),
         Ok(None) => Ok(None),
-        Err(fault) => Err(fault),
+        Err(why) => Err(system_fault(alloc, path, &why, said)),
     }
 }
 
 /// Reads a file.
-fn read_lines(alloc: Global, mut file: File) -> Result<LineFile, ProgramFault>
-    ensures { IfErr result IsFaultOfState }
+fn read_lines(
+    alloc: Global,
+    path: &str,
+    mut file: File,
+    said: &mut Said,
+) -> Result<LineFile, ProgramFault>
+    ensures err { IfErr result IsFaultOfState }
+    ensures said { report_of said.new ≡ report_of said.old }
 {
-    match read_whole(alloc, &mut file) {
+    match read_rest(alloc, &mut file) {
         Ok(bytes) => Ok(LineFile { file, bytes }),
-        Err(fault) => Err(fault),
+        Err(why) => Err(system_fault(alloc, path, &why, said)),
     }
 }
 
@@ -202,13 +233,36 @@ where
     Ok(asker)
 }
 
-/// The fault of saving, where the second file could not be opened.
+/// The fault of saving, where a file could not be opened or written.
 fn saving_fault(fault: ProgramFault) -> ProgramFault
     ensures { IsFaultOfSaving result }
 {
     match fault {
         ProgramFault::OutOfMemory => ProgramFault::OutOfMemory,
         _ => ProgramFault::CannotWrite,
+    }
+}
+
+/// The outcome of saving something in the file of a path. The line about what the system said first is kept, where there is
+/// memory for it.
+fn saved(
+    alloc: Global,
+    path: &str,
+    outcome: Result<(), FileFault>,
+    unsaved: &mut Vec<u8>,
+) -> Result<(), ProgramFault>
+    ensures { IfErr result IsFaultOfSaving }
+{
+    match outcome {
+        Ok(()) => Ok(()),
+        Err(why) => {
+            if unsaved.is_empty() {
+                if let Ok(line) = error_line(alloc, STATE, path, &why.error) {
+                    *unsaved = line;
+                }
+            }
+            Err(saving_fault(why.fault))
+        }
     }
 }
 
@@ -222,6 +276,7 @@ impl<'a, F: Files<File = File>> StateFiles<'a, F> {
             beside: format!(in alloc; "{path}.kept")?,
             roots: None,
             kept: None,
+            unsaved: Vec::new(alloc),
         })
     }
 }
@@ -291,8 +346,12 @@ impl<F: Files<File = File>> StateFiles<'_, F> {
                 b"evidence of an earlier run",
             )?;
         }
-        for _ in known.alarms() {
-            push_words(&mut words, self.beside.as_str(), b"alarm of an earlier run")?;
+        for alarm in known.alarms() {
+            let mut what = Vec::from_slice(self.alloc, b"alarm of an earlier run for ")?;
+            push_hex(&mut what, alarm.name.bytes())?;
+            what.extend_from_slice(b" at epoch ")?;
+            push_number(&mut what, alarm.epoch)?;
+            push_words(&mut words, self.beside.as_str(), &what)?;
         }
         said.words.extend_from_slice(&words)
     }
@@ -320,7 +379,7 @@ impl<F: Files<File = File>> Keeper for StateFiles<'_, F> {
             return Err(fault_in(self.path, ProgramFault::BadItem(1), said));
         }
         let roots = open_roots(self.alloc, self.files, self.path, said)?;
-        let second = open_second(self.alloc, self.files, self.beside.as_str())?;
+        let second = open_second(self.alloc, self.files, self.beside.as_str(), said)?;
         let lines = whole_lines(&roots.bytes);
         if lines.is_empty() {
             if second.is_some() {
@@ -355,7 +414,10 @@ impl<F: Files<File = File>> Keeper for StateFiles<'_, F> {
     {
         let lines = roots_text(self.alloc, client, epoch)?;
         match self.roots.as_mut() {
-            Some(file) => append(file, &lines),
+            Some(file) => {
+                let outcome = append(file, &lines);
+                saved(self.alloc, self.path, outcome, &mut self.unsaved)
+            }
             None => Err(ProgramFault::CannotWrite),
         }
     }
@@ -364,17 +426,28 @@ impl<F: Files<File = File>> Keeper for StateFiles<'_, F> {
         if self.kept.is_none() {
             match open_kept(self.files, self.beside.as_str()) {
                 Ok(file) => self.kept = Some(file),
-                Err(fault) => return Err(saving_fault(fault)),
+                Err(why) => {
+                    let path = self.beside.as_str();
+                    return saved(self.alloc, path, Err(why), &mut self.unsaved);
+                }
             }
         }
         match self.kept.as_mut() {
-            Some(file) => append(file, lines),
+            Some(file) => {
+                let outcome = append(file, lines);
+                saved(self.alloc, self.beside.as_str(), outcome, &mut self.unsaved)
+            }
             None => Err(ProgramFault::CannotWrite),
         }
     }
 
     fn replace<W: Write>(&mut self, text: &[u8], _writer: &W) -> Result<(), ProgramFault> {
         self.kept = None;
-        replace(self.alloc, self.files, self.beside.as_str(), text)
+        let outcome = replace(self.alloc, self.files, self.beside.as_str(), text);
+        saved(self.alloc, self.beside.as_str(), outcome, &mut self.unsaved)
+    }
+
+    fn tell_unsaved<E: Write>(&self, errors: &mut E) {
+        let _told = write_text(errors, &self.unsaved);
     }
 }

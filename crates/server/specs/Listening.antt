@@ -22,7 +22,7 @@ use Rattle.connections.specs.Telling.{TellsAll}
 use Rattle.hub.specs.Desks.{DeskAnswers, DeskState}
 use Rattle.hub.specs.Events.{HubState}
 use Rattle.hub.specs.Runs.{Line}
-use Rattle.server.specs.ConnectionOptions.{ConnectionOptions, idle_limit, most_open}
+use Rattle.server.specs.ConnectionOptions.{ConnectionOptions, idle_limit, most_open, report_every}
 use Rattle.server.specs.DirectoryOptions.{DirectoryOptions}
 use Rattle.server.specs.Directories.{keys_of, DirectoryKeys, HasBegun}
 use Rattle.server.specs.Programs.{AfterJournal, KeepsInFile, LosesInFile, ShownBy}
@@ -70,20 +70,21 @@ KeepsOrder taken = KeepsLimits (idle_limit taken) taken.count (most_open taken)
 -- there is a history of them, and what is answered in it shows a run. At each time, each connection took a
 -- beginning of what its session was answered, as the lines so far have it; no more than 64 KiB and the
 -- longest reply ever wait for one; and of each that was closed for want of memory there is a line on the
--- errors, and one line if an edit was refused because its record could not be kept, or a sync failed. What ties the
--- history to the sockets is not in a contract.
+-- errors, and one line if an edit was refused because its record could not be kept, or a sync failed; reports come where
+-- they are wanted, of which no clause says what they tell or when. What ties the history to the sockets is not in a
+-- contract.
 abbrev pub AnswersConnections : {K : Type 0} → (K → Record → K → Type 0) → (K → Record → K → Type 0) → ConnectionOptions → DeskState ChaCha K → Option (List ℕ) → Option (List ℕ) → Type 0
 AnswersConnections {K} kept failed taken desk errors new = (acts : History) × (lines : List Line) × (after : HubState (DeskState ChaCha K))
     × KeepsOrder taken acts × AlwaysWaitWithin MAX_ANSWER_LEN acts × AlwaysInOrder acts
     × AreLines (DeskAnswers sha256 keyed_value keyed_signature chacha_salts kept failed) (record { service = desk; sessions = [] }) acts after lines
     × AlwaysAnswered (DeskAnswers sha256 keyed_value keyed_signature chacha_salts kept failed) (record { service = desk; sessions = [] }) acts lines
-    × ShownBy kept failed desk lines after.service × TellsAll is_unkept false acts errors new
+    × ShownBy kept failed desk lines after.service × TellsAll is_unkept (report_every taken) false acts errors new
 
 -- connections are answered from the desk of a journal's directory, whose line comes first
-abbrev pub TellsKept : DirectoryOptions → ConnectionOptions → Option (List ℕ) → Result (Unit {0}) ProgramFault → Option (List ℕ) → Type 0
-TellsKept asked taken errors result new = ((result ≡ Err BadHex) × Keeps errors new)
+abbrev pub TellsKept : DirectoryOptions → List ℕ → ConnectionOptions → Option (List ℕ) → Result (Unit {0}) ProgramFault → Option (List ℕ) → Type 0
+TellsKept asked path taken errors result new = ((result ≡ Err BadHex) × Keeps errors new)
     ⊎ ((keys : DirectoryKeys) × (keys_of asked ≡ Some keys)
-    × AfterJournal keys errors new result ⊤ (λ desk told. TellsAddress (AnswersConnections KeepsInFile LosesInFile taken desk) told result new))
+    × AfterJournal keys path errors new result ⊤ (λ desk told. TellsAddress (AnswersConnections KeepsInFile LosesInFile taken desk) told result new))
 
 -- the directory of these keys is begun, and connections are answered from its desk
 abbrev pub ServesBegun : DirectoryOptions → ConnectionOptions → Option (List ℕ) → Option (List ℕ) → Type 0
@@ -97,7 +98,7 @@ TellsUnkept asked taken = TellsAddress (ServesBegun asked taken)
 -- what is written to the errors, and from which desk connections are answered, by whether there is a journal
 abbrev pub TellsBy : Option (List ℕ) → DirectoryOptions → ConnectionOptions → Option (List ℕ) → Result (Unit {0}) ProgramFault → Option (List ℕ) → Type 0
 TellsBy None asked taken errors result new = TellsUnkept asked taken errors result new
-TellsBy (Some path) asked taken errors result new = TellsKept asked taken errors result new
+TellsBy (Some path) asked taken errors result new = TellsKept asked path taken errors result new
 
 abbrev pub ListenTells : DirectoryOptions → ConnectionOptions → Option (List ℕ) → Result (Unit {0}) ProgramFault → Option (List ℕ) → Type 0
 ListenTells asked = TellsBy asked.journal asked

@@ -1,5 +1,5 @@
 -- What the programs that serve do.
-use Rattle.std.specs.Prelude.{◌≡◌, ◌⊎◌, ℕ, false, List, Option, None, Some, Result, Ok, Err}
+use Rattle.std.specs.Prelude.{◌≡◌, ◌⊎◌, ℕ, false, List, Option, None, Some, Result, Ok, Err, codes}
 use Rattle.std.specs.Io.KnownBytes.{Appends, Keeps}
 use Rattle.rand_chacha.specs.ChaCha.{ChaCha}
 use Rattle.nodehash.specs.Sha256.{sha256}
@@ -19,6 +19,7 @@ use Rattle.server.specs.declared.serve_fault.ServeFault.{ServeFault}
 use Rattle.server.specs.declared.serve_fault.ServeFault.TheVariants as fault
 use Rattle.journal.specs.Journals.{KeepsRecord, LosesRecord, JournalState}
 use Rattle.textio.specs.Output.{WritesBeginning}
+use Rattle.files.specs.Telling.{TellsError}
 use Rattle.server.specs.declared.journal_file.DiskFile.{DiskFile}
 use Rattle.server.specs.declared.streams.TheConstants.{SESSION}
 use Rattle.server.specs.Faults.{outcome_of}
@@ -78,12 +79,31 @@ abbrev pub IsReopened : DirectoryKeys → KeptDesk → ℕ → ℕ → Type 0
 IsReopened keys desk records cut = (bytes held : List ℕ) × Reopens keys bytes desk.directory held records cut
     × (desk.token ≡ keys.token) × (desk.keeper.is_broken ≡ false)
 
--- What comes of the journal of a directory of these keys: it is not opened, and no more is done; or it is,
--- its line is written to the errors, and what is next comes, from this desk on; or the line is not written,
+-- where a read or a write failed, a line may say what the system said of the file of a journal
+abbrev pub TellsWhy : List ℕ → ProgramFault → Option (List ℕ) → Option (List ℕ) → Type 0
+TellsWhy path BadHex old new = Keeps old new
+TellsWhy path (BadItem line) old new = Keeps old new
+TellsWhy path (IndexRepeated line) old new = Keeps old new
+TellsWhy path (NotACommand line) old new = Keeps old new
+TellsWhy path NotEvidence old new = Keeps old new
+TellsWhy path BadRecord old new = Keeps old new
+TellsWhy path OtherKeys old new = Keeps old new
+TellsWhy path CannotRead old new = TellsError (codes "journal: ") path old new
+TellsWhy path CannotWrite old new = TellsError (codes "journal: ") path old new
+TellsWhy path CannotListen old new = Keeps old new
+TellsWhy path OutOfMemory old new = Keeps old new
+
+-- nothing is told if all went well; else as above
+abbrev pub TellsFailure : List ℕ → Result (Unit {0}) ProgramFault → Option (List ℕ) → Option (List ℕ) → Type 0
+TellsFailure path (Ok done) old new = Keeps old new
+TellsFailure path (Err fault) old new = TellsWhy path fault old new
+
+-- What comes of the journal of a directory of these keys, in the file of this path: it is not opened, and no more is done;
+-- or it is, its line is written to the errors, and what is next comes, from this desk on; or the line is not written,
 -- and no more is done.
-module _ (keys : DirectoryKeys) (errors errors_new : Option (List ℕ)) (result : Result (Unit {0}) ProgramFault) (Undone : Type 0) (Next : KeptDesk → Option (List ℕ) → Type 0) where
+module _ (keys : DirectoryKeys) (path : List ℕ) (errors errors_new : Option (List ℕ)) (result : Result (Unit {0}) ProgramFault) (Undone : Type 0) (Next : KeptDesk → Option (List ℕ) → Type 0) where
   abbrev pub IsNotOpened : Type 0
-  IsNotOpened = (fault : ProgramFault) × (result ≡ Err fault) × IsUnopened keys None fault × Keeps errors errors_new × Undone
+  IsNotOpened = (fault : ProgramFault) × (result ≡ Err fault) × IsUnopened keys None fault × TellsWhy path fault errors errors_new × Undone
 
   abbrev pub IsNotTold : ℕ → ℕ → Type 0
   IsNotTold records cut = (result ≡ Err CannotWrite) × WritesBeginning errors errors_new (journal_line records cut) × Undone
@@ -94,23 +114,23 @@ module _ (keys : DirectoryKeys) (errors errors_new : Option (List ℕ)) (result 
   abbrev pub AfterJournal : Type 0
   AfterJournal = IsNotOpened ⊎ ((desk : KeptDesk) × (records cut : ℕ) × IsReopened keys desk records cut × (IsNotTold records cut ⊎ TellsJournal desk records cut))
 
--- a session is served at a desk, to its end or to its fault
-abbrev pub ServesAt : Option (List ℕ) → Option (List ℕ) → Result (Unit {0}) ProgramFault → Option (List ℕ) → Option (List ℕ) → Option (List ℕ) → KeptDesk → Option (List ℕ) → Type 0
-ServesAt input written result left told errors_new desk errors = Keeps errors errors_new × (outcome : Result (Unit {0}) ServeFault) × (after : KeptDesk)
+-- a session is served at a desk, to its end or to its fault, and the journal may be why it failed
+abbrev pub ServesAt : List ℕ → Option (List ℕ) → Option (List ℕ) → Result (Unit {0}) ProgramFault → Option (List ℕ) → Option (List ℕ) → Option (List ℕ) → KeptDesk → Option (List ℕ) → Type 0
+ServesAt path input written result left told errors_new desk errors = TellsFailure path result errors errors_new × (outcome : Result (Unit {0}) ServeFault) × (after : KeptDesk)
     × (result ≡ outcome_of outcome) × Serves (ServedReplied KeepsInFile LosesInFile) desk input written outcome after left told
 
 -- What comes of an order with a journal, and an input: the texts are no keys, and nothing is done; or a session is
 -- served behind the journal.
-abbrev pub ServesKept : DirectoryOptions → Option (List ℕ) → Option (List ℕ) → Option (List ℕ) → Result (Unit {0}) ProgramFault → Option (List ℕ) → Option (List ℕ) → Option (List ℕ) → Type 0
-ServesKept asked input written errors result left told errors_new =
+abbrev pub ServesKept : DirectoryOptions → List ℕ → Option (List ℕ) → Option (List ℕ) → Option (List ℕ) → Result (Unit {0}) ProgramFault → Option (List ℕ) → Option (List ℕ) → Option (List ℕ) → Type 0
+ServesKept asked path input written errors result left told errors_new =
     ((result ≡ Err BadHex) × (keys_of asked ≡ None) × Keeps written told × Keeps errors errors_new)
     ⊎ ((keys : DirectoryKeys) × (keys_of asked ≡ Some keys)
-    × AfterJournal keys errors errors_new result (Keeps input left × Keeps written told) (ServesAt input written result left told errors_new))
+    × AfterJournal keys path errors errors_new result (Keeps input left × Keeps written told) (ServesAt path input written result left told errors_new))
 
 -- what comes of an order, by whether it has a journal
 abbrev pub ServesBy : Option (List ℕ) → DirectoryOptions → Option (List ℕ) → Option (List ℕ) → Option (List ℕ) → Result (Unit {0}) ProgramFault → Option (List ℕ) → Option (List ℕ) → Option (List ℕ) → Type 0
 ServesBy None asked input written errors result left told errors_new = ServesUnkept asked input written result left told × Keeps errors errors_new
-ServesBy (Some path) asked input written errors result left told errors_new = ServesKept asked input written errors result left told errors_new
+ServesBy (Some path) asked input written errors result left told errors_new = ServesKept asked path input written errors result left told errors_new
 
 abbrev pub DirectoryServes : DirectoryOptions → Option (List ℕ) → Option (List ℕ) → Option (List ℕ) → Result (Unit {0}) ProgramFault → Option (List ℕ) → Option (List ℕ) → Option (List ℕ) → Type 0
 DirectoryServes asked = ServesBy asked.journal asked

@@ -4,12 +4,15 @@
 ghost use Rattle.std.specs.Prelude.{◌≡◌, IfErr, OnOk};
 ghost use Rattle.std.specs.Io.{WritesAtMost};
 ghost use Rattle.std.specs.Io.KnownBytes.{Appends};
+ghost use Rattle.textio.specs.Faults.{IsDeviceFault};
 ghost use Rattle.textio.specs.Output.{WritesBeginning};
 
+use files::read_rest;
+use std::alloc::Global;
 use std::cell::Cell;
 use std::fs::File;
 use std::io::{self, Error, ErrorKind, Write};
-use textio::{StreamFault, write_text};
+use textio::{ProgramFault, StreamFault, write_text};
 
 /// How what was written to a file stands on its disk.
 #[derive(Clone, Copy, Debug, PartialEq, Eq)]
@@ -23,8 +26,10 @@ enum DiskState {
 /// A file and the mark of what was written to it.
 #[derive(Drop)]
 pub(crate) struct Disk {
-    pub(crate) file: File,
+    file: File,
     state: Cell<DiskState>,
+    /// What the system said when it last did not do what was asked.
+    error: Cell<Option<Error>>,
 }
 
 impl Disk {
@@ -33,6 +38,54 @@ impl Disk {
         Disk {
             file,
             state: Cell::new(DiskState::Unsynced),
+            error: Cell::new(None),
+        }
+    }
+
+    /// The last error of the system, if there was one.
+    pub(crate) fn error(&self) -> Option<Error> {
+        self.error.get()
+    }
+
+    /// What the system said of a sync that failed, if one did.
+    pub(crate) fn sync_error(&self) -> Option<Error> {
+        if self.state.get() == DiskState::Failed {
+            self.error.get()
+        } else {
+            None
+        }
+    }
+
+    /// All bytes of the file that were not read yet.
+    ///
+    /// # Errors
+    ///
+    /// `CannotRead`; `OutOfMemory`.
+    pub(crate) fn read(&self, alloc: Global) -> Result<Vec<u8>, ProgramFault>
+        ensures { IfErr result IsDeviceFault }
+    {
+        match read_rest(alloc, &mut &self.file) {
+            Ok(bytes) => Ok(bytes),
+            Err(why) => {
+                self.error.set(Some(why.error));
+                Err(why.fault)
+            }
+        }
+    }
+
+    /// How many bytes the file has.
+    pub(crate) fn size(&self) -> io::Result<u64> {
+        Ok(self.file.metadata()?.len())
+    }
+
+    /// Cuts the file to its first bytes, of this number.
+    pub(crate) fn cut(&self, size: usize) -> io::Result<()> {
+        match self.file.set_len(size as u64) {
+            Ok(()) => Ok(()),
+            Err(error) => {
+                self.error.set(Some(error));
+                Err(error)
+            }
         }
     }
 
@@ -44,7 +97,13 @@ impl Disk {
             return Err(Error::from(ErrorKind::Other));
         }
         self.state.set(DiskState::Unsynced);
-        (&mut &self.file).write(bytes)
+        match (&mut &self.file).write(bytes) {
+            Ok(count) => Ok(count),
+            Err(error) => {
+                self.error.set(Some(error));
+                Err(error)
+            }
+        }
     }
 
     /// Puts on the disk what was written since the last sync, if anything was.
@@ -53,9 +112,10 @@ impl Disk {
             DiskState::Synced => Ok(()),
             DiskState::Failed => Err(Error::from(ErrorKind::Other)),
             DiskState::Unsynced => {
-                if self.file.sync_data().is_err() {
+                if let Err(error) = self.file.sync_data() {
                     self.state.set(DiskState::Failed);
-                    return Err(Error::from(ErrorKind::Other));
+                    self.error.set(Some(error));
+                    return Err(error);
                 }
                 self.state.set(DiskState::Synced);
                 Ok(())

@@ -7,7 +7,7 @@ ghost use Rattle.server.specs.Reopening.{Cuts, FileHolds};
 use crate::disk::Disk;
 use std::alloc::Global;
 use std::io::{self, Write};
-use textio::{ProgramFault, read_whole};
+use textio::ProgramFault;
 
 /// The file of a journal. What it holds are its contents as a writer, which writes at its end.
 pub trait JournalFile: Write {
@@ -40,6 +40,11 @@ impl<'a> DiskFile<'a> {
     pub(crate) fn new(disk: &'a Disk) -> Self {
         DiskFile { disk }
     }
+
+    /// What the system said when it last did not do what was asked, if it ever did not.
+    pub(crate) fn error(&self) -> Option<io::Error> {
+        self.disk.error()
+    }
 }
 
 impl Write for DiskFile<'_> {
@@ -54,11 +59,11 @@ impl Write for DiskFile<'_> {
 
 impl JournalFile for DiskFile<'_> {
     fn read_all(&mut self, alloc: Global) -> Result<Vec<u8>, ProgramFault> {
-        read_whole(alloc, &mut &self.disk.file)
+        self.disk.read(alloc)
     }
 
     fn cut(&mut self, size: usize) -> Result<(), ProgramFault> {
-        match self.disk.file.set_len(size as u64) {
+        match self.disk.cut(size) {
             Ok(()) => Ok(()),
             Err(_) => Err(ProgramFault::CannotWrite),
         }

@@ -16,7 +16,7 @@ ghost use Rattle.sigiface.specs.StandIn.{keyed_signature};
 ghost use Rattle.vrfiface.specs.StandIns.{keyed_value};
 ghost use Rattle.textio.specs.declared.program_fault.ProgramFault.TheVariants.{BadHex};
 ghost use Rattle.wire.specs.declared.answer.TheConstants.{MAX_ANSWER_LEN};
-ghost use Rattle.server.specs.ConnectionOptions.{connections_of, idle_limit, most_open};
+ghost use Rattle.server.specs.ConnectionOptions.{connections_of, idle_limit, most_open, report_every};
 ghost use Rattle.server.specs.DirectoryOptions.{directory_values};
 ghost use Rattle.server.specs.Directories.{keys_of};
 ghost use Rattle.server.specs.Listening.{AnswersConnections, KeepsLimits, ListenTells, TellsAddress, TellsAddressLine, TellsKept, TellsUnkept};
@@ -75,11 +75,11 @@ where
     C: Connections<HubSessions<ServedDesk<K>>>,
     E: Write,
     requires { AreFree places }
-    ensures tells { (told : Bool) × TellsSome told (E.contents errors.old) (E.contents errors.new) }
+    ensures tells { (told : Bool) × TellsSome limits.report told (E.contents errors.old) (E.contents errors.new) }
     ensures shown { C.has connections.old [] → (acts : History) × C.has connections.new acts
         × KeepsLimits limits.idle limits.count (size_of places) acts × AlwaysWaitWithin MAX_ANSWER_LEN acts
         × ((lines : List Line) × AreLines (DeskAnswers sha256 keyed_value keyed_signature chacha_salts K.kept K.failed) sessions.old.hub acts sessions.new.hub lines × ShownBy K.kept K.failed sessions.old.hub.service lines sessions.new.hub.service)
-        × TellsAll is_unkept sessions.old.has_unkept acts (E.contents errors.old) (E.contents errors.new) }
+        × TellsAll is_unkept limits.report sessions.old.has_unkept acts (E.contents errors.old) (E.contents errors.new) }
 {
     // What the two calls of `head` ensure: the book is sound before and after, and the provider's
     // functions keep their laws.
@@ -92,10 +92,12 @@ where
 fn limits_of(order: ListenOrder<'_>) -> Limits
     ensures count { result.count ≡ order.entry.count }
     ensures idle { result.idle ≡ idle_limit (connections_of order.entry) }
+    ensures report { result.report ≡ report_every (connections_of order.entry) }
 {
     Limits {
         count: order.count,
         idle: order.idle.saturating_mul(MILLISECONDS_PER_SECOND),
+        report: order.report.saturating_mul(MILLISECONDS_PER_SECOND),
     }
 }
 
@@ -210,12 +212,15 @@ where
     R: BufRead,
     E: Write,
     ensures bad_hex { (result ≡ Err BadHex) ↔ (keys_of (directory_values order.entry.directory) ≡ None) }
-    ensures tells { TellsKept (directory_values order.entry.directory) (connections_of order.entry) (E.contents errors.old) result (E.contents errors.new) }
+    ensures tells { TellsKept (directory_values order.entry.directory) path.now (connections_of order.entry) (E.contents errors.old) result (E.contents errors.new) }
     ensures unread { (order.entry.until_eof ≡ false) ⊎ IsErr result → input.new ≡ input.old }
 {
     let keys = Keys::read(&order.directory)?;
-    let disk = open_file(system, path)?;
-    let hub = match open_journal(alloc, &keys, &disk, errors) {
+    let disk = match open_file(alloc, system, path, errors) {
+        Ok(disk) => disk,
+        Err(fault) => return Err(fault),
+    };
+    let hub = match open_journal(alloc, &keys, &disk, path, errors) {
         Ok(hub) => hub,
         Err(fault) => return Err(fault),
     };
@@ -227,13 +232,13 @@ where
 /// many records were taken, and how many bytes were cut off, if any were. Once it listens, it writes a line
 /// to the errors: `listening on` and the address, with the port that the system chose if port 0 was asked
 /// for. A connection that is closed for want of memory is told of in a line behind it; and so is, once, that an edit was
-/// refused because its record could not be kept, or that a sync failed. The input is read only if its end is an order to
-/// stop, and not before the address is told.
+/// refused because its record could not be kept, or that a sync failed. Reports come between these lines, if the order wants
+/// them. The input is read only if its end is an order to stop, and not before the address is told.
 ///
 /// # Errors
 ///
 /// `BadHex`, before all else, if a text of the order is not 64 hexadecimal digits; then those of the
-/// journal, as `serve_directory` has them; `OutOfMemory`; `CannotListen` if it cannot listen on the
+/// journal, as `serve_directory` has them, with its line; `OutOfMemory`; `CannotListen` if it cannot listen on the
 /// address; `CannotWrite` if one of these lines cannot be written. A connection that fails is closed, and is
 /// not a fault of `listen`.
 pub fn listen<N, R, E>(

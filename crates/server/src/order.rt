@@ -31,6 +31,8 @@ pub struct ListenOrder<'a> {
     /// After how many seconds a connection is closed that completed no message and took no byte of an
     /// answer; 0 for never.
     pub idle: u64,
+    /// Every how many seconds a report is written on the errors; 0 for never.
+    pub report: u64,
     /// Whether the end of standard input is an order to stop.
     pub until_eof: bool,
     /// The address to listen on, such as `127.0.0.1:7000`.

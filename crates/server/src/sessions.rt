@@ -10,7 +10,7 @@ use hub::{Desk, Event, Hub, HubRefusal, Service};
 use nodehash::NodeHash;
 use rand_core::Rng;
 use sigiface::Signer;
-use std::alloc::Global;
+use std::alloc::{AllocError, Global};
 use vrfiface::Vuf;
 
 /// The sessions of a hub.
@@ -20,6 +20,28 @@ pub(crate) struct HubSessions<D: Service + Drop> {
     hub: Hub<D>,
     /// An edit was refused because its record could not be kept.
     has_unkept: bool,
+    tally: Tally,
+}
+
+/// How many answers were given, for reports.
+#[derive(Clone, Copy)]
+struct Tally {
+    requests: u64,
+    /// How many of them were refusals.
+    refused: u64,
+}
+
+impl Tally {
+    /// Counts what one message was answered, if it was.
+    fn count(&mut self, answer: &[u8]) {
+        if answer.is_empty() {
+            return;
+        }
+        self.requests = self.requests.saturating_add(1);
+        if answer.get(KIND_PLACE) == Some(&REFUSED) {
+            self.refused = self.refused.saturating_add(1);
+        }
+    }
 }
 
 impl<D: Service + Drop> HubSessions<D> {
@@ -31,6 +53,10 @@ impl<D: Service + Drop> HubSessions<D> {
             alloc,
             hub,
             has_unkept: false,
+            tally: Tally {
+                requests: 0,
+                refused: 0,
+            },
         }
     }
 }
@@ -62,6 +88,12 @@ fn fault_of(refusal: HubRefusal) -> SessionFault
         }
     }
 }
+
+/// Where the kind of an answer stands, behind the four bytes of its length.
+const KIND_PLACE: usize = 4;
+
+/// The kind of a refusal.
+const REFUSED: u8 = 255;
 
 /// The answer to an edit whose record could not be kept.
 static UNKEPT: &[u8] = &[0, 0, 0, 2, 255, 19];
@@ -126,7 +158,9 @@ impl<D: Service + Drop> Sessions for HubSessions<D> {
             .event(&Event::Bytes(number, &bytes[..count]), output)
         {
             Ok(()) => {
-                self.has_unkept = is_unkept(&output[before..]) || self.has_unkept;
+                let answer = &output[before..];
+                self.tally.count(answer);
+                self.has_unkept = is_unkept(answer) || self.has_unkept;
                 Ok(count)
             }
             Err(refusal) => Err(fault_of(refusal)),
@@ -143,5 +177,10 @@ impl<D: Service + Drop> Sessions for HubSessions<D> {
 
     fn has_unkept(&self) -> bool {
         self.has_unkept
+    }
+
+    fn report(&self, alloc: Global) -> Result<String, AllocError> {
+        let (service, Tally { requests, refused }) = (self.hub.report()?, self.tally);
+        format!(in alloc; "{service} requests={requests} refused={refused}")
     }
 }

@@ -13,7 +13,7 @@ use hub::MAX_SESSIONS;
 use mio::event::Event;
 use mio::net::{TcpListener, TcpStream};
 use mio::{Events, Interest, Poll, Token};
-use std::alloc::Global;
+use std::alloc::{AllocError, Global};
 use std::io::{self, BufRead, Error, ErrorKind, Read, Write};
 use std::net::{Net, Shutdown, SocketAddr, ToSocketAddrs};
 use std::time::{Clock, Duration, Instant};
@@ -346,6 +346,22 @@ impl<N: Net + Clock, R: BufRead, S: Sessions> Connections<S> for Sockets<'_, N, 
             }
         }
         *slot = None;
+    }
+
+    fn report(&self, alloc: Global) -> Result<String, AllocError> {
+        let open = self.places.iter().filter(|place| place.is_some()).count();
+        let Some(disk) = self.disk else {
+            return format!(in alloc; "connections={open}");
+        };
+        // A journal that once failed takes no record any more.
+        let end = match disk.error() {
+            Some(_) => " edits=refused",
+            None => "",
+        };
+        match disk.size() {
+            Ok(size) => format!(in alloc; "connections={open} journal={size}{end}"),
+            Err(_) => format!(in alloc; "connections={open} journal=unknown{end}"),
+        }
     }
 
     fn sync(&mut self, _sessions: &S) -> bool {

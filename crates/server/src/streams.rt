@@ -5,7 +5,7 @@ ghost use Rattle.server.specs.Programs.{DirectoryServes, ServesKept, ServesUnkep
 
 use crate::DirectoryOrder;
 use crate::keys::Keys;
-use crate::opening::{open_file, open_journal};
+use crate::opening::{open_file, open_journal, tell_why};
 use crate::serving::{serve, serve_on};
 use book::NoKeeper;
 use hub::Hub;
@@ -44,18 +44,27 @@ fn serve_kept<F: Files<File = File>, R: Read, W: Write, E: Write>(
     writer: &mut W,
     errors: &mut E,
 ) -> Result<(), ProgramFault>
-    ensures serves { ServesKept (directory_values order.entry) (R.remaining reader.old) (W.contents writer.old) (E.contents errors.old) result
+    ensures serves { ServesKept (directory_values order.entry) path.now (R.remaining reader.old) (W.contents writer.old) (E.contents errors.old) result
         (R.remaining reader.new) (W.contents writer.new) (E.contents errors.new) }
     ensures unread { result ≡ Err BadHex → (reader.new ≡ reader.old) × (writer.new ≡ writer.old) }
 {
     let keys = Keys::read(&order)?;
-    let disk = open_file(files, path)?;
-    let mut hub = match open_journal(alloc, &keys, &disk, errors) {
+    let disk = match open_file(alloc, files, path, errors) {
+        Ok(disk) => disk,
+        Err(fault) => return Err(fault),
+    };
+    let mut hub = match open_journal(alloc, &keys, &disk, path, errors) {
         Ok(hub) => hub,
         Err(fault) => return Err(fault),
     };
-    serve_on(alloc, &mut hub, SESSION, reader, writer, Some(&disk))?;
-    Ok(())
+    match serve_on(alloc, &mut hub, SESSION, reader, writer, Some(&disk)) {
+        Ok(()) => Ok(()),
+        Err(why) => {
+            let fault = ProgramFault::from(why);
+            tell_why(alloc, path, fault, disk.sync_error(), errors);
+            Err(fault)
+        }
+    }
 }
 
 /// Answers one session, from the reader to the writer, of a directory that begins with it, or of one
@@ -67,7 +76,8 @@ fn serve_kept<F: Files<File = File>, R: Read, W: Write, E: Write>(
 ///
 /// `BadHex`, before anything is read, if a text of the order is not 64 hexadecimal digits. Then those of
 /// the journal: `BadRecord`, `OtherKeys`; `CannotRead` if it is there and cannot be read; `CannotWrite`
-/// if it cannot be made, written or cut, or if another process holds it. Then `CannotRead`, `CannotWrite`
+/// if it cannot be made, written or cut, or if another process holds it; a line to the errors says what the system said of
+/// it, also where it fails later. Then `CannotRead`, `CannotWrite`
 /// and `OutOfMemory`, where what was written is a beginning of the session's output; at `OutOfMemory` it has
 /// the replies to all messages that were answered.
 pub fn serve_directory<F: Files<File = File>, R: Read, W: Write, E: Write>(

@@ -3,3 +3,4 @@ pub mod InLine
 pub mod Steps
 pub mod NextLine
 pub mod Reading
+pub mod DigitValues

@@ -1,7 +1,11 @@
 -- Hexadecimal digits.
-use Rattle.std.specs.Prelude.{ℕ, List, Option, None, Some, replicate}
+use Rattle.std.specs.Prelude.{ℕ, List, Option, None, Some, nat_lt, if◌then◌else◌, replicate}
 use Rattle.std.specs.Result.{result_ok}
 use Rattle.hex.specs.Hex.{decode_sized}
+
+-- the value of a digit, from a table in which greater numbers stand for bytes that are no digits
+abbrev pub digit_of : ℕ → Option ℕ
+digit_of value = if nat_lt value 16 then Some value else None
 
 -- 32 bytes, from 64 hexadecimal digits of either case
 abbrev pub hex32 : List ℕ → Option (List ℕ)

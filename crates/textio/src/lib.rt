@@ -15,18 +15,19 @@
 //! ```
 #![tactic(auto)]
 
+mod digit_values;
 mod digits;
+mod file_faults;
 mod line;
 mod output;
 mod program_fault;
 mod some_bytes;
 mod stream_fault;
-mod whole;
 
 pub use digits::{HASH_DIGITS, HASH_SIZE, hex_digits, hex32, hex32_or_zeros, option_hex32};
+pub use file_faults::file_fault;
 pub use line::next_line;
 pub use output::write_text;
 pub use program_fault::{MAX_DIGITS, ProgramFault};
 pub use some_bytes::{PIECE_SIZE, read_some};
 pub use stream_fault::StreamFault;
-pub use whole::{file_bytes, file_fault, read_whole};

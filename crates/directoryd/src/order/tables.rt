@@ -174,7 +174,7 @@ const HASH: Argument = Argument {
 const NONCE: Argument = Argument {
     name: "nonce",
     value: "HEX",
-    help: "The nonce of the tree, 64 hexadecimal digits [default: zeros]",
+    help: "The nonce of the tree, 64 hexadecimal digits; 64 zeros if not given",
     kind: Kind::Text,
 };
 
@@ -230,7 +230,7 @@ const EPOCH: Argument = Argument {
 const JOURNAL: Argument = Argument {
     name: "journal",
     value: "FILE",
-    help: "The file in which the directory is kept [default: none]",
+    help: "The file in which the directory is kept; in memory alone if not given",
     kind: Kind::Text,
 };
 
@@ -316,6 +316,12 @@ pub(super) static SUBCOMMANDS: [Subcommand; 8] = [
                 kind: Kind::Number(0, u64::MAX, "60"),
             },
             Argument {
+                name: "report",
+                value: "SECONDS",
+                help: "Every how many seconds a report is written to standard error; 0 for never",
+                kind: Kind::Number(0, u64::MAX, "0"),
+            },
+            Argument {
                 name: "until-eof",
                 value: "",
                 help: "Take the end of standard input as an order to stop",
@@ -342,14 +348,14 @@ pub(super) static SUBCOMMANDS: [Subcommand; 8] = [
             Argument {
                 name: "token",
                 value: "HEX",
-                help: "The token of the operator, 64 hexadecimal digits [default: zeros]",
+                help: "The token of the operator, 64 hexadecimal digits; 64 zeros if not given",
                 kind: Kind::Text,
             },
             KEYS,
             Argument {
                 name: "state",
                 value: "FILE",
-                help: "The file of the client's chain [default: none]",
+                help: "The file of the client's chain; not kept if not given",
                 kind: Kind::Text,
             },
             Argument {

@@ -26,8 +26,7 @@ returns-in-Audit g c = rw (c.in-Audit.is, c.done-in-Audit.ensures, without_zero 
 
 pub returns-in-Judge : goal.returns-in-Judge
 returns-in-Judge g c =
-    let told = c.judge.ensures in
-    rw c.in-Judge.is (Keeps-refl _, told.0, told.1, told.2)
+    rw c.in-Judge.is c.judge.ensures
 
 pub returns-in-Play : goal.returns-in-Play
 returns-in-Play g c = rw (c.in-Play.is, c.done-in-Play.ensures, without_zero c.play.result) (is_zero c.play.result, Keeps-refl _, c.play.ensures)

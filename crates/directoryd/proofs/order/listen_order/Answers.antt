@@ -9,5 +9,5 @@ returns c =
     let found = found_of c.args.found.now in
     let keys : option_map (λ s. s.now) c.get_str.result ≡ first_of (codes "keys") (rows_of found) = c.get_str.ensures ∙ first_value-rows found (codes "keys") in
     λ i. the_connections (c.directory_order.ensures i)
-    (record { count = c.number.ensures.is i; sessions = c.number-2.ensures.is i; idle = c.number-3.ensures.is i; until_eof = c.flag.ensures i; address = c.text.ensures i })
+    (record { count = c.number.ensures.is i; sessions = c.number-2.ensures.is i; idle = c.number-3.ensures.is i; report = c.number-4.ensures.is i; until_eof = c.flag.ensures i; address = c.text.ensures i })
     (keys i)
