@@ -1,5 +1,3 @@
-pub mod InPlace
 pub mod Lists
 pub mod Repeats
-pub mod Told
 pub mod Placing

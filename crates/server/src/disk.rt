@@ -1,6 +1,6 @@
 // Records are put on the disk before an answer tells of them: each write to the file sets a mark, and what
 // writes answers syncs first where it meets the mark. Contracts do not know what a disk has, so the clauses
-// say only what is written. `scripts/drive/journal.sh` shows what a file has after a stop of the program.
+// say only what is written. `scripts/journal.sh` shows what a file has after a stop of the program.
 ghost use Rattle.std.specs.Prelude.{◌≡◌, IfErr, OnOk};
 ghost use Rattle.std.specs.Io.{WritesAtMost};
 ghost use Rattle.std.specs.Io.KnownBytes.{Appends};
@@ -30,6 +30,10 @@ pub(crate) struct Disk {
     state: Cell<DiskState>,
     /// What the system said when it last did not do what was asked.
     error: Cell<Option<Error>>,
+    /// How many bytes it has, since this was last asked of the system.
+    size: Cell<u64>,
+    /// How many of them are whole texts: the write that ended them took all that it was given.
+    whole: Cell<u64>,
 }
 
 impl Disk {
@@ -39,7 +43,27 @@ impl Disk {
             file,
             state: Cell::new(DiskState::Unsynced),
             error: Cell::new(None),
+            size: Cell::new(0),
+            whole: Cell::new(0),
         }
+    }
+
+    pub(crate) fn file(&self) -> &File {
+        &self.file
+    }
+
+    /// How many bytes of it are whole records, once it was settled.
+    pub(crate) fn whole(&self) -> u64 {
+        self.whole.get()
+    }
+
+    /// Puts on the disk what it has, which are whole records.
+    pub(crate) fn settle(&self) -> io::Result<()> {
+        self.sync()?;
+        let size = self.size()?;
+        self.size.set(size);
+        self.whole.set(size);
+        Ok(())
     }
 
     /// The last error of the system, if there was one.
@@ -98,11 +122,23 @@ impl Disk {
         }
         self.state.set(DiskState::Unsynced);
         match (&mut &self.file).write(bytes) {
-            Ok(count) => Ok(count),
+            Ok(count) => {
+                self.grow(count, bytes.len());
+                Ok(count)
+            }
             Err(error) => {
                 self.error.set(Some(error));
                 Err(error)
             }
+        }
+    }
+
+    /// It has so many bytes more, of so many that it was given.
+    fn grow(&self, count: usize, given: usize) {
+        let size = self.size.get().saturating_add(count as u64);
+        self.size.set(size);
+        if count == given {
+            self.whole.set(size);
         }
     }
 
