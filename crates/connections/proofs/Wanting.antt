@@ -4,7 +4,7 @@ use Rattle.std.specs.Io.KnownBytes.{Appends}
 use Rattle.textio.specs.declared.stream_fault.StreamFault.{StreamFault}
 use Rattle.textio.specs.declared.stream_fault.StreamFault.TheVariants.{CannotWrite}
 use Rattle.textio.specs.Output.{WritesBeginning, WritesSome}
-use Rattle.connections.specs.Telling.{line_text, Line, OutOfMemory, Report, TellsLines, Uncopied, Unkept}
+use Rattle.connections.specs.Telling.{line_text, Line, OutOfMemory, Report, TellsLines, Unkept}
 
 writes_some : (old new : Option (List ℕ)) (text : List ℕ) (result : Result (Unit {0}) StreamFault) → OnOk result (Appends old new text)
     → IfErr result (λ fault. (fault ≡ CannotWrite) × WritesBeginning old new text) → WritesSome old new text
@@ -24,9 +24,6 @@ module _ (every count : ℕ) (start old new : Option (List ℕ)) (result : Resul
 
   pub unkept_more : TellsLines every false count start old → Wrote Unkept → TellsLines every true count start new
   unkept_more (lines, written, memory, unkept, none) one = (Unkept ∷ lines, (old, written, wrote Unkept one), memory, ap (λ (n : ℕ). n + 1) unkept, none)
-
-  pub uncopied_more : (told : Bool) → TellsLines every told count start old → Wrote Uncopied → TellsLines every told count start new
-  uncopied_more told (lines, written, memory, unkept, none) one = (Uncopied ∷ lines, (old, written, wrote Uncopied one), memory, unkept, none)
 
   pub report_more : (told : Bool) (words : List ℕ) → 0 < every → TellsLines every told count start old → Wrote (Report words) → TellsLines every told count start new
   report_more told words wanted (lines, written, memory, unkept, none) one =

@@ -9,14 +9,12 @@ use Rattle.connections.specs.Histories.{At, Ordered, GoesOn, Syncs, NoneWaits, O
 pub data Line : Type 0 where
   OutOfMemory : Line
   Unkept : Line
-  Uncopied : Line
   -- a report in these words
   Report : List ℕ → Line
 
 abbrev pub line_text : Line → List ℕ
 line_text OutOfMemory = codes "out of memory\n"
 line_text Unkept = codes "journal: cannot write, edits are refused until a restart\n"
-line_text Uncopied = codes "copy: cannot write, it ends here until a restart\n"
 line_text (Report words) = codes "report: " ++ words ++ 10 ∷ []
 
 -- these lines are written, the latest first, each whole or less of it
@@ -29,7 +27,6 @@ abbrev pub about_memory : List Line → ℕ
 about_memory [] = 0
 about_memory (OutOfMemory ∷ before) = about_memory before + 1
 about_memory (Unkept ∷ before) = about_memory before
-about_memory (Uncopied ∷ before) = about_memory before
 about_memory (Report words ∷ before) = about_memory before
 
 -- how many are about what cannot be kept
@@ -37,7 +34,6 @@ abbrev pub about_unkept : List Line → ℕ
 about_unkept [] = 0
 about_unkept (OutOfMemory ∷ before) = about_unkept before
 about_unkept (Unkept ∷ before) = about_unkept before + 1
-about_unkept (Uncopied ∷ before) = about_unkept before
 about_unkept (Report words ∷ before) = about_unkept before
 
 -- how many are reports
@@ -45,11 +41,10 @@ abbrev pub reports : List Line → ℕ
 reports [] = 0
 reports (OutOfMemory ∷ before) = reports before
 reports (Unkept ∷ before) = reports before
-reports (Uncopied ∷ before) = reports before
 reports (Report words ∷ before) = reports before + 1
 
 -- so many lines about memory, one about what cannot be kept if that was told, and reports, of which there is none where
--- they are wanted every 0 milliseconds; there may be lines about a copy
+-- they are wanted every 0 milliseconds
 abbrev pub TellsLines : ℕ → Bool → ℕ → Option (List ℕ) → Option (List ℕ) → Type 0
 TellsLines every told count old new = (lines : List Line) × Writes lines old new × (about_memory lines ≡ count) × (about_unkept lines ≡ (if told then 1 else 0)) × (every ≡ 0 → reports lines ≡ 0)
 

@@ -286,10 +286,6 @@ impl<S: Sessions> Connections<S> for Peers<'_> {
         self.is_synced
     }
 
-    fn is_uncopied(&self) -> bool {
-        false
-    }
-
     fn report(&self, alloc: Global) -> Result<String, AllocError> {
         let open = self.places.iter().filter(|place| place.is_some()).count();
         format!(in alloc; "connections={open}")

@@ -2,7 +2,7 @@
 ghost use Rattle.std.specs.Prelude.{◌≤◌, length};
 ghost use Rattle.journal.specs.Counting.{Counts, HasLater};
 
-use crate::forms::{about_size, read_later, read_start};
+use crate::forms::{read_later, read_start};
 use encoding::Cursor;
 
 /// How many whole records of commands stand at the front of at most so many bytes.
@@ -21,22 +21,6 @@ fn later_records(cursor: &mut Cursor<'_>, most: usize) -> u64
         count += 1;
     }
     count
-}
-
-/// How many bytes the first whole records of commands have, of which so many are wanted. All bytes, where fewer stand at the
-/// front.
-pub fn front(bytes: &[u8], most: usize) -> usize
-    ensures { result ≤ length bytes.now }
-{
-    let mut cursor = Cursor::new(bytes);
-    let mut size: usize = 0;
-    for _ in 0..most {
-        let Ok(what) = read_later(&mut cursor) else {
-            return bytes.len();
-        };
-        size = size.saturating_add(about_size(&what));
-    }
-    size.min(bytes.len())
 }
 
 /// How many whole records stand at the front of a journal's bytes, the start among them.

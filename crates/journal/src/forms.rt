@@ -234,23 +234,6 @@ pub(crate) fn later_record(what: &Later<'_>) -> Record
     }
 }
 
-/// How many bytes a record has that was read. No clause says so: see `later_size`.
-pub(crate) fn about_size(what: &Later<'_>) -> usize {
-    match what {
-        Later::Bound {
-            name,
-            key,
-            policy,
-            ..
-        } => BOUND_SIZE
-            .saturating_add(policy_len(*policy))
-            .saturating_add(name.len())
-            .saturating_add(key.len()),
-        Later::Turned { nonce: None, .. } => TURNED_SIZE,
-        Later::Turned { nonce: Some(_), .. } => ROTATED_SIZE,
-    }
-}
-
 /// How many bytes the record has.
 pub(crate) fn later_size(what: &Later<'_>) -> usize
     requires { IsLater (later_seen what.now) }

@@ -19,7 +19,7 @@ use Rattle.server.specs.Programs.{ShownBy}
 use Rattle.server.specs.Sessions.{is_unkept, AreLines}
 use Rattle.server.proofs.Earlier.{always_answered, always_in_order}
 
-pub keeps_order : (taken : ConnectionOptions) (idle count size : ℕ) (acts : History) → idle ≡ idle_limit taken → count ≡ taken.count → size ≡ most_open taken → KeepsLimits idle count size acts → KeepsOrder taken acts
+keeps_order : (taken : ConnectionOptions) (idle count size : ℕ) (acts : History) → idle ≡ idle_limit taken → count ≡ taken.count → size ≡ most_open taken → KeepsLimits idle count size acts → KeepsOrder taken acts
 keeps_order taken idle count size acts same_idle same_count same_size keeps = rw (← same_idle, ← same_count, ← same_size) keeps
 
 module _ {K : Type 0} (kept failed : K → Record → K → Type 0) where

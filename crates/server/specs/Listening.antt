@@ -19,18 +19,13 @@ use Rattle.connections.specs.Histories.{History}
 use Rattle.connections.specs.Laws.{AlwaysWaitWithin}
 use Rattle.connections.specs.Soundness.{IsSoundHistory}
 use Rattle.connections.specs.Telling.{TellsAll}
-use Rattle.journal.specs.Counting.{Counts}
 use Rattle.hub.specs.Desks.{DeskAnswers, DeskState}
 use Rattle.hub.specs.Events.{HubState}
 use Rattle.hub.specs.Runs.{Line}
 use Rattle.server.specs.ConnectionOptions.{ConnectionOptions, idle_limit, most_open, report_every}
 use Rattle.server.specs.DirectoryOptions.{DirectoryOptions}
 use Rattle.server.specs.Directories.{keys_of, DirectoryKeys, HasBegun}
-use Rattle.files.specs.Faults.{IsSystemFault}
-use Rattle.files.specs.Telling.{TellsError}
-use Rattle.server.specs.Following.{IsBookOf, Reader, ReaderLeads}
-use Rattle.server.specs.Programs.{AfterJournal, KeepsInFile, LosesInFile, ShownBy, TellsWhy}
-use Rattle.server.specs.Reopening.{at_stream, journal_line, IsUnopened}
+use Rattle.server.specs.Programs.{AfterJournal, KeepsInFile, LosesInFile, ShownBy}
 use Rattle.server.specs.Sessions.{is_unkept, AlwaysAnswered, AlwaysInOrder, AreLines}
 
 -- the line with an address
@@ -85,16 +80,11 @@ AnswersConnections {K} kept failed taken desk errors new = (acts : History) × (
     × AlwaysAnswered (DeskAnswers sha256 keyed_value keyed_signature chacha_salts kept failed) (record { service = desk; sessions = [] }) acts lines
     × ShownBy kept failed desk lines after.service × TellsAll is_unkept (report_every taken) false acts errors new
 
--- what is next comes, unless the copy of a journal fails at the start: then a line may say why
-abbrev pub AfterCopy : Option (List ℕ) → Option (List ℕ) → Result (Unit {0}) ProgramFault → Option (List ℕ) → Type 0 → Type 0
-AfterCopy None old result new Next = Next
-AfterCopy (Some path) old result new Next = ((fault : ProgramFault) × (result ≡ Err fault) × IsSystemFault fault × TellsError (codes "copy: ") path old new) ⊎ Next
-
 -- connections are answered from the desk of a journal's directory, whose line comes first
 abbrev pub TellsKept : DirectoryOptions → List ℕ → ConnectionOptions → Option (List ℕ) → Result (Unit {0}) ProgramFault → Option (List ℕ) → Type 0
 TellsKept asked path taken errors result new = ((result ≡ Err BadHex) × Keeps errors new)
     ⊎ ((keys : DirectoryKeys) × (keys_of asked ≡ Some keys)
-    × AfterJournal keys path errors new result ⊤ (λ desk told. AfterCopy taken.copy told result new (TellsAddress (AnswersConnections KeepsInFile LosesInFile taken desk) told result new)))
+    × AfterJournal keys path errors new result ⊤ (λ desk told. TellsAddress (AnswersConnections KeepsInFile LosesInFile taken desk) told result new))
 
 -- the directory of these keys is begun, and connections are answered from its desk
 abbrev pub ServesBegun : DirectoryOptions → ConnectionOptions → Option (List ℕ) → Option (List ℕ) → Type 0
@@ -110,58 +100,5 @@ abbrev pub TellsBy : Option (List ℕ) → DirectoryOptions → ConnectionOption
 TellsBy None asked taken errors result new = TellsUnkept asked taken errors result new
 TellsBy (Some path) asked taken errors result new = TellsKept asked path taken errors result new
 
--- ---- readers
-
--- what ends a reader: an order to stop, the end of what it follows, or a fault of that
-abbrev pub EndsReading : Result (Unit {0}) ProgramFault → Type 0
-EndsReading (Ok done) = ⊤
-EndsReading (Err BadRecord) = ⊤
-EndsReading (Err OtherKeys) = ⊥
-EndsReading (Err CannotRead) = ⊤
-EndsReading (Err OutOfMemory) = ⊤
-EndsReading (Err BadHex) = ⊥
-EndsReading (Err (BadItem line)) = ⊥
-EndsReading (Err (IndexRepeated line)) = ⊥
-EndsReading (Err (NotACommand line)) = ⊥
-EndsReading (Err NotEvidence) = ⊥
-EndsReading (Err CannotWrite) = ⊥
-EndsReading (Err CannotListen) = ⊥
-
--- Connections are answered from a reader on, as ordered: there is a history of them, which leads from it, so that at each
--- time it has the book of what came. What an edit is refused is told of nowhere.
-abbrev pub AnswersReading : ConnectionOptions → Reader → Option (List ℕ) → Option (List ℕ) → Type 0
-AnswersReading taken start errors new = (acts : History) × (after : Reader)
-    × KeepsOrder taken acts × ReaderLeads (λ reader. reader) start acts after × TellsAll (λ _. false) (report_every taken) false acts errors new
-
--- the line of the address is written, and this is what comes behind it; or none comes
-abbrev pub TellsReading : ConnectionOptions → Reader → Option (List ℕ) → Result (Unit {0}) ProgramFault → Option (List ℕ) → Type 0
-TellsReading taken start old result new = ((fault : ProgramFault) × (result ≡ Err fault) × TellsAddressLine old (Err fault) new)
-    ⊎ ((address : List ℕ) × (told : Option (List ℕ)) × Appends old told (address_line address) × EndsReading result × AnswersReading taken start told new)
-
--- a reader of these keys begins with the book to which some bytes open
-abbrev pub BeginsReading : DirectoryKeys → Reader → Type 0
-BeginsReading keys start = (start.hub.sessions ≡ []) × (start.hub.service.token ≡ keys.token) × (start.has_failed ≡ false)
-    × (start.hub.service.directory.signing_key ≡ keys.signing_key) × (start.hub.service.directory.vuf_key ≡ keys.vuf_key)
-    × (bytes : List ℕ) × (records : ℕ) × Counts bytes records × IsBookOf (chacha_salts (at_stream keys.salt_key records)) bytes start
-
--- why no reader begins: what it follows is refused, or cannot be read; or its line cannot be written
-abbrev pub NotBegun : DirectoryKeys → List ℕ → ProgramFault → Option (List ℕ) → Option (List ℕ) → Type 0
-NotBegun keys path fault old new = (IsUnopened keys None fault × TellsWhy path fault old new)
-    ⊎ ((records : ℕ) × (fault ≡ CannotWrite) × WritesBeginning old new (journal_line records 0))
-
--- What comes of what is followed: no reader begins, and no more is done; or one does, its line is written to the errors, and
--- connections are answered.
-abbrev pub TellsFollowed : DirectoryOptions → List ℕ → ConnectionOptions → Option (List ℕ) → Result (Unit {0}) ProgramFault → Option (List ℕ) → Type 0
-TellsFollowed asked path taken errors result new = ((result ≡ Err BadHex) × Keeps errors new)
-    ⊎ ((keys : DirectoryKeys) × (keys_of asked ≡ Some keys)
-    × (((fault : ProgramFault) × (result ≡ Err fault) × NotBegun keys path fault errors new)
-    ⊎ ((records : ℕ) × (start : Reader) × (told : Option (List ℕ)) × BeginsReading keys start
-    × Appends errors told (journal_line records 0) × TellsReading taken start told result new)))
-
--- the same of an order, by whether it follows anything
-abbrev pub TellsUnless : Option (List ℕ) → DirectoryOptions → ConnectionOptions → Option (List ℕ) → Result (Unit {0}) ProgramFault → Option (List ℕ) → Type 0
-TellsUnless None asked taken errors result new = TellsBy asked.journal asked taken errors result new
-TellsUnless (Some path) asked taken errors result new = TellsFollowed asked path taken errors result new
-
 abbrev pub ListenTells : DirectoryOptions → ConnectionOptions → Option (List ℕ) → Result (Unit {0}) ProgramFault → Option (List ℕ) → Type 0
-ListenTells asked taken = TellsUnless taken.follow asked taken
+ListenTells asked = TellsBy asked.journal asked

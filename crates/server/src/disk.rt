@@ -30,10 +30,6 @@ pub(crate) struct Disk {
     state: Cell<DiskState>,
     /// What the system said when it last did not do what was asked.
     error: Cell<Option<Error>>,
-    /// How many bytes it has, since this was last asked of the system.
-    size: Cell<u64>,
-    /// How many of them are whole texts: the write that ended them took all that it was given.
-    whole: Cell<u64>,
 }
 
 impl Disk {
@@ -43,27 +39,7 @@ impl Disk {
             file,
             state: Cell::new(DiskState::Unsynced),
             error: Cell::new(None),
-            size: Cell::new(0),
-            whole: Cell::new(0),
         }
-    }
-
-    pub(crate) fn file(&self) -> &File {
-        &self.file
-    }
-
-    /// How many bytes of it are whole records, once it was settled.
-    pub(crate) fn whole(&self) -> u64 {
-        self.whole.get()
-    }
-
-    /// Puts on the disk what it has, which are whole records.
-    pub(crate) fn settle(&self) -> io::Result<()> {
-        self.sync()?;
-        let size = self.size()?;
-        self.size.set(size);
-        self.whole.set(size);
-        Ok(())
     }
 
     /// The last error of the system, if there was one.
@@ -122,23 +98,11 @@ impl Disk {
         }
         self.state.set(DiskState::Unsynced);
         match (&mut &self.file).write(bytes) {
-            Ok(count) => {
-                self.grow(count, bytes.len());
-                Ok(count)
-            }
+            Ok(count) => Ok(count),
             Err(error) => {
                 self.error.set(Some(error));
                 Err(error)
             }
-        }
-    }
-
-    /// It has so many bytes more, of so many that it was given.
-    fn grow(&self, count: usize, given: usize) {
-        let size = self.size.get().saturating_add(count as u64);
-        self.size.set(size);
-        if count == given {
-            self.whole.set(size);
         }
     }
 

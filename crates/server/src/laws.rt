@@ -1,15 +1,11 @@
-ghost use Rattle.std.specs.Prelude.{◌≡◌, ◌⊎◌, ◌≤◌, ℕ, Bool, List, Some, take};
-ghost use Rattle.server.specs.Copying.{AppendsFrom, IsCopy};
+ghost use Rattle.std.specs.Prelude.{◌≡◌, ◌⊎◌, ℕ, List};
 ghost use Rattle.rand_chacha.specs.ChaCha.{ChaCha};
-ghost use Rattle.rand_core.specs.Stream.{Stream};
-ghost use Rattle.epochs.specs.DirectoryStates.{book};
-ghost use Rattle.server.specs.Following.{AlwaysFollows, IsBookOf, Reader, ReaderAnswers, ReaderDesk, ReaderLeads};
 ghost use Rattle.book.specs.Salts.{chacha_salts, GivesSalts};
 ghost use Rattle.hub.specs.DeskRuns.{IsSoundDesk, ShowHonestRun};
 ghost use Rattle.hub.specs.Desks.{DeskState, DeskAnswers};
 ghost use Rattle.hub.specs.Exchanges.{Exchange};
 ghost use Rattle.hub.specs.Events.{HubState};
-ghost use Rattle.hub.specs.Runs.{AllAnswered, Line};
+ghost use Rattle.hub.specs.Runs.{Line};
 ghost use Rattle.connections.specs.Histories.{History};
 ghost use Rattle.connections.specs.Laws.{AlwaysWaitWithin};
 ghost use Rattle.connections.specs.Soundness.{IsSoundHistory};
@@ -76,27 +72,4 @@ pub fn crowd_outputs_are_bounded<H: NodeHash, V: Vuf, S: Signer, G: Rng, K: Keep
 /// `book` ask of the salts to come.
 pub fn salts_have_their_size()
     ensures { (generator : ChaCha) → GivesSalts (chacha_salts generator) }
-{}
-
-/// A reader has at each time the book of a beginning of the records that came: that to which the bytes of its start and those
-/// that came so far open, with what is held behind them. So it is, by `journals_open_to_their_runs`, the book of a beginning
-/// of the run that the journal has.
-pub fn readers_follow()
-    ensures { (start after : Reader) (acts : History) (salts : Stream) (bytes : List ℕ)
-        → IsBookOf salts bytes start → ReaderLeads (λ reader. reader) start acts after → AlwaysFollows salts bytes start acts }
-{}
-
-/// What a reader answers leaves its book: it can keep no record. So what is answered between two records is of one book, and
-/// shows an honest run from it, by `replies_are_honest` of `hub`.
-pub fn readers_answer_from_one_book()
-    ensures { (before after : ReaderDesk) (lines : List Line)
-        → AllAnswered ReaderAnswers before lines after
-        → book chacha_salts after.directory ≡ book chacha_salts before.directory }
-{}
-
-/// What a copy holds stays a beginning of what its journal holds, whatever fails: so it is of what was on the journal's
-/// disk, since no more is handed to it.
-pub fn copies_are_beginnings()
-    ensures { (journal copy new : List ℕ) (from reached : ℕ) (is_whole : Bool) → from ≤ reached → copy ≡ take from journal
-        → AppendsFrom (Some journal) from reached is_whole (Some copy) (Some new) → IsCopy journal new }
 {}

@@ -6,18 +6,13 @@
 //! were taken. Malformed keys are refused before anything is read.
 #![tactic(auto)]
 
-mod copying;
 mod disk;
-mod journal_copy;
 mod journal_file;
 mod keys;
 mod laws;
 mod listening;
 mod opening;
 mod order;
-mod pace;
-mod readers;
-mod reading;
 mod reopening;
 mod serve_fault;
 mod serving;
@@ -31,8 +26,8 @@ pub use hub::MAX_SESSIONS;
 pub use journal_file::{DiskFile, JournalFile};
 pub use keys::{ServedDesk, ServedDirectory};
 pub use laws::{
-    copies_are_beginnings, crowd_outputs_are_bounded, crowds_show_one_run, numbers_have_their_values,
-    readers_answer_from_one_book, readers_follow, salts_have_their_size, sessions_show_one_run,
+    crowd_outputs_are_bounded, crowds_show_one_run, numbers_have_their_values,
+    salts_have_their_size, sessions_show_one_run,
 };
 pub use listening::listen;
 pub use order::{DirectoryOrder, ListenOrder};

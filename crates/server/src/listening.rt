@@ -3,7 +3,7 @@
 // history that keeps the limits of the order. That the sockets had that very history is what the loop
 // (`answer_all` of `connections`) says of connections of which contracts know what they carry.
 // `scripts/listen.sh` covers the rest.
-ghost use Rattle.std.specs.Prelude.{◌≡◌, ◌≢◌, ◌↔◌, ◌⊎◌, Bool, List, [], codes, Err, IfErr, IsErr, None, false};
+ghost use Rattle.std.specs.Prelude.{◌≡◌, ◌≢◌, ◌↔◌, ◌⊎◌, Bool, List, [], Err, IfErr, IsErr, None, false};
 ghost use Rattle.book.specs.Salts.{chacha_salts};
 ghost use Rattle.connections.specs.Fitting.{size_of, AreFree};
 ghost use Rattle.connections.specs.Histories.{History};
@@ -16,33 +16,25 @@ ghost use Rattle.sigiface.specs.StandIn.{keyed_signature};
 ghost use Rattle.vrfiface.specs.StandIns.{keyed_value};
 ghost use Rattle.textio.specs.declared.program_fault.ProgramFault.TheVariants.{BadHex};
 ghost use Rattle.wire.specs.declared.answer.TheConstants.{MAX_ANSWER_LEN};
-ghost use Rattle.std.specs.Str.{bytes_eq};
-ghost use Rattle.server.specs.ConnectionOptions.{connections_of, follows_input, idle_limit, most_open, report_every};
+ghost use Rattle.server.specs.ConnectionOptions.{connections_of, idle_limit, most_open, report_every};
 ghost use Rattle.server.specs.DirectoryOptions.{directory_values};
 ghost use Rattle.server.specs.Directories.{keys_of};
-ghost use Rattle.server.specs.Following.{begun_reader, reader_of};
-ghost use Rattle.server.specs.Listening.{AfterCopy, AnswersConnections, AnswersReading, KeepsLimits, ListenTells, TellsAddress, TellsAddressLine, TellsFollowed, TellsKept, TellsReading, TellsUnkept};
-ghost use Rattle.server.specs.Programs.{KeepsInFile, LosesInFile, ShownBy};
+ghost use Rattle.server.specs.Listening.{AnswersConnections, KeepsLimits, ListenTells, TellsAddress, TellsAddressLine, TellsKept, TellsUnkept};
+ghost use Rattle.server.specs.Programs.{ShownBy};
 ghost use Rattle.server.specs.Sessions.{is_unkept, AreLines};
 
 use crate::ListenOrder;
-use crate::readers::{Input, ReaderSessions};
-use crate::journal_copy::{JournalCopy, open_copy};
 use crate::disk::Disk;
-use crate::journal_file::DiskFile;
 use crate::keys::{Keys, ServedDesk};
 use crate::opening::{open_file, open_journal};
-use crate::pace::Pace;
-use crate::reading::{Begun, begin_from, open_followed};
 use crate::sessions::HubSessions;
-use crate::sockets::{Beside, Sockets};
+use crate::sockets::Sockets;
 use book::{Keeper, NoKeeper};
 use connections::{Connections, Limits, Places, answer_all};
 use hub::{Hub, MAX_SESSIONS};
-use journal::Journal;
 use std::alloc::Global;
 use std::fs::{File, Files};
-use std::io::{BufRead, Read, Write};
+use std::io::{BufRead, Write};
 use std::net::{Net, SocketAddr};
 use std::time::Clock;
 use textio::{ProgramFault, write_text};
@@ -150,8 +142,7 @@ fn listen_from<N, K, R, E>(
     alloc: Global,
     system: &N,
     hub: Hub<ServedDesk<K>>,
-    beside: Beside<'_>,
-    copy: Option<JournalCopy>,
+    disk: Option<&Disk>,
     order: ListenOrder<'_>,
     input: &mut R,
     errors: &mut E,
@@ -168,7 +159,7 @@ where
 {
     let count = most_open(order);
     let places = Places::free(alloc, count)?;
-    let Ok(mut sockets) = Sockets::listen(alloc, system, order.address, count, beside, copy) else {
+    let Ok(mut sockets) = Sockets::listen(alloc, system, order.address, count, disk) else {
         return Err(ProgramFault::CannotListen);
     };
     let Ok(address) = sockets.address() else {
@@ -204,48 +195,7 @@ where
     let keys = Keys::read(&order.directory)?;
     let directory = keys.begin(alloc)?;
     let hub = Hub::new(alloc, directory, NoKeeper, keys.token());
-    listen_from(
-        alloc,
-        system,
-        hub,
-        Beside::nothing(),
-        None,
-        order,
-        input,
-        errors,
-    )
-}
-
-/// Listens with a directory that is kept on a disk, and copied, if the order has a copy.
-fn listen_copied<'a, N, R, E>(
-    alloc: Global,
-    system: &N,
-    hub: Hub<ServedDesk<Journal<DiskFile<'a>>>>,
-    disk: &Disk,
-    order: ListenOrder<'_>,
-    input: &mut R,
-    errors: &mut E,
-) -> Result<(), ProgramFault>
-where
-    N: Net + Clock + Files<File = File>,
-    R: BufRead,
-    E: Write,
-    requires { hub.sessions ≡ [] }
-    ensures good_hex { IfErr result (λ fault. fault ≢ BadHex) }
-    ensures tells { AfterCopy (connections_of order.entry).copy (E.contents errors.old) result (E.contents errors.new) (TellsAddress (AnswersConnections KeepsInFile LosesInFile (connections_of order.entry) hub.service) (E.contents errors.old) result (E.contents errors.new)) }
-    ensures unread { (order.entry.until_eof ≡ false) ⊎ IsErr result → input.new ≡ input.old }
-{
-    let beside = Beside {
-        disk: Some(disk),
-        pace: None,
-    };
-    let Some(path) = order.copy else {
-        return listen_from(alloc, system, hub, beside, None, order, input, errors);
-    };
-    match open_copy(alloc, system, path, disk, errors) {
-        Ok(copy) => listen_from(alloc, system, hub, beside, Some(copy), order, input, errors),
-        Err(fault) => Err(fault),
-    }
+    listen_from(alloc, system, hub, None, order, input, errors)
 }
 
 /// Listens with the directory that is kept in the file of this path.
@@ -274,125 +224,7 @@ where
         Ok(hub) => hub,
         Err(fault) => return Err(fault),
     };
-    listen_copied(alloc, system, hub, &disk, order, input, errors)
-}
-
-/// Answers connections of a reader, which goes on from here with what its source gives.
-fn answer_reader<'a, F, C, E>(
-    alloc: Global,
-    places: Places,
-    sessions: &mut ReaderSessions<'a, F>,
-    connections: &mut C,
-    order: ListenOrder<'_>,
-    errors: &mut E,
-)
-where
-    F: Read + Drop,
-    C: Connections<ReaderSessions<'a, F>>,
-    E: Write,
-    requires free { AreFree places }
-    requires size { size_of places ≡ most_open (connections_of order) }
-    ensures { C.has connections.old [] → AnswersReading (connections_of order.entry) (reader_of F.remaining sessions.old) (E.contents errors.old) (E.contents errors.new) }
-{
-    answer_all(
-        alloc,
-        places,
-        sessions,
-        connections,
-        limits_of(order),
-        errors,
-    );
-}
-
-/// Listens on the address, and answers connections from the hub of a reader.
-fn listen_reading<N, F, R, E>(
-    alloc: Global,
-    system: &N,
-    begun: Begun<F>,
-    stop: Option<&mut R>,
-    order: ListenOrder<'_>,
-    errors: &mut E,
-) -> Result<(), ProgramFault>
-where
-    N: Net + Clock,
-    F: Read + Drop,
-    R: BufRead,
-    E: Write,
-    ensures { TellsReading (connections_of order.entry) (begun_reader F.remaining begun) (E.contents errors.old) result (E.contents errors.new) }
-{
-    let count = most_open(order);
-    let places = Places::free(alloc, count)?;
-    let pace = Pace::of_file();
-    let beside = Beside {
-        disk: None,
-        pace: Some(&pace),
-    };
-    let Ok(mut sockets) = Sockets::listen(alloc, system, order.address, count, beside, None) else {
-        return Err(ProgramFault::CannotListen);
-    };
-    let Ok(address) = sockets.address() else {
-        return Err(ProgramFault::CannotListen);
-    };
-    match stop {
-        Some(input) => {
-            if order.until_eof {
-                sockets.stop_at_end_of(input);
-            }
-        }
-        None => sockets.follow_input(&pace),
-    }
-    let Begun {
-        hub,
-        source,
-        held,
-    } = begun;
-    let mut sessions = ReaderSessions::new(alloc, hub, source, held, &pace)?;
-    tell_address(alloc, address, errors)?;
-    answer_reader(
-        alloc,
-        places,
-        &mut sessions,
-        &mut sockets,
-        order,
-        errors,
-    );
-    pace.outcome()
-}
-
-/// Listens as a reader of the copy in the file of this path, or of standard input.
-fn listen_following<N, R, E>(
-    alloc: Global,
-    system: &N,
-    order: ListenOrder<'_>,
-    path: &str,
-    input: &mut R,
-    errors: &mut E,
-) -> Result<(), ProgramFault>
-where
-    N: Net + Clock + Files<File = File>,
-    R: BufRead,
-    E: Write,
-    ensures bad_hex { (result ≡ Err BadHex) ↔ (keys_of (directory_values order.entry.directory) ≡ None) }
-    ensures tells { TellsFollowed (directory_values order.entry.directory) path.now (connections_of order.entry) (E.contents errors.old) result (E.contents errors.new) }
-    ensures unread { (order.entry.until_eof ≡ false) ⊎ IsErr result → bytes_eq path.now (codes "-") ≡ false → input.new ≡ input.old }
-{
-    let keys = Keys::read(&order.directory)?;
-    if path == "-" {
-        let begun = match begin_from(alloc, system, &keys, Input::new(input), path, errors) {
-            Ok(begun) => begun,
-            Err(fault) => return Err(fault),
-        };
-        return listen_reading::<N, Input<'_, R>, R, E>(alloc, system, begun, None, order, errors);
-    }
-    let file = match open_followed(alloc, system, path, errors) {
-        Ok(file) => file,
-        Err(fault) => return Err(fault),
-    };
-    let begun = match begin_from(alloc, system, &keys, file, path, errors) {
-        Ok(begun) => begun,
-        Err(fault) => return Err(fault),
-    };
-    listen_reading(alloc, system, begun, Some(input), order, errors)
+    listen_from(alloc, system, hub, Some(&disk), order, input, errors)
 }
 
 /// Listens on the address, and answers connections, many at once, from a directory that begins with it, or
@@ -401,10 +233,7 @@ where
 /// to the errors: `listening on` and the address, with the port that the system chose if port 0 was asked
 /// for. A connection that is closed for want of memory is told of in a line behind it; and so is, once, that an edit was
 /// refused because its record could not be kept, or that a sync failed. Reports come between these lines, if the order wants
-/// them. The input is read only if its end is an order to stop, and not before the address is told; or if it is followed.
-///
-/// An order that follows a copy makes a reader: it begins once the copy has a whole start, carries out what comes of it at the
-/// beginning of each round, and refuses what would change its directory. It ends once a record is refused.
+/// them. The input is read only if its end is an order to stop, and not before the address is told.
 ///
 /// # Errors
 ///
@@ -425,11 +254,8 @@ where
     E: Write,
     ensures bad_hex { (result ≡ Err BadHex) ↔ (keys_of (directory_values order.entry.directory) ≡ None) }
     ensures tells { ListenTells (directory_values order.entry.directory) (connections_of order.entry) (E.contents errors.old) result (E.contents errors.new) }
-    ensures unread { (order.entry.until_eof ≡ false) ⊎ IsErr result → follows_input (connections_of order.entry) ≡ false → input.new ≡ input.old }
+    ensures unread { (order.entry.until_eof ≡ false) ⊎ IsErr result → input.new ≡ input.old }
 {
-    if let Some(path) = order.follow {
-        return listen_following(alloc, system, order, path, input, errors);
-    }
     match order.directory.journal {
         None => listen_unkept(alloc, system, order, input, errors),
         Some(path) => listen_kept(alloc, system, order, path, input, errors),

@@ -7,14 +7,11 @@ ghost use Rattle.std.specs.Prelude.{◌≡◌, ◌≤◌, ℕ, length, IfOk};
 ghost use Rattle.std.specs.Io.{ReadsAtMost};
 
 use crate::disk::Disk;
-use crate::journal_copy::JournalCopy;
-use crate::pace::{FollowFault, Pace};
-use crate::stopping::{STANDARD_INPUT, StopInput};
+use crate::stopping::StopInput;
 use connections::{Connections, Ending, Reading, Sessions, Writing};
 use hub::MAX_SESSIONS;
 use mio::event::Event;
 use mio::net::{TcpListener, TcpStream};
-use mio::unix::SourceFd;
 use mio::{Events, Interest, Poll, Token};
 use std::alloc::{AllocError, Global};
 use std::io::{self, BufRead, Error, ErrorKind, Read, Write};
@@ -58,29 +55,8 @@ pub(crate) struct Sockets<'a, N, R> {
     listener: TcpListener,
     may_take: bool,
     places: Vec<Option<Socket>>,
-    beside: Beside<'a>,
-    /// The copy of the journal.
-    copy: Option<JournalCopy>,
+    disk: Option<&'a Disk>,
     stop: StopInput<'a, R>,
-}
-
-/// What belongs to a server beside its connections.
-#[derive(Clone, Copy)]
-pub(crate) struct Beside<'a> {
-    /// The disk of its journal.
-    pub(crate) disk: Option<&'a Disk>,
-    /// How it stands to what it follows.
-    pub(crate) pace: Option<&'a Pace>,
-}
-
-impl Beside<'_> {
-    /// Nothing.
-    pub(crate) fn nothing() -> Self {
-        Beside {
-            disk: None,
-            pace: None,
-        }
-    }
 }
 
 /// Listens on the first of the address's addresses that it can.
@@ -220,8 +196,7 @@ impl<'a, N: Net + Clock, R: BufRead> Sockets<'a, N, R> {
         system: &'a N,
         address: &str,
         sessions: usize,
-        beside: Beside<'a>,
-        copy: Option<JournalCopy>,
+        disk: Option<&'a Disk>,
     ) -> io::Result<Self> {
         let poll = Poll::new(system)?;
         let mut listener = bind(system, address)?;
@@ -239,8 +214,7 @@ impl<'a, N: Net + Clock, R: BufRead> Sockets<'a, N, R> {
             listener,
             may_take: true,
             places,
-            beside,
-            copy,
+            disk,
             stop: StopInput::none(),
         })
     }
@@ -248,46 +222,6 @@ impl<'a, N: Net + Clock, R: BufRead> Sockets<'a, N, R> {
     /// Takes the end of an input as an order to stop.
     pub(crate) fn stop_at_end_of(&mut self, input: &'a mut R) {
         self.stop = StopInput::new(self.poll.registry(), input);
-    }
-
-    /// Has the system report when standard input, which is followed, can be read. Of a file it cannot: that is read again
-    /// and again.
-    pub(crate) fn follow_input(&self, pace: &Pace) {
-        let registered = self.poll.registry().register(
-            &mut SourceFd(&STANDARD_INPUT),
-            INPUT,
-            Interest::READABLE,
-        );
-        if registered.is_ok() {
-            pace.is_reported();
-        }
-    }
-
-    /// For how long a round may wait by what is followed, of so long at most.
-    fn follow_for(&self, most: u64) -> u64 {
-        let Some(pace) = self.beside.pace else {
-            return most;
-        };
-        if pace.takes_unasked() {
-            // What is left, if anything is, is reported again.
-            let again = self.poll.registry().reregister(
-                &mut SourceFd(&STANDARD_INPUT),
-                INPUT,
-                Interest::READABLE,
-            );
-            if again.is_err() {
-                pace.fail(FollowFault::CannotRead);
-            }
-        }
-        pace.wait(most)
-    }
-
-    /// Whether nothing more is followed. This is an order to stop.
-    fn has_followed(&self) -> bool {
-        match self.beside.pace {
-            Some(pace) => pace.is_over(),
-            None => false,
-        }
     }
 
     /// The address that it listens on, with the port that the system chose.
@@ -322,12 +256,7 @@ impl<'a, N: Net + Clock, R: BufRead> Sockets<'a, N, R> {
         for event in &self.events {
             match event.token() {
                 LISTENER => self.may_take = true,
-                INPUT => {
-                    self.stop.mark();
-                    if let Some(pace) = self.beside.pace {
-                        pace.mark();
-                    }
-                }
+                INPUT => self.stop.mark(),
                 Token(place) => {
                     if let Some(Some(socket)) = self.places.get_mut(place) {
                         socket.mark(event);
@@ -348,7 +277,6 @@ impl<N: Net + Clock, R: BufRead, S: Sessions> Connections<S> for Sockets<'_, N, 
 
     fn wait(&mut self, _sessions: &S, most: u64) -> u64 {
         let most = if self.stop.waits() { most } else { 0 };
-        let most = self.follow_for(most);
         if most > 0 {
             self.poll_for(Duration::from_millis(most));
         }
@@ -360,7 +288,7 @@ impl<N: Net + Clock, R: BufRead, S: Sessions> Connections<S> for Sockets<'_, N, 
     }
 
     fn is_stopped(&mut self, _sessions: &S) -> bool {
-        self.stop.has_ended(self.poll.registry()) || self.has_followed()
+        self.stop.has_ended(self.poll.registry())
     }
 
     fn take(&mut self, place: usize) -> bool {
@@ -422,7 +350,7 @@ impl<N: Net + Clock, R: BufRead, S: Sessions> Connections<S> for Sockets<'_, N, 
 
     fn report(&self, alloc: Global) -> Result<String, AllocError> {
         let open = self.places.iter().filter(|place| place.is_some()).count();
-        let Some(disk) = self.beside.disk else {
+        let Some(disk) = self.disk else {
             return format!(in alloc; "connections={open}");
         };
         // A journal that once failed takes no record any more.
@@ -437,23 +365,9 @@ impl<N: Net + Clock, R: BufRead, S: Sessions> Connections<S> for Sockets<'_, N, 
     }
 
     fn sync(&mut self, _sessions: &S) -> bool {
-        let Some(disk) = self.beside.disk else {
-            return true;
-        };
-        if disk.sync().is_err() {
-            return false;
-        }
-        // What is on the disk is copied before an answer tells of it.
-        if let Some(copy) = &mut self.copy {
-            copy.catch_up(disk.file(), disk.whole());
-        }
-        true
-    }
-
-    fn is_uncopied(&self) -> bool {
-        match &self.copy {
-            Some(copy) => copy.is_broken(),
-            None => false,
+        match self.disk {
+            Some(disk) => disk.sync().is_ok(),
+            None => true,
         }
     }
 }
