@@ -12,9 +12,9 @@
 set -euo pipefail
 cd "$(dirname "$0")/.."
 . bench/build.sh
-. scripts/library.sh
+. scripts/drive/library.sh
 
 build directoryd measure
 mkdir -p bench/out
-library scripts/fail_disk.c bench/out/fail_disk.so
+library scripts/drive/fail_disk.c bench/out/fail_disk.so
 python3 bench/bench.py ask

@@ -5,7 +5,7 @@
 //! decide: a proof that the client refuses, a latest root that does not stand in its chain, roots of which one is left
 //! out, a promise that its provider did not sign, and a reply to another request are told as refused, by the number of
 //! the refusal.
-//! Contracts do not know what a socket has; `scripts/asks.py` shows that.
+//! Contracts do not know what a socket has; `scripts/drive/asks.py` shows that.
 //!
 //! ```text
 //! let mut asker = Asker::start_at_head(alloc, &mut stream, checks, key, token, &mut said)?;

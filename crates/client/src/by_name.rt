@@ -88,7 +88,7 @@ impl IndexedReply {
     }
 }
 
-/// The replies for a name: a plain list until one states a key with Final, as few names have it.
+/// The replies for a name. Until one states a key with Final, a plain list does; few names have such a key.
 #[derive(Drop)]
 pub(crate) enum PlainOrSeveral {
     Plain(Vec<IndexedReply>),

@@ -1,15 +1,11 @@
 -- One line more on the errors.
-use Rattle.std.proofs.Common.{◌≡◌, ◌+◌, ◌<◌, ℕ, Bool, true, false, List, [], ◌∷◌, Option, Result, Ok, Err, OnOk, IfErr, sym, ap, subst, append-nil, arith}
+use Rattle.std.proofs.Common.{◌≡◌, ◌+◌, ◌<◌, ℕ, Bool, true, false, List, ◌∷◌, Option, Result, Ok, Err, OnOk, IfErr, sym, ap, subst, arith}
 use Rattle.std.specs.Io.KnownBytes.{Appends}
 use Rattle.textio.specs.declared.stream_fault.StreamFault.{StreamFault}
 use Rattle.textio.specs.declared.stream_fault.StreamFault.TheVariants.{CannotWrite}
 use Rattle.textio.specs.Output.{WritesBeginning, WritesSome}
+use Rattle.textio.proofs.Writing.{some_written}
 use Rattle.connections.specs.Telling.{line_text, Line, OutOfMemory, Report, TellsLines, Unkept}
-
-writes_some : (old new : Option (List ℕ)) (text : List ℕ) (result : Result (Unit {0}) StreamFault) → OnOk result (Appends old new text)
-    → IfErr result (λ fault. (fault ≡ CannotWrite) × WritesBeginning old new text) → WritesSome old new text
-writes_some old new text (Ok done) whole none = ([], (text, sym (append-nil text), whole))
-writes_some old new text (Err fault) none (same, less) = (less.0, less.2)
 
 module _ (every count : ℕ) (start old new : Option (List ℕ)) (result : Result (Unit {0}) StreamFault) where
   -- the line is written, or a beginning of it
@@ -17,7 +13,7 @@ module _ (every count : ℕ) (start old new : Option (List ℕ)) (result : Resul
   Wrote line = OnOk result (Appends old new (line_text line)) × IfErr result (λ fault. (fault ≡ CannotWrite) × WritesBeginning old new (line_text line))
 
   wrote : (line : Line) → Wrote line → WritesSome old new (line_text line)
-  wrote line (ok, err) = writes_some old new (line_text line) result ok err
+  wrote line (ok, err) = some_written old new (line_text line) result ok err
 
   pub memory_more : (told : Bool) → TellsLines every told count start old → Wrote OutOfMemory → TellsLines every told (count + 1) start new
   memory_more told (lines, written, memory, unkept, none) one = (OutOfMemory ∷ lines, (old, written, wrote OutOfMemory one), ap (λ (n : ℕ). n + 1) memory, unkept, none)

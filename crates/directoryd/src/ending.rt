@@ -13,6 +13,7 @@ use crate::order::{Order, order};
 use crate::refusing::{refuse, refuse_bytes};
 use crate::{audit, judge_at, play, prove, root};
 use audits::JudgeOrder;
+use nodehash::GroupSize;
 use std::alloc::Global;
 use std::convert::AsStr;
 use std::fs::{File, Files};
@@ -75,8 +76,14 @@ where
         (E.contents errors.old) (E.contents errors.new) result }
 {
     match order {
-        Order::Root(order) => done(root(alloc, order, reader, writer)),
-        Order::Prove(order) => done(prove(alloc, order, reader, writer)),
+        Order::Root(order) => {
+            let size = GroupSize::faster(system);
+            done(root(alloc, order, size, reader, writer))
+        }
+        Order::Prove(order) => {
+            let size = GroupSize::faster(system);
+            done(prove(alloc, order, size, reader, writer))
+        }
         Order::Audit(order) => done(audit(alloc, order, reader, writer)),
         Order::Judge(order) => judge(alloc, system, order, writer, errors),
         Order::Play => done(play(alloc, reader, writer)),

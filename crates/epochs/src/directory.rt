@@ -135,7 +135,7 @@ impl<H: NodeHash, V: Vuf, S: Signer, R: Rng> Directory<H, V, S, R> {
         root
     }
 
-    /// How many names it has, those among them that wait for their first epoch.
+    /// How many names it has. A name that waits for its first epoch counts too.
     pub fn count_names(&self) -> usize {
         self.names.count()
     }

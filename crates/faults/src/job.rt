@@ -4,6 +4,7 @@ use crate::provider;
 use audits::{AuditOrder, audit, judge_file};
 use book::NoKeeper;
 use items::{HashChoice, ProveOrder, RootOrder, prove, root};
+use nodehash::GroupSize;
 use play::play;
 use questions::{Case, tells_of_memory};
 use server::{ServeFault, serve};
@@ -134,8 +135,8 @@ impl<'a> Job<'a> {
             Job::Tell(line) => ended(ProgramFault::IndexRepeated(*line).tell(writer)),
             Job::Read(most) => streamed(copy_bytes(*most, reader, writer)),
             Job::Lines => streamed(copy_lines(reader, writer)),
-            Job::Root(order) => ended(root(alloc, *order, reader, writer)),
-            Job::Prove(order) => ended(prove(alloc, *order, reader, writer)),
+            Job::Root(order) => ended(root(alloc, *order, GroupSize::Four, reader, writer)),
+            Job::Prove(order) => ended(prove(alloc, *order, GroupSize::Four, reader, writer)),
             Job::Audit(order) => ended(audit(alloc, *order, reader, writer)),
             Job::Judge { signing_key, file } => match judge_file(alloc, signing_key, file, writer) {
                 Ok(_) => ended(Ok(())),

@@ -11,7 +11,7 @@
 //! `crowd` answers many connections at once, which do what a script says; `reports` does so with reports. `piece`
 //! tells what a session's one piece brings, and what an empty piece brings behind it where memory ran out.
 //!
-//! The stored answers come from `scripts/fault_questions.py`, which computes them from the definitions.
+//! The stored answers come from `scripts/model/fault_answers.py`, which computes them from the definitions.
 #![tactic(auto)]
 
 mod crowd;

@@ -2,7 +2,7 @@
 //! the entry of a new one is on the disk of its folder before it holds anything.
 //!
 //! Contracts do not know what a file holds, who may read it, or what a disk has: the clauses speak of faults alone,
-//! and `scripts/journal.sh` and `scripts/states.py` show the rest.
+//! and `scripts/drive/journal.sh` and `scripts/drive/states.py` show the rest.
 //!
 //! ```text
 //! let mut file = match open_locked(system, path) {

@@ -1,5 +1,6 @@
 pub mod TreeOptions
 pub mod Items
+pub mod NextLine
 pub mod Listing
 pub mod Root
 pub mod Prove

@@ -10,7 +10,7 @@
 //!     hash: HashChoice::Sum,
 //!     nonce: None,
 //! };
-//! root(rt.alloc(), order, &mut reader, &mut writer)?;
+//! root(rt.alloc(), order, GroupSize::Four, &mut reader, &mut writer)?;
 //! ```
 #![tactic(auto)]
 

@@ -2,9 +2,11 @@
 // once. Only where an index stands twice are the items gone through again, for the first that repeats
 // one. That one comes before the malformed line, so it is the first fault.
 ghost use Rattle.std.specs.Prelude.{◌≡◌, ◌+◌, IfOk, IfErr, IfSome, MatchOption, Ok};
+ghost use Rattle.std.specs.Io.KnownBytes.{Keeps};
 ghost use Rattle.prefixtree.specs.Placement.{IsPlacement, HasDistinctIndices};
 ghost use Rattle.textio.specs.Faults.{IsTold, IsDeviceFault, IsInputFault};
 ghost use Rattle.items.specs.Items.{item_of, placement_of};
+ghost use Rattle.items.specs.NextLine.{item_in_front, TakesNext};
 ghost use Rattle.textio.specs.Lines.{lines_of};
 ghost use Rattle.items.specs.Listing.{item_list, IsFirstRepeat};
 
@@ -13,7 +15,7 @@ use prefixtree::{Item, placed};
 use std::alloc::{AllocError, Global};
 use std::collections::BTreeSet;
 use std::io::BufRead;
-use textio::{HASH_DIGITS, ProgramFault, hex32, next_line};
+use textio::{HASH_DIGITS, ProgramFault, StreamFault, after_error, hex32, next_line};
 
 /// The bytes of an item's line: two hashes and a space.
 const ITEM_SIZE: usize = 2 * HASH_DIGITS + 1;
@@ -37,6 +39,66 @@ fn item(line: &[u8]) -> Option<Item>
     Some((Index::new(index), Hash32::new(commitment)))
 }
 
+/// The item of the line at the front of some bytes, where an item's line and its LF stand there.
+fn front_item(shown: &[u8]) -> Option<Item>
+    ensures { result ≡ item_in_front shown.now }
+{
+    if shown.len() <= ITEM_SIZE {
+        return None;
+    }
+    if shown[ITEM_SIZE] != b'\n' {
+        return None;
+    }
+    item(shown.split_at(ITEM_SIZE).0)
+}
+
+/// Takes the next line, where the reader's buffer shows an item's line and its LF. Else nothing is taken.
+fn take_shown<R: BufRead>(reader: &mut R) -> Result<Option<Item>, StreamFault>
+    ensures ok { IfOk result (λ found. MatchOption found (Keeps (R.remaining reader.old) (R.remaining reader.new))
+        (λ item. TakesNext (R.remaining reader.old) (R.remaining reader.new) (NextLine.Item item))) }
+    ensures err { IfErr result (λ fault. (fault ≡ StreamFault.CannotRead) × Keeps (R.remaining reader.old) (R.remaining reader.new)) }
+{
+    let shown = match reader.fill_buf() {
+        Ok(shown) => shown,
+        Err(error) => {
+            after_error(&error, StreamFault::CannotRead)?;
+            return Ok(None);
+        }
+    };
+    let Some(item) = front_item(shown) else {
+        return Ok(None);
+    };
+    reader.consume(ITEM_SIZE + 1);
+    Ok(Some(item))
+}
+
+/// What the next line of an input is.
+#[derive(Clone, Copy, Debug)]
+enum NextLine {
+    Item(Item),
+    Malformed,
+    /// There is none.
+    End,
+}
+
+/// Takes the next line. Most lines are read where they stand in the reader's buffer; one that it does not show
+/// whole is copied.
+fn next_item<R: BufRead>(reader: &mut R) -> Result<NextLine, StreamFault>
+    ensures ok { IfOk result (λ next. TakesNext (R.remaining reader.old) (R.remaining reader.new) next) }
+    ensures err { IfErr result (λ fault. fault ≡ StreamFault.CannotRead) }
+{
+    if let Some(item) = take_shown(reader)? {
+        return Ok(NextLine::Item(item));
+    }
+    let Some(line) = next_line::<LINE_KEPT, R>(reader)? else {
+        return Ok(NextLine::End);
+    };
+    match item(line.bytes()) {
+        Some(item) => Ok(NextLine::Item(item)),
+        None => Ok(NextLine::Malformed),
+    }
+}
+
 /// The items before the first malformed line.
 #[derive(Debug, Drop)]
 struct Listing {
@@ -54,19 +116,21 @@ fn list_items<R: BufRead>(alloc: Global, reader: &mut R) -> Result<Listing, Prog
     let mut items = Vec::new(alloc);
     // Every loop of Rattle has an end: this one's is past any input.
     for _ in 0..u64::MAX {
-        let Some(line) = next_line::<LINE_KEPT, R>(reader)? else {
-            return Ok(Listing {
-                items,
-                is_cut: false,
-            });
-        };
-        let Some(item) = item(line.bytes()) else {
-            return Ok(Listing {
-                items,
-                is_cut: true,
-            });
-        };
-        items.push(item)?;
+        match next_item(reader)? {
+            NextLine::Item(item) => items.push(item)?,
+            NextLine::Malformed => {
+                return Ok(Listing {
+                    items,
+                    is_cut: true,
+                });
+            }
+            NextLine::End => {
+                return Ok(Listing {
+                    items,
+                    is_cut: false,
+                });
+            }
+        }
     }
     Err(ProgramFault::CannotRead)
 }

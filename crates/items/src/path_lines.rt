@@ -1,8 +1,9 @@
 ghost use Rattle.std.specs.Prelude.{◌≡◌, ◌≢◌, ◌↔◌, ◌⊎◌, ◌++◌, Err, IfOk, IfErr, None};
 ghost use Rattle.textio.specs.Digits.{hex32, hex32_or_zeros};
+ghost use Rattle.prefixtree.specs.Placement.{IsPlacement};
 ghost use Rattle.items.specs.Items.{placement_of};
 ghost use Rattle.textio.specs.Output.{Ends};
-ghost use Rattle.items.specs.Prove.{end_line, path_lines, sibling_lines, PathTold, Proves};
+ghost use Rattle.items.specs.Prove.{end_line, path_lines, sibling_lines, PathTold, Proves, TellsPath};
 ghost use Rattle.items.specs.TreeOptions.{tree_values};
 
 use crate::listing::read_placement;
@@ -10,8 +11,8 @@ use crate::orders::{HashChoice, ProveOrder};
 use crate::root_line::root_text;
 use encoding::{Hash32, Index};
 use itoa::Buffer;
-use nodehash::{NodeHash, Sha256Hash, SumHash};
-use prefixtree::{End, Path, Tree, path_is_way};
+use nodehash::{GroupSize, NodeHash, Sha256Hash, SumHash};
+use prefixtree::{End, Item, Path, path_is_way, path_of_items, way_is_fold};
 use std::alloc::{AllocError, Global};
 use std::io::{BufRead, Write};
 use textio::{ProgramFault, hex_digits, hex32_or_zeros, option_hex32, write_text};
@@ -64,8 +65,26 @@ fn path_text(alloc: Global, path: &Path, root: &Hash32) -> Result<Vec<u8>, Alloc
     Ok(lines)
 }
 
-/// Writes the path of an index among the items that the input lists, under this hash function and
-/// nonce, once the path is checked against the root.
+/// The lines that tell the path of an index among items, and the root that it leads to.
+fn told_path<H: NodeHash>(
+    alloc: Global,
+    hash: &mut H,
+    nonce: &Hash32,
+    items: &[Item],
+    index: &Index,
+) -> Result<Vec<u8>, AllocError>
+    requires { IsPlacement items.now }
+    ensures { IfOk result (λ text. TellsPath H.digest_of nonce.now index.now items.now text.items) }
+{
+    let path = path_of_items(alloc, hash, nonce, items, index)?;
+    // By these laws the path leads to the root of the items.
+    path_is_way();
+    way_is_fold();
+    let root = path.root(hash, nonce, index);
+    path_text(alloc, &path, &root)
+}
+
+/// Writes the path of an index among the items that the input lists, under this hash function and nonce.
 fn prove_under<H: NodeHash, R: BufRead, W: Write>(
     alloc: Global,
     hash: &mut H,
@@ -79,19 +98,13 @@ fn prove_under<H: NodeHash, R: BufRead, W: Write>(
     ensures good_hex { IfErr result (λ fault. fault ≢ ProgramFault.BadHex) }
 {
     let items = read_placement(alloc, reader)?;
-    let tree = Tree::from_items(alloc, hash, *nonce, &items)?;
-    let path = tree.path(index);
-    let root = tree.root();
-    path_is_way();
-    if !path.leads(hash, nonce, index, &root) {
-        unreachable!()
-    }
-    write_text(writer, &path_text(alloc, &path, &root)?)?;
+    let text = told_path(alloc, hash, nonce, &items, index)?;
+    write_text(writer, &text)?;
     Ok(())
 }
 
 /// Reads items, one a line, and writes the path of an index among them: its level, what stands at
-/// its end, its siblings from the root down, and the root.
+/// its end, its siblings from the root down, and the root. SHA-256 digests so many texts at once, as in `root`.
 ///
 /// # Errors
 ///
@@ -101,6 +114,7 @@ fn prove_under<H: NodeHash, R: BufRead, W: Write>(
 pub fn prove<R: BufRead, W: Write>(
     alloc: Global,
     order: ProveOrder<'_>,
+    size: GroupSize,
     reader: &mut R,
     writer: &mut W,
 ) -> Result<(), ProgramFault>
@@ -115,7 +129,7 @@ pub fn prove<R: BufRead, W: Write>(
     match order.root.hash {
         HashChoice::Sha256 => prove_under(
             alloc,
-            &mut Sha256Hash::new(),
+            &mut Sha256Hash::in_groups(size),
             &nonce,
             &index,
             reader,

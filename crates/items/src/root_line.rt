@@ -8,7 +8,7 @@ ghost use Rattle.items.specs.Root.{root_answer, root_line, root_result};
 use crate::listing::read_placement;
 use crate::orders::{HashChoice, RootOrder};
 use encoding::{FixedText, Hash32};
-use nodehash::{NodeHash, Sha256Hash, SumHash};
+use nodehash::{GroupSize, NodeHash, Sha256Hash, SumHash};
 use prefixtree::root_of_items;
 use std::alloc::Global;
 use std::io::{BufRead, Write};
@@ -49,7 +49,7 @@ fn root_under<H: NodeHash, R: BufRead, W: Write>(
 }
 
 /// Reads items, one a line, and writes the root of their tree. Nothing is written before the whole
-/// input was read and is good.
+/// input was read and is good. SHA-256 digests so many texts at once, which changes the time alone.
 ///
 /// # Errors
 ///
@@ -59,6 +59,7 @@ fn root_under<H: NodeHash, R: BufRead, W: Write>(
 pub fn root<R: BufRead, W: Write>(
     alloc: Global,
     order: RootOrder<'_>,
+    size: GroupSize,
     reader: &mut R,
     writer: &mut W,
 ) -> Result<(), ProgramFault>
@@ -68,7 +69,10 @@ pub fn root<R: BufRead, W: Write>(
 {
     let nonce = Hash32::new(hex32_or_zeros(order.nonce)?);
     match order.hash {
-        HashChoice::Sha256 => root_under(alloc, &mut Sha256Hash::new(), &nonce, reader, writer),
+        HashChoice::Sha256 => {
+            let hash = &mut Sha256Hash::in_groups(size);
+            root_under(alloc, hash, &nonce, reader, writer)
+        }
         HashChoice::Sum => root_under(alloc, &mut SumHash::new(), &nonce, reader, writer),
     }
 }

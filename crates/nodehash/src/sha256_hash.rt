@@ -7,7 +7,7 @@ ghost use Rattle.lanes.specs.TwoBlocks.{HasTwoBlocks};
 ghost use Rattle.nodehash.specs.Digests.{after_digests};
 ghost use Rattle.nodehash.specs.DigestSizes.{Is32Bytes-sha256};
 
-use crate::{NodeHash, NodeText};
+use crate::{GroupSize, NodeHash, NodeText};
 use encoding::Hash32;
 use lanes::{sha256_eight, sha256_four};
 use sha2::{Digest, Sha256};
@@ -17,6 +17,7 @@ use std::marker::Model;
 #[derive(Debug, Default, Drop)]
 pub struct Sha256Hash {
     count: u64,
+    size: GroupSize,
 }
 
 impl Model for Sha256Hash {
@@ -26,17 +27,20 @@ impl Model for Sha256Hash {
 }
 
 impl Sha256Hash {
-    /// The hash function, with no digest computed yet.
+    /// The hash function, with no digest computed yet. Of many texts it digests four at once.
     pub fn new() -> Self
         ensures { result ≡ 0 }
     {
-        Sha256Hash { count: 0 }
+        Self::in_groups(GroupSize::Four)
+    }
+
+    /// The same, which digests so many at once.
+    pub fn in_groups(size: GroupSize) -> Self
+        ensures { result ≡ 0 }
+    {
+        Sha256Hash { count: 0, size }
     }
 }
-
-/// Whether eight texts are digested at once, or four. Eight take less time where the program is built for a
-/// processor with AVX2, and more elsewhere.
-const IN_EIGHTS: bool = false;
 
 /// The text at this place, or the last one.
 fn text_at(texts: &[NodeText], place: usize) -> &NodeText
@@ -133,12 +137,12 @@ fn digest_eight(texts: &[NodeText], out: &mut [Hash32], first: usize)
 
 /// Fills `out` with the digests of these texts. The last few texts are a group too, but one alone, for which
 /// a group would take longer.
-fn digest_texts(texts: &[NodeText], out: &mut [Hash32])
+pub(crate) fn digest_texts(texts: &[NodeText], out: &mut [Hash32], size: GroupSize)
     requires { length out.old ≡ length texts.now }
     ensures { out.new ≡ map sha256 texts.now }
 {
     let mut first = 0;
-    if IN_EIGHTS {
+    if size == GroupSize::Eight {
         'eights: while first + 4 < texts.len() {
             digest_eight(texts, out, first);
             first += 8;
@@ -173,7 +177,7 @@ impl NodeHash for Sha256Hash {
     }
 
     fn digest_all(&mut self, texts: &[NodeText], out: &mut [Hash32]) {
-        digest_texts(texts, out);
+        digest_texts(texts, out, self.size);
         self.count = counted(self.count, texts.len());
     }
 

@@ -1,4 +1,4 @@
--- A script on the limits of names and keys: each line beside the lines that it prints. `scripts/script_specs.py` writes this file.
+-- A script on the limits of names and keys: each line beside the lines that it prints. `scripts/questions/script_specs.py` writes this file.
 use Rattle.std.specs.Prelude.{List, [], ◌∷◌, ◌++◌, codes}
 use Rattle.play.specs.Rows.{Row, repeated}
 

@@ -1,4 +1,4 @@
--- Scripts with monitors: each line beside the lines that it prints. `scripts/script_specs.py` writes this file.
+-- Scripts with monitors: each line beside the lines that it prints. `scripts/questions/script_specs.py` writes this file.
 use Rattle.std.specs.Prelude.{List, [], ◌∷◌, ◌++◌, codes}
 use Rattle.play.specs.Rows.{Row, repeated}
 

@@ -1,4 +1,4 @@
--- Worked scripts: each line beside the lines that it prints. `scripts/script_specs.py` writes this file.
+-- Worked scripts: each line beside the lines that it prints. `scripts/questions/script_specs.py` writes this file.
 use Rattle.std.specs.Prelude.{List, [], ◌∷◌, ◌++◌, codes}
 use Rattle.play.specs.Rows.{Row, repeated}
 

@@ -8,6 +8,7 @@ pub mod Forked
 pub mod Forks
 pub mod Growing
 pub mod Halves
+pub mod ItemPaths
 pub mod ItemLists
 pub mod PathLeads
 pub mod Levels

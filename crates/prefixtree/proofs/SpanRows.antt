@@ -1,7 +1,7 @@
 -- Spans of items, and the hashes of a row of them.
 use Rattle.std.proofs.Common.{◌≡◌, ℕ, zero, suc, ◌+◌, ◌-◌, ◌<◌, ◌≤◌, List, [], ◌∷◌, ◌++◌, length, get_or, map, take, drop, refl, sym, ap, subst, ◌∙◌, arith, length-append}
 use Rattle.std.specs.List.{AllByRecursion}
-use Rattle.std.proofs.lemmas.List.{append_assoc, drop-drop, drop_at, take_at, take-take, drop-take, length-take-le, length-drop, length-map}
+use Rattle.std.proofs.lemmas.List.{append_assoc, drop-drop, drop_at, drop_more, take_at, take-take, drop-take, length-take-le, length-drop, length-map}
 use Rattle.encoding.specs.Bits.{with_one}
 use Rattle.nodehash.specs.NodeTexts.{empty_bytes, leaf_bytes, interior_bytes}
 use Rattle.prefixtree.specs.Placement.{Item, Items}
@@ -18,6 +18,10 @@ use Rattle.prefixtree.proofs.Halves.{level-below, under-ones, under-zeros}
 pub all-more : {X : Type 0} (P : X → Type 0) (xs ys : List X) → AllByRecursion P xs → AllByRecursion P ys → AllByRecursion P (xs ++ ys)
 all-more P [] ys h k = k
 all-more P (x ∷ xs) ys h k = (h.0, all-more P xs ys h.1 k)
+
+-- the spans from one on begin with it
+pub front_of : (spans : List Span) (i : ℕ) (span : Span) → i < length spans → span ≡ get_or spans i span → drop i spans ≡ span ∷ drop (i + 1) spans
+front_of spans i span h is = drop_more spans i span h ∙ ap (λ (s : Span). s ∷ drop (i + 1) spans) (sym is)
 
 -- ---- parts of the items
 

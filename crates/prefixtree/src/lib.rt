@@ -15,6 +15,7 @@
 #![tactic(auto)]
 
 mod build;
+mod item_path;
 mod items;
 mod laws;
 mod node;
@@ -27,6 +28,7 @@ mod tree;
 mod walk;
 mod way;
 
+pub use item_path::path_of_items;
 pub use items::{Item, placed, placed_within};
 pub use laws::{
     changes_join, limit_has_its_value, made_at_most_all, made_for_one_change, path_ends,

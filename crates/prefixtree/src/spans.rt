@@ -3,7 +3,7 @@
 //! are the row below, and once that has its hashes, the nodes over both sides are hashed together. A row begins at
 //! a place with few items, so that rows stay short. Above it the hash of a place is computed from those of its two
 //! sides.
-ghost use Rattle.std.specs.Prelude.{◌≡◌, ℕ, List, [], ◌∷◌, ◌++◌, ◌+◌, ◌-◌, ◌<◌, ◌≤◌, length, map, drop, slice_index_or, IfOk, OnOk};
+ghost use Rattle.std.specs.Prelude.{◌≡◌, ℕ, List, [], ◌∷◌, ◌++◌, ◌+◌, ◌-◌, ◌<◌, ◌≤◌, length, map, drop, IfOk, OnOk};
 ghost use Rattle.nodehash.specs.Digests.{after_digests};
 ghost use Rattle.prefixtree.specs.Placement.{IsPlacement};
 ghost use Rattle.prefixtree.specs.Node.{node, node_count, root_of};
@@ -69,72 +69,84 @@ fn few_text(nonce: &Hash32, level: usize, prefix: &Index, items: &[Item]) -> Nod
     leaf_text(nonce, index, level as u32, commitment)
 }
 
+/// The sides of a row: the texts of those with at most one item, and the spans of the others.
+#[derive(Drop)]
+struct Sides {
+    few: Vec<NodeText>,
+    many: Vec<Span>,
+}
+
 /// Appends the text of a place if it has at most one item, else its span.
 fn push_side(
+    sides: &mut Sides,
     nonce: &Hash32,
     items: &[Item],
     level: usize,
     prefix: &Index,
     start: usize,
     count: usize,
-    few: &mut Vec<NodeText>,
-    many: &mut Vec<Span>,
 ) -> Result<(), AllocError>
     requires level { level ≤ 256 }
     requires within { start + count ≤ length items.now }
     requires under { IsUnder prefix.now level (part items.now start count) }
-    requires spans { AreSpans level items.now many.old.items }
-    ensures few { IfOk result (λ _. few.new.items ≡ few.old.items ++ few_text nonce.now level prefix.now (part items.now start count)) }
-    ensures many { IfOk result (λ _. map (site_of items.now) many.new.items ≡ map (site_of items.now) many.old.items ++ many_site prefix.now (part items.now start count)) }
-    ensures spans { IfOk result (λ _. AreSpans level items.now many.new.items) }
+    requires spans { AreSpans level items.now sides.old.many.items }
+    ensures few { IfOk result (λ _. sides.new.few.items ≡ sides.old.few.items ++ few_text nonce.now level prefix.now (part items.now start count)) }
+    ensures many { IfOk result (λ _. map (site_of items.now) sides.new.many.items ≡ map (site_of items.now) sides.old.many.items ++ many_site prefix.now (part items.now start count)) }
+    ensures spans { IfOk result (λ _. AreSpans level items.now sides.new.many.items) }
 {
     if count > 1 {
-        many.push(span_of(items, level, prefix, start, count))?;
+        sides
+            .many
+            .push(span_of(items, level, prefix, start, count))?;
     } else {
-        few.push(few_text(nonce, level, prefix, part(items, start, count)))?;
+        sides
+            .few
+            .push(few_text(nonce, level, prefix, part(items, start, count)))?;
     }
     Ok(())
 }
 
-/// The texts of the sides of a row that have at most one item, and the spans of the others.
+/// The sides of a row.
 fn sides_of_row(
     alloc: Global,
     nonce: &Hash32,
     items: &[Item],
     level: usize,
     spans: &[Span],
-) -> Result<(Vec<NodeText>, Vec<Span>), AllocError>
+) -> Result<Sides, AllocError>
     requires level { level < 256 }
     requires spans { AreSpans level items.now spans.now }
-    ensures few { IfOk result (λ sides. sides.0.items ≡ few_texts nonce.now (level + 1) (sides_of level items.now spans.now)) }
-    ensures many { IfOk result (λ sides. map (site_of items.now) sides.1.items ≡ many_sites (sides_of level items.now spans.now)) }
-    ensures spans { IfOk result (λ sides. AreSpans (level + 1) items.now sides.1.items) }
+    ensures few { IfOk result (λ sides. sides.few.items ≡ few_texts nonce.now (level + 1) (sides_of level items.now spans.now)) }
+    ensures many { IfOk result (λ sides. map (site_of items.now) sides.many.items ≡ many_sites (sides_of level items.now spans.now)) }
+    ensures spans { IfOk result (λ sides. AreSpans (level + 1) items.now sides.many.items) }
 {
-    let mut few = Vec::with_capacity(alloc, spans.len())?;
-    let mut many = Vec::with_capacity(alloc, spans.len())?;
+    let mut sides = Sides {
+        few: Vec::with_capacity(alloc, spans.len())?,
+        many: Vec::with_capacity(alloc, spans.len())?,
+    };
     for span in spans {
+        let (prefix, middle) = (&span.prefix, span.start + span.zeros);
         push_side(
+            &mut sides,
             nonce,
             items,
             level + 1,
-            &span.prefix,
+            prefix,
             span.start,
             span.zeros,
-            &mut few,
-            &mut many,
         )?;
+        let one_prefix = with_one(prefix, level);
         push_side(
+            &mut sides,
             nonce,
             items,
             level + 1,
-            &with_one(&span.prefix, level),
-            span.start + span.zeros,
+            &one_prefix,
+            middle,
             span.ones,
-            &mut few,
-            &mut many,
         )?;
     }
-    Ok((few, many))
+    Ok(sides)
 }
 
 /// The hashes of the sides of a row that have at most one item, and the spans of the others.
@@ -154,8 +166,8 @@ fn hash_few<H: NodeHash>(
     ensures work { H.digests hash.new ≤ H.digests hash.old + length (few_texts nonce.now (level + 1) (sides_of level items.now spans.now)) }
     ensures exact { OnOk result (H.digests hash.new ≡ after_digests (length (few_texts nonce.now (level + 1) (sides_of level items.now spans.now))) (H.digests hash.old)) }
 {
-    let (few, many) = sides_of_row(alloc, nonce, items, level, spans)?;
-    Ok((digests_of_texts(alloc, hash, &few)?, many))
+    let sides = sides_of_row(alloc, nonce, items, level, spans)?;
+    Ok((digests_of_texts(alloc, hash, &sides.few)?, sides.many))
 }
 
 /// 1 for a place with at most one item, else 0.
@@ -252,14 +264,6 @@ fn hash_row<H: NodeHash>(
     join_row(alloc, hash, spans, &few, &below)
 }
 
-/// The first of these hashes.
-fn first(hashes: &[Hash32]) -> Hash32
-    requires { 0 < length hashes.now }
-    ensures { result ≡ slice_index_or hashes.now 0 [] }
-{
-    hashes[0]
-}
-
 /// The hash of the node at a prefix with these items below it, of which there is more than one.
 fn hash_in_rows<H: NodeHash>(
     alloc: Global,
@@ -278,11 +282,11 @@ fn hash_in_rows<H: NodeHash>(
 {
     let span = span_of(items, level, prefix, 0, items.len());
     let hashes = hash_row(alloc, hash, nonce, items, level, &[span])?;
-    Ok(first(&hashes))
+    Ok(hashes[0])
 }
 
 /// The hash of the node at a prefix with these items below it.
-fn hash_at<H: NodeHash>(
+pub(crate) fn hash_at<H: NodeHash>(
     alloc: Global,
     hash: &mut H,
     nonce: &Hash32,
@@ -316,7 +320,7 @@ fn hash_at<H: NodeHash>(
 }
 
 /// The root of the tree of these items, without the tree. Takes one digest for each of its nodes, and memory for
-/// a few hundred of them at a time.
+/// some 500 of them at a time, or 3 MB at most, where 256 indices differ in their last bits alone.
 ///
 /// The indices must ascend; [`placed`](crate::placed) tests that they differ, and sorts them.
 ///

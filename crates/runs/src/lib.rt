@@ -4,7 +4,7 @@
 //! Callers can rely on this: whatever bytes come back, a whole run writes exactly what the calls of its client
 //! decide, and again the evidence and alarms of earlier runs; and wherever runs are stopped, what they leave is a memory, in which no mark is
 //! ahead of what was told.
-//! Contracts do not know what a socket or a file has; `scripts/asks.py` and `scripts/states.py` show those.
+//! Contracts do not know what a socket or a file has; `scripts/drive/asks.py` and `scripts/drive/states.py` show those.
 #![tactic(auto)]
 
 mod connecting;

@@ -2,7 +2,7 @@
 // beside it what is remembered. Both only grow while a run goes on, the first one ahead of the second, and each line is on
 // the disk before more is told. At the end of a run a new second file, without the lines that no longer hold, takes the
 // place of the old one. A line without its LF was cut short, and is dropped. Contracts do not know what a file holds:
-// `scripts/states.py` shows it.
+// `scripts/drive/states.py` shows it.
 ghost use Rattle.std.specs.Prelude.{◌≡◌, ◌≢◌, ◌⊎◌, ◌<◌, ◌≤◌, ◌++◌, ℕ, [], All, length, List, Err, IfErr, IfOk, Ok, option_map};
 ghost use Rattle.textio.specs.declared.program_fault.ProgramFault.TheVariants.{OutOfMemory};
 ghost use Rattle.textio.specs.Lines.{lines_of};

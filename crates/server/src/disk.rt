@@ -1,6 +1,6 @@
 // Records are put on the disk before an answer tells of them: each write to the file sets a mark, and what
 // writes answers syncs first where it meets the mark. Contracts do not know what a disk has, so the clauses
-// say only what is written. `scripts/journal.sh` shows what a file has after a stop of the program.
+// say only what is written. `scripts/drive/journal.sh` shows what a file has after a stop of the program.
 ghost use Rattle.std.specs.Prelude.{◌≡◌, IfErr, OnOk};
 ghost use Rattle.std.specs.Io.{WritesAtMost};
 ghost use Rattle.std.specs.Io.KnownBytes.{Appends};

@@ -10,7 +10,7 @@ use book::Record;
 use encoding::Hash32;
 use epochs::Directory;
 use hub::Desk;
-use nodehash::Sha256Hash;
+use nodehash::{GroupSize, Sha256Hash};
 use rand_chacha::ChaCha20Rng;
 use rand_core::SeedableRng;
 use sigiface::{KeyedSign, Signer};
@@ -35,6 +35,7 @@ pub(crate) struct Keys {
     token: Hash32,
     epoch: NonZeroU64,
     nonce: Hash32,
+    size: GroupSize,
 }
 
 impl Model for Keys {
@@ -54,12 +55,12 @@ impl Model for Keys {
 }
 
 impl Keys {
-    /// The keys that the texts give.
+    /// The keys that the texts give, for a directory that digests so many texts at once.
     ///
     /// # Errors
     ///
     /// `BadHex` if one of the texts is not 64 hexadecimal digits.
-    pub(crate) fn read(order: &DirectoryOrder<'_>) -> Result<Self, ProgramFault>
+    pub(crate) fn read(order: &DirectoryOrder<'_>, size: GroupSize) -> Result<Self, ProgramFault>
         ensures { MatchResult result (λ keys. keys_of (directory_values order.now) ≡ Some keys)
             (λ fault. (fault ≡ BadHex) × (keys_of (directory_values order.now) ≡ None)) }
     {
@@ -70,6 +71,7 @@ impl Keys {
             token: Hash32::new(option_hex32(order.token)?),
             epoch: order.epoch,
             nonce: Hash32::new(hex32_or_zeros(order.nonce)?),
+            size,
         })
     }
 
@@ -81,6 +83,12 @@ impl Keys {
     }
 
     /// The functions of the directory.
+    pub(crate) fn hash(&self) -> Sha256Hash
+        ensures { result ≡ 0 }
+    {
+        Sha256Hash::in_groups(self.size)
+    }
+
     pub(crate) fn vuf(&self) -> KeyedVuf
         ensures { result ≡ (self.now).vuf_key }
     {
@@ -122,7 +130,7 @@ impl Keys {
             alloc,
             self.epoch.get(),
             self.nonce,
-            Sha256Hash::new(),
+            self.hash(),
             self.vuf(),
             self.signer(),
             ChaCha20Rng::from_seed(self.salt_key),

@@ -2,7 +2,7 @@
 // carries, so the clauses say what the directory does: it answers messages, which show one run of it, in a
 // history that keeps the limits of the order. That the sockets had that very history is what the loop
 // (`answer_all` of `connections`) says of connections of which contracts know what they carry.
-// `scripts/listen.sh` covers the rest.
+// `scripts/drive/listen.sh` covers the rest.
 ghost use Rattle.std.specs.Prelude.{◌≡◌, ◌≢◌, ◌↔◌, ◌⊎◌, Bool, List, [], Err, IfErr, IsErr, None, false};
 ghost use Rattle.book.specs.Salts.{chacha_salts};
 ghost use Rattle.connections.specs.Fitting.{size_of, AreFree};
@@ -32,6 +32,7 @@ use crate::sockets::Sockets;
 use book::{Keeper, NoKeeper};
 use connections::{Connections, Limits, Places, answer_all};
 use hub::{Hub, MAX_SESSIONS};
+use nodehash::GroupSize;
 use std::alloc::Global;
 use std::fs::{File, Files};
 use std::io::{BufRead, Write};
@@ -192,7 +193,7 @@ where
     ensures tells { TellsUnkept (directory_values order.entry.directory) (connections_of order.entry) (E.contents errors.old) result (E.contents errors.new) }
     ensures unread { (order.entry.until_eof ≡ false) ⊎ IsErr result → input.new ≡ input.old }
 {
-    let keys = Keys::read(&order.directory)?;
+    let keys = Keys::read(&order.directory, GroupSize::faster(system))?;
     let directory = keys.begin(alloc)?;
     let hub = Hub::new(alloc, directory, NoKeeper, keys.token());
     listen_from(alloc, system, hub, None, order, input, errors)
@@ -215,7 +216,7 @@ where
     ensures tells { TellsKept (directory_values order.entry.directory) path.now (connections_of order.entry) (E.contents errors.old) result (E.contents errors.new) }
     ensures unread { (order.entry.until_eof ≡ false) ⊎ IsErr result → input.new ≡ input.old }
 {
-    let keys = Keys::read(&order.directory)?;
+    let keys = Keys::read(&order.directory, GroupSize::faster(system))?;
     let disk = match open_file(alloc, system, path, errors) {
         Ok(disk) => disk,
         Err(fault) => return Err(fault),

@@ -1,5 +1,5 @@
 // The file of a journal is opened and locked, and the directory in it put behind a hub. Contracts do not know
-// what the system does with a file: `scripts/journal.sh` shows it.
+// what the system does with a file: `scripts/drive/journal.sh` shows it.
 ghost use Rattle.std.specs.Prelude.{◌≡◌, ◌≢◌, ℕ, [], codes, Err, IfErr, IfOk, None, OnOk, ⊤};
 ghost use Rattle.std.specs.Io.KnownBytes.{Appends};
 ghost use Rattle.textio.specs.declared.program_fault.ProgramFault.TheVariants.{BadHex};

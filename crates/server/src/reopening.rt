@@ -63,7 +63,7 @@ fn open_bytes(
     open(
         alloc,
         bytes,
-        Sha256Hash::new(),
+        keys.hash(),
         keys.vuf(),
         keys.signer(),
         keys.salts(stream),

@@ -1,7 +1,7 @@
 //! The sockets behind a server. Readiness is edge-triggered: a mark says that a read or a write may get
 //! through; it is set by a report, and cleared by a read or a write that gets no further. A call without its mark
 //! answers "wait", and asks the system nothing. Contracts know nothing of the bytes of a socket:
-//! `scripts/listen.sh` shows what these calls do.
+//! `scripts/drive/listen.sh` shows what these calls do.
 
 ghost use Rattle.std.specs.Prelude.{◌≡◌, ◌≤◌, ℕ, length, IfOk};
 ghost use Rattle.std.specs.Io.{ReadsAtMost};

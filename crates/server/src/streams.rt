@@ -9,6 +9,7 @@ use crate::opening::{open_file, open_journal, tell_why};
 use crate::serving::{serve, serve_on};
 use book::NoKeeper;
 use hub::Hub;
+use nodehash::GroupSize;
 use std::alloc::Global;
 use std::fs::{File, Files};
 use std::io::{Read, Write};
@@ -27,7 +28,7 @@ fn serve_unkept<R: Read, W: Write>(
     ensures serves { ServesUnkept (directory_values order.entry) (R.remaining reader.old) (W.contents writer.old) result (R.remaining reader.new) (W.contents writer.new) }
     ensures unread { result ≡ Err BadHex → (reader.new ≡ reader.old) × (writer.new ≡ writer.old) }
 {
-    let keys = Keys::read(&order)?;
+    let keys = Keys::read(&order, GroupSize::Four)?;
     let directory = keys.begin(alloc)?;
     let mut hub = Hub::new(alloc, directory, NoKeeper, keys.token());
     serve(alloc, &mut hub, SESSION, reader, writer)?;
@@ -48,7 +49,7 @@ fn serve_kept<F: Files<File = File>, R: Read, W: Write, E: Write>(
         (R.remaining reader.new) (W.contents writer.new) (E.contents errors.new) }
     ensures unread { result ≡ Err BadHex → (reader.new ≡ reader.old) × (writer.new ≡ writer.old) }
 {
-    let keys = Keys::read(&order)?;
+    let keys = Keys::read(&order, GroupSize::Four)?;
     let disk = match open_file(alloc, files, path, errors) {
         Ok(disk) => disk,
         Err(fault) => return Err(fault),

@@ -3,7 +3,7 @@
 //! A question is a subject, a verb, and arguments; the crate `questions` says how words are read. The
 //! subjects are `directory`, `hub`, `serve`, `client`, `monitor`, `auditor`, `evidence`, `script` and
 //! `text`. Those whose names end in `-sum` hash by sums of bytes, and a name is its own value. The stored
-//! answers come from `scripts/formats.py`, which computes them from the definitions alone.
+//! answers come from `scripts/questions/stored.py`, which computes them from the definitions alone.
 //!
 //! The public calls of the libraries, and the verbs that ask them:
 //!
@@ -43,10 +43,10 @@
 //! | | with `read_line`, `next_line`, `push_hex`, `push_number`, `Ask::request` of its crate | |
 //! | | and `tell_response`, `tell_statement`, `tell_step` | |
 //!
-//! Of the public calls of the upper crates that no verb asks, `scripts/statuses.sh` asks `judge_at` and
-//! `Verdict::status`, and `order`, `end`, `refuse` and `refuse_bytes` of `directoryd`; `scripts/listen.sh`
+//! Of the public calls of the upper crates that no verb asks, `scripts/drive/statuses.sh` asks `judge_at` and
+//! `Verdict::status`, and `order`, `end`, `refuse` and `refuse_bytes` of `directoryd`; `scripts/drive/listen.sh`
 //! asks `listen`, which calls `answer_all` and `Places::free` of `connections`, `Hub::part` and `Feed::part`;
-//! `scripts/journal.sh` asks `listen` and `serve_directory` with a journal; and `scripts/asks.py` asks `ask`
+//! `scripts/drive/journal.sh` asks `listen` and `serve_directory` with a journal; and `scripts/drive/asks.py` asks `ask`
 //! of `runs`, which calls `Checks::keyed`, `ask_over`, `settle_over`, `RunEnd::status` and `Client::promises`,
 //! and of `asking` `hear`, `Reply::epoch`, `Said::new`, `raise`, `join`, and `Asker::start`, `start_at_head`,
 //! `head`, `send`, `advance`, `hear`, `hear_head`, `go_on`, `watch` and `test_promises`.

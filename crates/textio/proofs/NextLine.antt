@@ -24,7 +24,8 @@ take-none zero xs some h = absurd (omega arith)
 take-none (suc n) [] some h = refl
 take-none (suc n) (x ∷ xs) some h = absurd (omega arith)
 
-lines_of-ended : (front rest : List ℕ) → IsInLine front → lines_of (front ++ 10 ∷ rest) ≡ front ∷ lines_of rest
+-- an LF ends the first line
+pub lines_of-ended : (front rest : List ℕ) → IsInLine front → lines_of (front ++ 10 ∷ rest) ≡ front ∷ lines_of rest
 lines_of-ended [] rest h = refl
 lines_of-ended (x ∷ front) rest h = rw (ne_eqb x 10 h.0, lines_of-ended front rest h.1) refl
 

@@ -30,4 +30,4 @@ pub use line::next_line;
 pub use output::write_text;
 pub use program_fault::{MAX_DIGITS, ProgramFault};
 pub use some_bytes::{PIECE_SIZE, read_some};
-pub use stream_fault::StreamFault;
+pub use stream_fault::{StreamFault, after_error};

@@ -15,7 +15,11 @@ pub enum StreamFault {
 
 /// What to do about an error of a read or a write: try again where a signal interrupted it, else
 /// answer this fault.
-pub(crate) fn after_error(error: &Error, fault: StreamFault) -> Result<(), StreamFault>
+///
+/// # Errors
+///
+/// The fault that was given.
+pub fn after_error(error: &Error, fault: StreamFault) -> Result<(), StreamFault>
     ensures interrupted { IsOk result ↔ (error_kind error.now ≡ ErrorKind.Interrupted) }
     ensures err { IfErr result (λ given. given ≡ fault) }
 {

@@ -3,7 +3,7 @@ ghost use Rattle.lanes.specs.TwoBlocks.{HasTwoBlocks};
 
 use encoding::Hash32;
 use lanes::{sha256_eight, sha256_four};
-use nodehash::{LEAF_LEN, NodeHash, NodeText, Sha256Hash, SumHash, keyed_digest};
+use nodehash::{GroupSize, LEAF_LEN, NodeHash, NodeText, Sha256Hash, SumHash, keyed_digest};
 use questions::Case;
 
 pub(crate) fn answer(case: &mut Case<'_>, verb: &[u8]) {
@@ -11,6 +11,7 @@ pub(crate) fn answer(case: &mut Case<'_>, verb: &[u8]) {
         b"sha256" => each(case, &mut Sha256Hash::new()),
         b"sum" => each(case, &mut SumHash::new()),
         b"all" => all(case, &mut Sha256Hash::new()),
+        b"all-eight" => all(case, &mut Sha256Hash::in_groups(GroupSize::Eight)),
         b"all-sum" => all(case, &mut SumHash::new()),
         b"keyed" => keyed(case),
         b"four" => four(case),
@@ -28,7 +29,7 @@ fn each<H: NodeHash>(case: &mut Case<'_>, hash: &mut H) {
     case.say_shown(hash.count());
 }
 
-/// `all TEXT..`, `all-sum TEXT..`: the digests of texts of nodes, joined, and how many were counted.
+/// `all TEXT..`, `all-eight TEXT..`, `all-sum TEXT..`: the digests of texts of nodes, joined, and how many were counted.
 fn all<H: NodeHash>(case: &mut Case<'_>, hash: &mut H) {
     let mut texts = Vec::new(case.alloc());
     for _ in 0..case.left() {

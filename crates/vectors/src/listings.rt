@@ -1,6 +1,7 @@
 //! Of `items`: the programs on a list of items.
 
 use items::{HashChoice, ProveOrder, RootOrder, prove, root};
+use nodehash::GroupSize;
 use questions::{Case, say_ended};
 
 pub(crate) fn answer(case: &mut Case<'_>) {
@@ -32,7 +33,13 @@ fn root_of_items(case: &mut Case<'_>) {
     let order = order(case);
     let mut input = case.bytes();
     let mut output = Vec::new(case.alloc());
-    let ended = root(case.alloc(), order, &mut input, &mut output);
+    let ended = root(
+        case.alloc(),
+        order,
+        GroupSize::Eight,
+        &mut input,
+        &mut output,
+    );
     say_ended(case, ended);
     case.say_text(&output);
 }
@@ -44,7 +51,13 @@ fn path_in_items(case: &mut Case<'_>) {
     let mut input = case.bytes();
     let mut output = Vec::new(case.alloc());
     let order = ProveOrder { index, root };
-    let ended = prove(case.alloc(), order, &mut input, &mut output);
+    let ended = prove(
+        case.alloc(),
+        order,
+        GroupSize::Four,
+        &mut input,
+        &mut output,
+    );
     say_ended(case, ended);
     case.say_text(&output);
 }

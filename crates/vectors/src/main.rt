@@ -1,7 +1,7 @@
 //! Answers questions on the libraries, one a line: test vectors for any implementation.
 //!
 //! A question begins with a subject and a verb; `questions` says what words a line may have. The stored
-//! questions and answers come from `scripts/formats.py`, which computes them from the definitions alone.
+//! questions and answers come from `scripts/questions/stored.py`, which computes them from the definitions alone.
 //!
 //! The public calls of the libraries, and the verbs that ask them:
 //!
@@ -12,7 +12,7 @@
 //! | | `Name`, `KeyData`, `Small`: `new`, `copied` | `name`, `key`, `small` |
 //! | | `<` of them | `order-name`, `order-key`, `order-small` |
 //! | | `Cursor`; `FixedText` | `read`; `text` |
-//! | `nodes` | `NodeHash::digest`, `count`, `digest_all` | `sha256`, `sum`; `all`, `all-sum` |
+//! | `nodes` | `NodeHash::digest`, `count`, `digest_all` | `sha256`, `sum`; `all`, `all-eight`, `all-sum` |
 //! | | `keyed_digest`, `sha256_four`, `sha256_eight` | `keyed`, `four`, `eight` |
 //! | | `empty_text`, `leaf_text`, `interior_text` | `empty`, `leaf`, `interior` |
 //! | | `commit`, `commit_text` | `commit`, `commit2` |
@@ -51,7 +51,7 @@
 //! `number` of each refusal is told with the refusal. `next_line` and `write_text` read and write each line.
 //! `trees count` tells how many digests a change of the tree took. No verb asks the laws, which have no
 //! code, `BrokenPromise`, which is evidence, and `read_some`, which shows more where a reader fails. Files
-//! are read by the built program: `scripts/statuses.sh` and `scripts/journal.sh` ask `file_fault`.
+//! are read by the built program: `scripts/drive/statuses.sh` and `scripts/drive/journal.sh` ask `file_fault`.
 #![tactic(auto)]
 
 mod accepted;

@@ -1,16 +1,16 @@
-use Rattle.std.proofs.Common.{ℕ, ◌-◌, ◌∙◌, [], length, slice_index_or, add-zero, ap, arith}
+use Rattle.std.proofs.Common.{ℕ, ◌-◌, ◌∙◌, length, slice_index_or, add-zero, ap, arith}
 use Rattle.std.proofs.lemmas.List.{take_all}
 use Rattle.nodehash.specs.Digests.{after_digests}
 use Rattle.prefixtree.specs.Node.{node, node_count}
 use Rattle.prefixtree.proofs.spans.hash_in_rows.Goals as goal
 
-pub first-requires : goal.first-requires
-first-requires g c = omega (arith, ap length (c.deref.ensures.value ∙ c.in_ok-hashes.ensures.hashes))
+pub index-requires : goal.index-requires
+index-requires g c = omega (arith, ap length c.in_ok-hashes.ensures.hashes)
 
 pub returns-clause-node : goal.returns-clause-node
 returns-clause-node g c =
     let at = node g.H.NodeHash.digest_of c.args.nonce.now in
-    c.first.ensures ∙ ap (λ l. slice_index_or l 0 []) (c.deref.ensures.value ∙ c.in_ok-hashes.ensures.hashes)
+    c.index.ensures ∙ ap (λ l. slice_index_or l 0 c.index.result.now) c.in_ok-hashes.ensures.hashes
     ∙ ap (λ site. at site.0 (256 - c.args.level) site.1) c.span_of-span.ensures.site
     ∙ ap (at c.args.prefix.now (256 - c.args.level)) (take_all (length c.args.items.now) c.args.items.now (omega arith))
 

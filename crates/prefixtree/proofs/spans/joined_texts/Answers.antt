@@ -1,24 +1,21 @@
 use Rattle.std.proofs.Common.{◌≡◌, ℕ, List, [], ◌∷◌, ◌++◌, ◌+◌, drop, arith, sym, ap, ◌∙◌}
-use Rattle.std.proofs.lemmas.List.{append-nil, drop_all, drop_more}
-use Rattle.prefixtree.specs.declared.spans.Span.{Span}
+use Rattle.std.proofs.lemmas.List.{append-nil, drop_all}
 use Rattle.prefixtree.specs.Spans.{counts_of, joined, merged}
-use Rattle.prefixtree.proofs.SpanRows.{joined-next}
+use Rattle.prefixtree.proofs.SpanRows.{front_of, joined-next}
 use Rattle.prefixtree.proofs.spans.joined_texts.Goals as goal
 
 pub pick-zero_side-requires : goal.pick-zero_side-requires
 pick-zero_side-requires c =
     let i = c.loop-span.span-index in
     let span = c.span-item.result in
-    let from : drop i c.args.spans.now ≡ span ∷ drop (i + 1) c.args.spans.now =
-    drop_more c.args.spans.now i span (omega arith) ∙ ap (λ (s : Span). s ∷ drop (i + 1) c.args.spans.now) (sym c.span-item.is) in
+    let from = front_of c.args.spans.now i span (omega arith) c.span-item.is in
     record { few = omega (arith, rw from at c.loop-span.invariant.few); many = omega (arith, rw from at c.loop-span.invariant.many) }
 
 pub pick-one_side-requires : goal.pick-one_side-requires
 pick-one_side-requires c =
     let i = c.loop-span.span-index in
     let span = c.span-item.result in
-    let from : drop i c.args.spans.now ≡ span ∷ drop (i + 1) c.args.spans.now =
-    drop_more c.args.spans.now i span (omega arith) ∙ ap (λ (s : Span). s ∷ drop (i + 1) c.args.spans.now) (sym c.span-item.is) in
+    let from = front_of c.args.spans.now i span (omega arith) c.span-item.is in
     record {
       few = omega (arith, rw from at c.loop-span.invariant.few, c.few_of-few_used.ensures);
       many = omega (arith, rw from at c.loop-span.invariant.many, c.many_of-many_used.ensures);
@@ -28,8 +25,7 @@ pub loop-span-preserved : goal.loop-span-preserved
 loop-span-preserved c =
     let i = c.loop-span.span-index in
     let span = c.span-item.result in
-    let from : drop i c.args.spans.now ≡ span ∷ drop (i + 1) c.args.spans.now =
-    drop_more c.args.spans.now i span (omega arith) ∙ ap (λ (s : Span). s ∷ drop (i + 1) c.args.spans.now) (sym c.span-item.is) in
+    let from = front_of c.args.spans.now i span (omega arith) c.span-item.is in
     let rest : List ℕ = counts_of (drop (i + 1) c.args.spans.now) in
     let few_used : ℕ = c.loop-span.few_used + c.few_of-few_used.result + c.few_of-few_used-in-loop-span.result in
     let many_used : ℕ = c.loop-span.many_used + c.many_of-many_used.result + c.many_of-many_used-in-loop-span.result in

@@ -1,5 +1,5 @@
-use Rattle.files.proofs.Written.{some_told}
+use Rattle.textio.proofs.Writing.{some_written}
 use Rattle.runs.proofs.state_files.StateFilesKeeper.tell_unsaved.Goals as goal
 
 pub returns : goal.returns
-returns g c = (_, some_told _ _ _ _ c.write_text-told.ensures.ok c.write_text-told.ensures.err)
+returns g c = (_, some_written _ _ _ _ c.write_text-told.ensures.ok c.write_text-told.ensures.err)

@@ -1,0 +1,1 @@
+"""What runs the built programs, and compares what they do with the model and the questions."""
