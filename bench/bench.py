@@ -6,7 +6,8 @@ usage: bench/bench.py root|tree|changes|replies|check|reconcile|epochs|journal|h
 the top of the repository
 
 BEFORE, if it is set, is the top of another clone, in which directoryd and measure are built. `root` and
-`hub` then time the programs of both, in turn.
+`hub` then time the programs of both, in turn. MEASURE, if it is set, is the program measure, built for
+BUILD, such as x86-64-v3.
 """
 
 import bisect
@@ -27,13 +28,13 @@ import tempfile
 import time
 
 DIRECTORYD = "crates/directoryd/out/directoryd"
-MEASURE = "crates/measure/out/measure"
+MEASURE = os.environ.get("MEASURE", "crates/measure/out/measure")
 LOAD = "bench/out/load"
 CHECK = "bench/out/check"
 FREE_SYNCS = "bench/out/fail_disk.so"
 BEFORE = os.environ.get("BEFORE", "")
 # What `rt run` builds by, unless crates.txt says otherwise.
-BUILD = "x86-64-v2, by LLVM at -O3"
+BUILD = f"{os.environ.get('BUILD', 'x86-64-v2')}, by LLVM at -O3"
 
 # The length of the text of a leaf and of an interior node.
 LEAF, INTERIOR = 101, 64

@@ -5,12 +5,14 @@ usage: bench/root_peer.py [BUILD..], at the top of the repository
 
 Each BUILD, x86-64-v2 or x86-64-v3, is one for which bench/out/root_peer-BUILD is there. DIRECTORYD is the program that
 is built for x86-64-v2, crates/directoryd/out/directoryd if it is not set. DIRECTORYD_V3 is one that is built for
-x86-64-v3, if there is one.
+x86-64-v3, if there is one. MEASURE and MEASURE_V3 are the programs measure of the same builds; crates/measure/out/measure
+if the first is not set.
 
 All programs have to print one root for the same items, or the status is 1. The columns:
 
 - seconds: the processor's time, user and system; least, median and greatest of several runs, of all programs in turn
 - ratio: that of directoryd divided by that of the peer of the same build
+- of digests: that of directoryd divided by that of as many digests, of interior nodes and of leaves, all at once
 - bytes an item: the peak of resident memory, divided by the number of items
 - growth: the time of an item, of the longest random list divided by that of the shortest
 - but for a start: the same, once the time of a run over no items is taken off both
@@ -25,7 +27,7 @@ from typing import NamedTuple
 
 sys.dont_write_bytecode = True
 
-from bench import Spread, peak_memory, print_processor, run_over, table, write_items
+from bench import TEXTS, TEXT_ROUNDS, TEXT_RUNS, Spread, peak_memory, print_processor, run_over, steps_of, table, write_items
 
 V2, V3 = "x86-64-v2", "x86-64-v3"
 SELF, PEER = "directoryd", "peer"
@@ -91,6 +93,17 @@ def digests_of(path):
 # ---- measures
 
 
+def digest_times():
+    """By build, what a digest of an interior node takes and one of a leaf, all at once, where a program measures it."""
+    found = {}
+    for build, name in ((V2, os.environ.get("MEASURE", "crates/measure/out/measure")), (V3, os.environ.get("MEASURE_V3", ""))):
+        if os.access(name, os.X_OK):
+            words = [name, "texts", f"{TEXTS}", f"{TEXT_ROUNDS}"]
+            taken = [[step.seconds for step in steps_of(words, 4)[1]] for _ in range(TEXT_RUNS)]
+            found[build] = tuple(min(times) / (TEXTS * TEXT_ROUNDS) for times in list(zip(*taken))[1::2])
+    return found
+
+
 def times_in_turn(those, name, items, count, *words):
     """The processor's times of so many runs of each program over the items of this name, by program. All have to print
     one root."""
@@ -142,11 +155,19 @@ class Measured(NamedTuple):
     times: dict
     memory: dict
 
-    def time_rows(self, those):
+    def of_digests(self, those, build, each):
+        """The time of directoryd by that of its digests. Half of them but one are of interior nodes."""
+        least = [self.times[program].least for program in those if program.build == build and program.name == SELF]
+        if not least or build not in each:
+            return "-"
+        interior, other = each[build]
+        return f"{least[0] / (self.digests // 2 * interior + (self.digests + 1) // 2 * other):.2f}"
+
+    def time_rows(self, those, each):
         for build in builds_of(those):
             spread = cells(those, build, 3, lambda program: self.times[program].cells(1, 4))
             part = ratio(those, build, lambda program: self.times[program].least)
-            yield [self.name, f"{self.digests:,}", build, *spread, part]
+            yield [self.name, f"{self.digests:,}", build, *spread, part, self.of_digests(those, build, each)]
 
     def memory_cells(self, program):
         return [f"{self.memory[program] / 2**20:.1f}", f"{self.memory[program] / self.size:.0f}"]
@@ -192,8 +213,9 @@ def main(builds):
     with tempfile.TemporaryDirectory() as folder:
         compare(those, folder)
         lists = list(measure_all(those, folder))
-    of_each = [SELF, "median", "greatest", PEER, "median", "greatest", "ratio"]
-    rows = [row for each in lists for row in each.time_rows(those)]
+    of_each = [SELF, "median", "greatest", PEER, "median", "greatest", "ratio", "of digests"]
+    times = digest_times()
+    rows = [row for each in lists for row in each.time_rows(those, times)]
     table("root of items, seconds", ["items", "digests", "built for", *of_each], rows)
     head = ["items", "built for", f"{SELF}, MiB", "bytes an item", f"{PEER}, MiB", "bytes an item", "ratio"]
     table("peak memory", head, [row for each in lists if each.size for row in each.memory_rows(those)])

@@ -9,6 +9,24 @@ library() {
     "$compiler" -O1 -fPIC -shared -nostdlib -o "$2" "$1"
 }
 
+# Finds the kit, and the libraries on which a crate stands by crates.txt, as `rt ci` left them: find_libraries CRATE
+# They are then in `kit` and `libraries`. The status is 1 if one is not there.
+find_libraries() {
+    local folder name library
+    kit=$(dirname "$(dirname "$(readlink -f "$(command -v rt)")")")
+    libraries=(--extern "std=$kit/rlibs/std.rlib" -L "dependency=$kit/rlibs")
+    libraries+=(--antt-project "$kit/rattle/logic/antt-project.json" --logic-built "$kit/logic_built")
+    for folder in crates/*/out/rlib; do
+        libraries+=(-L "dependency=$PWD/$folder")
+    done
+    for name in $(sed -n "s/^$1\( staticlib\)\{0,1\}: //p" crates.txt); do
+        library=$kit/rlibs/$name.rlib
+        if [ -d "crates/$name" ]; then library=$PWD/crates/$name/out/rlib/$name.rlib; fi
+        [ -d "$library" ] || return 1
+        libraries+=(--extern "$name=$library")
+    done
+}
+
 # Begins a script that counts what passes and fails: runs it anew, so that it ends after five minutes whatever
 # happens, and makes a folder for it.
 begin() {

@@ -4,12 +4,10 @@ use Rattle.std.specs.Prelude.{option_map}
 use Rattle.std.specs.List.{AllAdjacentBelow}
 use Rattle.std.proofs.lemmas.Bool.{leb-true, leb-false}
 use Rattle.std.proofs.lemmas.List.{get_or_default}
-use Rattle.encoding.specs.declared.bound_key.BoundKey.{BoundKey}
 use Rattle.proofs.specs.BrokenFinals.{states_final}
 use Rattle.book.specs.Books.{Binding, Page}
 use Rattle.book.specs.Sound.{HasFinalsOf}
 use Rattle.book.specs.Steps.{is_final_binding}
-use Rattle.encoding.specs.Maps.{at}
 use Rattle.book.proofs.Soundness.{IsBefore}
 
 pub final-key : (found : Option Binding) → states_final (option_map (λ (binding : Binding). binding.key) found) ≡ true → is_final_binding found ≡ true

@@ -1,5 +1,5 @@
 -- The replies for a name: a plain list until one states a key with Final.
-use Rattle.std.specs.Prelude.{ℕ, ◌<◌, List, length}
+use Rattle.std.specs.Prelude.{◌<◌, List, length}
 use Rattle.std.specs.List.{AllByRecursion}
 use Rattle.client.specs.Agreements.{SpellsOne}
 use Rattle.client.specs.Extremes.{NoneStatesFinal}

@@ -1,5 +1,5 @@
 -- One line more on the errors.
-use Rattle.std.proofs.Common.{◌≡◌, ◌+◌, ◌<◌, ℕ, Bool, true, false, List, ◌∷◌, Option, Result, Ok, Err, OnOk, IfErr, sym, ap, subst, arith}
+use Rattle.std.proofs.Common.{◌≡◌, ◌+◌, ◌<◌, ℕ, Bool, true, false, List, ◌∷◌, Option, Result, OnOk, IfErr, sym, ap, subst, arith}
 use Rattle.std.specs.Io.KnownBytes.{Appends}
 use Rattle.textio.specs.declared.stream_fault.StreamFault.{StreamFault}
 use Rattle.textio.specs.declared.stream_fault.StreamFault.TheVariants.{CannotWrite}

@@ -1,7 +1,7 @@
 -- Keys that stand in a file. A line gives the option that it names a value. A file has the provider's public keys alone,
 -- or keys of which some are secret. No clause knows which bytes the file of a path has: it speaks of the faults, and of the
 -- text of some file.
-use Rattle.std.specs.Prelude.{◌≡◌, ◌⊎◌, ◌==◌, ◌&&◌, ◌||◌, ◌++◌, ℕ, Bool, true, List, [], ◌∷◌, All, Option, None, Some, Result, Err, IsUtf8, codes, is_some, if◌then◌else◌, unwrap_or}
+use Rattle.std.specs.Prelude.{◌≡◌, ◌⊎◌, ◌==◌, ◌&&◌, ◌||◌, ℕ, Bool, true, List, [], ◌∷◌, All, Option, None, Some, Result, Err, IsUtf8, codes, is_some, if◌then◌else◌, unwrap_or}
 use Rattle.std.specs.List.{after_first, before_first}
 use Rattle.std.specs.Io.KnownBytes.{Appends, Keeps}
 use Rattle.std.specs.Str.{bytes_eq}

@@ -1,16 +1,16 @@
 -- An item's line that is read where it stands.
-use Rattle.std.proofs.Common.{◌≡◌, ◌≢◌, ℕ, ◌+◌, ◌<◌, ◌==◌, ◌&&◌, nat_lt, ltb-true, Bool, true, false, cond, List, [], ◌∷◌, ◌++◌, length, get_or, take, drop, slice_index, Option, None, Some, refl, sym, ap, ◌∙◌, arith, append_assoc, take-append-drop, drop-cons}
+use Rattle.std.proofs.Common.{◌≡◌, ℕ, ◌+◌, ◌<◌, ◌==◌, ◌&&◌, nat_lt, ltb-true, Bool, true, false, cond, List, [], ◌∷◌, ◌++◌, length, get_or, take, drop, slice_index, Option, None, Some, refl, sym, ap, ◌∙◌, arith, append_assoc, take-append-drop, drop-cons}
 use Rattle.std.proofs.lemmas.Bool.{and_parts, eqb-true}
 use Rattle.std.specs.Prelude.{option_and_then, option_map}
 use Rattle.std.specs.Io.KnownBytes.{Consumes}
 use Rattle.textio.specs.Digits.{hex32}
-use Rattle.textio.specs.Lines.{lines_of, TakesLine}
+use Rattle.textio.specs.Lines.{lines_of}
 use Rattle.textio.specs.Pieces.{IsInLine}
 use Rattle.textio.proofs.InLine.{hex32-in_line, IsInLine-append, take-through}
 use Rattle.textio.proofs.NextLine.{lines_of-ended}
 use Rattle.items.specs.Items.{item_of}
 use Rattle.items.specs.NextLine.{item_in_front, TakesNext}
-use Rattle.items.specs.declared.listing.NextLine.TheVariants.{Item, Malformed, End}
+use Rattle.items.specs.declared.listing.NextLine.TheVariants.{Item}
 
 -- the text of an item has no LF
 item-in_line : (line : List ℕ) (item : List ℕ × List ℕ) → item_of line ≡ Some item → IsInLine line

@@ -1,6 +1,7 @@
-ghost use Rattle.std.specs.Prelude.{◌≡◌, ◌≢◌, ◌↔◌, ◌⊎◌, ◌++◌, Err, IfOk, IfErr, None};
+ghost use Rattle.std.specs.Prelude.{◌≡◌, ◌≢◌, ◌↔◌, ◌⊎◌, ◌++◌, ◌+◌, ◌≤◌, Err, IfOk, IfErr, None};
 ghost use Rattle.textio.specs.Digits.{hex32, hex32_or_zeros};
 ghost use Rattle.prefixtree.specs.Placement.{IsPlacement};
+ghost use Rattle.prefixtree.specs.Node.{node_count};
 ghost use Rattle.items.specs.Items.{placement_of};
 ghost use Rattle.textio.specs.Output.{Ends};
 ghost use Rattle.items.specs.Prove.{end_line, path_lines, sibling_lines, PathTold, Proves, TellsPath};
@@ -74,7 +75,8 @@ fn told_path<H: NodeHash>(
     index: &Index,
 ) -> Result<Vec<u8>, AllocError>
     requires { IsPlacement items.now }
-    ensures { IfOk result (λ text. TellsPath H.digest_of nonce.now index.now items.now text.items) }
+    ensures told { IfOk result (λ text. TellsPath H.digest_of nonce.now index.now items.now text.items) }
+    ensures work { H.digests hash.new ≤ H.digests hash.old + node_count 256 items.now }
 {
     let path = path_of_items(alloc, hash, nonce, items, index)?;
     // By these laws the path leads to the root of the items.
@@ -104,7 +106,7 @@ fn prove_under<H: NodeHash, R: BufRead, W: Write>(
 }
 
 /// Reads items, one a line, and writes the path of an index among them: its level, what stands at
-/// its end, its siblings from the root down, and the root. SHA-256 digests so many texts at once, as in `root`.
+/// its end, its siblings from the root down, and the root. SHA-256 digests as many texts at once as `size` says.
 ///
 /// # Errors
 ///

@@ -49,7 +49,8 @@ fn root_under<H: NodeHash, R: BufRead, W: Write>(
 }
 
 /// Reads items, one a line, and writes the root of their tree. Nothing is written before the whole
-/// input was read and is good. SHA-256 digests so many texts at once, which changes the time alone.
+/// input was read and is good. SHA-256 digests as many texts at once as `size` says, which changes the
+/// time alone.
 ///
 /// # Errors
 ///

@@ -61,7 +61,7 @@ pub(crate) fn measure_whole(run: &Run, numbers: &[usize]) {
 
 /// The step of the tree of these items, made so often.
 fn make_often(run: &Run, items: &Placed, times: usize) {
-    let mut hash = Sha256Hash::new();
+    let mut hash = run.hash();
     for _ in 0..times {
         if Tree::from_items(run.alloc(), &mut hash, Hash32::default(), items.items()).is_err() {
             run.fail();
@@ -160,7 +160,7 @@ fn measure_rounds(run: &Run, hash: &mut Sha256Hash, tree: &Plain, counts: [usize
 pub(crate) fn measure(run: &Run, numbers: &[usize]) {
     let [items, changes, lists, rounds, digests] = run.numbers::<5>(numbers);
     let placed = Placed::new(run, 0, items);
-    let mut hash = Sha256Hash::new();
+    let mut hash = run.hash();
     match Tree::from_items(run.alloc(), &mut hash, Hash32::default(), placed.items()) {
         Ok(tree) => {
             run.step(hash.count());

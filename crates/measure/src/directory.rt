@@ -22,7 +22,7 @@ const ROTATIONS: u8 = 3;
 
 /// A directory at epoch 1, without a name.
 pub(crate) fn new_directory(run: &Run) -> Option<Provided> {
-    let (hash, salts) = (Sha256Hash::new(), ChaCha20Rng::from_seed([0; 32]));
+    let (hash, salts) = (run.hash(), ChaCha20Rng::from_seed([0; 32]));
     let nonce = Hash32::default();
     Directory::new(
         run.alloc(),

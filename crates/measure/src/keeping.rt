@@ -5,7 +5,6 @@ use crate::run::Run;
 use encoding::Hash32;
 use epochs::{Keeper, NoKeeper, Record};
 use journal::{Journal, Opened, open};
-use nodehash::Sha256Hash;
 use rand_chacha::ChaCha20Rng;
 use rand_core::SeedableRng;
 use sigiface::Signer;
@@ -40,7 +39,7 @@ fn keep(run: &Run, directory: &mut Provided, room: &mut [u8], names: usize) {
 
 /// The step of opening a journal of whole records: tells how many bytes were taken.
 fn reopen(run: &Run, bytes: &[u8]) {
-    let (hash, salts) = (Sha256Hash::new(), ChaCha20Rng::from_seed([0; 32]));
+    let (hash, salts) = (run.hash(), ChaCha20Rng::from_seed([0; 32]));
     match open(run.alloc(), bytes, hash, provider_vuf(), provider(), salts) {
         Ok(Opened::Directory(_directory, taken)) => run.step(taken as u64),
         _ => run.fail(),

@@ -1,3 +1,4 @@
+use nodehash::{GroupSize, Sha256Hash};
 use std::alloc::Global;
 use std::cell::Cell;
 use std::io;
@@ -8,6 +9,7 @@ use std::process::ExitCode;
 #[derive(Drop)]
 pub(crate) struct Run {
     rt: HostRuntime,
+    group_size: GroupSize,
     has_failed: Cell<bool>,
 }
 
@@ -23,12 +25,18 @@ impl Run {
     pub(crate) fn new(rt: HostRuntime) -> Run {
         Run {
             rt,
+            group_size: GroupSize::faster(&rt),
             has_failed: Cell::new(false),
         }
     }
 
     pub(crate) fn alloc(&self) -> Global {
         self.rt.alloc()
+    }
+
+    /// The hash function, with no digest computed yet. It digests as many texts at once as `directoryd` does.
+    pub(crate) fn hash(&self) -> Sha256Hash {
+        Sha256Hash::in_groups(self.group_size)
     }
 
     /// The numbers of a program, which has to be given as many.

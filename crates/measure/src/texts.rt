@@ -51,7 +51,7 @@ fn all_at_once(run: &Run, hash: &mut Sha256Hash, texts: &[NodeText]) -> Vec<Hash
 
 /// The step of these texts in one way, so often.
 fn measure_way(run: &Run, texts: &[NodeText], rounds: usize, is_at_once: bool) {
-    let mut hash = Sha256Hash::new();
+    let mut hash = run.hash();
     let mut total: u64 = 0;
     for _ in 0..rounds {
         let digests = if is_at_once {

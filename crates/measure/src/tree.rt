@@ -73,7 +73,7 @@ pub(crate) fn measure(run: &Run, numbers: &[usize]) {
     let [grown, more, digests] = run.numbers::<3>(numbers);
     let first = items_from(run, 0, grown);
     let others = items_from(run, grown, more);
-    let mut hash = Sha256Hash::new();
+    let mut hash = run.hash();
     match Tree::new(run.alloc(), &mut hash, Hash32::default()) {
         Ok(mut tree) => {
             run.step(hash.count());

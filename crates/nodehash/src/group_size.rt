@@ -39,7 +39,7 @@ fn is_eight_faster<C: Clock>(clock: &C) -> bool {
         trial(clock, GroupSize::Four),
         trial(clock, GroupSize::Eight),
     ) {
-        // Both have one digest. It is looked at so that no compiler leaves out what it is for.
+        // Both give the same digest. It is looked at so that no compiler leaves out what it is for.
         (Ok((four, one)), Ok((eight, same))) => eight < four && one == same,
         _ => false,
     }

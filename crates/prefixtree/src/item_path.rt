@@ -1,6 +1,6 @@
 //! The path of an index among items, without the nodes of a tree. It goes down by the index's bits, keeps the
 //! hash of the items on the other side of each level, and ends where at most one item is left.
-ghost use Rattle.std.specs.Prelude.{◌≡◌, ◌+◌, ◌<◌, ◌≤◌, ◌==◌, if◌then◌else◌, IfOk};
+ghost use Rattle.std.specs.Prelude.{◌≡◌, ◌+◌, ◌<◌, ◌≤◌, ◌==◌, if◌then◌else◌, length, IfOk};
 ghost use Rattle.encoding.specs.Bits.{bit};
 ghost use Rattle.encoding.specs.Bytes.{Is32Bytes};
 ghost use Rattle.prefixtree.specs.Placement.{IsPlacement};
@@ -44,7 +44,7 @@ fn end_among(index: &Index, items: &[Item]) -> End
 }
 
 /// The path of an index among these items, without their tree. Takes one digest for each node of the tree that is
-/// not on the way of the index, and memory for a few hundred nodes at a time.
+/// not on the way of the index, and memory as [`root_of_items`](crate::root_of_items) does.
 ///
 /// The indices must ascend; [`placed`](crate::placed) tests that they differ, and sorts them.
 ///
@@ -62,6 +62,7 @@ pub fn path_of_items<H: NodeHash>(
     ensures path { IfOk result (λ path. IsPath H.digest_of nonce.now items.now index.now path.siblings.items path.end) }
     ensures size { Is32Bytes index.now }
     ensures work { H.digests hash.new ≤ H.digests hash.old + node_count 256 items.now }
+    ensures beside { IfOk result (λ path. H.digests hash.new + length path.siblings.items + 1 ≤ H.digests hash.old + node_count 256 items.now) }
 {
     // The proof needs the length of an index, which its accessor tells.
     prove!(index.bytes().len() == 32);

@@ -320,7 +320,7 @@ pub(crate) fn hash_at<H: NodeHash>(
 }
 
 /// The root of the tree of these items, without the tree. Takes one digest for each of its nodes, and memory for
-/// some 500 of them at a time, or 3 MB at most, where 256 indices differ in their last bits alone.
+/// some 500 of them at a time, or 3 MB at most, where indices part early into pairs that differ in the last bit alone.
 ///
 /// The indices must ascend; [`placed`](crate::placed) tests that they differ, and sorts them.
 ///

@@ -55,7 +55,7 @@ impl Model for Keys {
 }
 
 impl Keys {
-    /// The keys that the texts give, for a directory that digests so many texts at once.
+    /// The keys that the texts give, for a directory that digests as many texts at once as `size` says.
     ///
     /// # Errors
     ///

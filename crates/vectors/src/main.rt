@@ -46,7 +46,7 @@
 //! | `text` | `hex_digits`, `hex32`, `option_hex32`, `hex32_or_zeros` | `digits`, `hex32`, `option-hex`, `hex32-or-zeros` |
 //! | | `ProgramFault::status`, `tell` | `fault` |
 //! | | the texts of refusals that only a device or a want of memory gives | `refusal` |
-//! | `items` | `root`, `prove` | `root`, `prove` |
+//! | `items` | `root`; `prove`, which calls `path_of_items`, `Path::root` | `root`; `prove` |
 //!
 //! `number` of each refusal is told with the refusal. `next_line` and `write_text` read and write each line.
 //! `trees count` tells how many digests a change of the tree took. No verb asks the laws, which have no

@@ -4,8 +4,8 @@ use Rattle.prefixtree.specs.Paths.{end_bytes}
 use Rattle.items.proofs.Told.{told}
 use Rattle.items.proofs.path_lines.told_path.Goals as goal
 
-pub returns : goal.returns
-returns g c =
+pub returns-clause-told : goal.returns-clause-told
+returns-clause-told g c =
     let of = g.H.NodeHash.digest_of in
     let nonce = c.args.nonce.now in
     let index = c.args.index.now in

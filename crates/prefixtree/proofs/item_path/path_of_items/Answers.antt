@@ -3,8 +3,9 @@ use Rattle.std.proofs.Common.{rules, ◌≡◌, ◌+◌, ◌-◌, ◌<◌, ◌�
 use Rattle.encoding.specs.Bits.{cut}
 use Rattle.encoding.specs.Bytes.{Is32Bytes}
 use Rattle.prefixtree.specs.Node.{node, node_count}
-use Rattle.prefixtree.specs.Paths.{agreeing, end_of, sibling, EndsAt}
+use Rattle.prefixtree.specs.Paths.{agreeing, sibling, EndsAt}
 use Rattle.prefixtree.proofs.Built.{cut-root}
+use Rattle.prefixtree.proofs.Counts.{node_count-few}
 use Rattle.prefixtree.proofs.Halves.{begin-IsUnder, under-root}
 use Rattle.prefixtree.proofs.ItemPaths.{below-is, beside-is, beside-under, count-sides, few-at-last}
 use Rattle.prefixtree.proofs.Levels.{under-agreeing}
@@ -102,3 +103,19 @@ returns-clause-path g c =
       beside = c.levels.invariant.beside;
       last = c.end_among.ensures ∙ rw (c.levels.invariant.left, c.levels.invariant.level) refl;
     }
+
+pub returns-clause-beside : goal.returns-clause-beside
+returns-clause-beside g c =
+    let size : Is32Bytes c.args.index.now = search rules in
+    let left = agreeing c.args.index.now c.levels.level c.args.items.now in
+    let few : length left ≤ 1 = elim c.levels-test.branch [
+      | else-levels-test w ↦ few-at-last c.args.index.now c.levels.level c.args.items.now size.0 c.requires (search rules) (search rules)
+      | then-levels-test+then-left-le1 w ↦ omega (arith, w.if-left-le1, ap length c.levels.invariant.left)
+    ] in
+    omega (
+      arith,
+      c.levels.invariant.work,
+      c.levels.invariant.level,
+      ap (node_count (256 - c.levels.level)) c.levels.invariant.left,
+      node_count-few (256 - c.levels.level) left few,
+    )

@@ -1,6 +1,5 @@
-use Rattle.std.proofs.Common.{rules, ◌≡◌, Ok, Err, ap, refl, inr}
+use Rattle.std.proofs.Common.{Ok, Err, ap, refl, inr}
 use Rattle.std.proofs.KnownBytes.{Keeps-refl}
-use Rattle.server.specs.Faults.{of_serving}
 use Rattle.server.proofs.Behind.{told, undone, unopened}
 use Rattle.server.proofs.streams.serve_kept.Goals as goal
 
