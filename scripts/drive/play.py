@@ -24,6 +24,7 @@ sys.path.insert(0, str(pathlib.Path(__file__).resolve().parent.parent))
 from questions import play_scripts
 from questions.play_scripts import printed, scripts, text_of
 
+
 def difference(program, name, script):
     """What the program does otherwise than the model, or None."""
     wanted = printed(script)

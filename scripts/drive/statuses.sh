@@ -498,7 +498,7 @@ if [ $is_limited = yes ]; then
     python3 -c 'for k in range(200000): print(f"{k:064x} {0:064x}")' >"$folder/items"
     within 20000 "$folder/items" root
     ends 1 "" "out of memory"
-    within 40000 "$folder/items" prove --index $zeros
+    within 20000 "$folder/items" prove --index $zeros
     ends 1 "" "out of memory"
     within 40000 /dev/null judge --key $ones /dev/zero
     ends 1 "" "/dev/zero: out of memory

@@ -37,6 +37,7 @@ SUBJECTS, subject = subjects()
 
 # Roots and promises ----------------------------------------------------------------------------------------
 
+
 @subject("bodies and signed roots")
 def of_bodies(q, rng):
     body, first = q.let("body", BODY.write()), q.let("first", FIRST_BODY.write())

@@ -1,5 +1,6 @@
 """How questions are written: lines with notes, in which bytes are as short as names make them."""
 
+
 class Questions:
     """Lines of questions. Bytes are written in digits, or by what `let` named and by repeated bytes where that
     is shorter."""
