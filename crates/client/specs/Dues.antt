@@ -10,7 +10,7 @@ use Rattle.rootchain.specs.declared.signed_root.SignedRoot.{SignedRoot}
 use Rattle.proofs.specs.Accepts.{stated}
 use Rattle.proofs.specs.BrokenPromises.{IsBrokenPromise}
 use Rattle.proofs.specs.Comparisons.{IsAcceptedReply, Refuses}
-use Rattle.proofs.specs.Replies.{Reply}
+use Rattle.proofs.specs.Replies.{Reply, SpellsReply}
 use Rattle.client.specs.Clients.{Client}
 use Rattle.client.specs.declared.due.Due.{Due}
 use Rattle.client.specs.declared.due.Due.TheVariants.{Kept, Broken, OtherIndex}
@@ -38,6 +38,10 @@ module _ (hash : List ℕ → List ℕ) (accepted : List ℕ → List ℕ → Li
     IsTestedAs Kept = (hash reply.value ≡ signed.promise.index) × (stated reply.end ≡ Some signed.promise.key)
     IsTestedAs (Broken broken) = (hash reply.value ≡ signed.promise.index) × (stated reply.end ≢ Some signed.promise.key)
         × (broken ≡ record { promise = signed; root = root; proof = bytes })
+
+  -- a reply under the next root shows that a promise was kept, if it is accepted
+  abbrev pub ShowsKept : KeyedRoots → SignedPromise → List ℕ → Type 0
+  ShowsKept chain signed bytes = (root : SignedRoot) × (reply : Reply) × IsNextAfter chain signed.promise.epoch root × SpellsReply bytes reply × (reply.body ≡ root.body) × IsTestedAs signed root bytes reply Kept
 
   -- What comes of testing a promise by a reply: the root that the reply has to be accepted under is the
   -- chain's first one after that of the promise.
