@@ -161,6 +161,6 @@ module _ (hash : List ℕ → List ℕ) (accepted : List ℕ → List ℕ → Li
 
     pub notes-nothing : (seen : FinalSeen) (finals : Finals) → ShowsNothing seen.name seen.epoch seen.reply finals → NotesSeen hash accepted chain seen finals silent finals
     notes-nothing seen finals (inl there) = inl (there, refl, refl)
-    notes-nothing seen finals (inr (new, None, none, adds)) =
+    notes-nothing seen finals (inr (new, (None, none, adds))) =
         inr (new, (None, none, (refl, inr ((λ final. let (reply, spelled, states) = final-spelled seen final in adds reply spelled states), refl))))
-    notes-nothing seen finals (inr (new, Some kept, is, apart)) = inr (new, (Some kept, is, (None, show-none kept seen apart, refl, refl)))
+    notes-nothing seen finals (inr (new, (Some kept, is, apart))) = inr (new, (Some kept, is, (None, show-none kept seen apart, refl, refl)))

@@ -49,7 +49,7 @@ accepted_at hash accepted monitors place epoch name reply said now true after mo
     let same : seen ≡ monitor = same-some seen monitor (slice_get monitors place) there at in
     let here : IsNext monitor root = subst (λ (one : Monitor). IsNext one root) same own in
     let by_name = subst (λ (n : List ℕ). IsAcceptedReply hash accepted root.body n reply read) (ap (λ (one : Monitor). one.name) same ∙ sym named) is in
-    (read, (by_name.0, refl, by_name.1.1), ap (λ (b : Body). b.epoch) by_name.1.0 ∙ one-epoch monitor root late here its ∙ epochs)
+    (read, (by_name.0, refl, by_name.2), ap (λ (b : Body). b.epoch) by_name.1 ∙ one-epoch monitor root late here its ∙ epochs)
 accepted_at hash accepted monitors place epoch name reply said now false after monitor at named next watches yes = absurd cc
 
 module _ {H V S T : Type 0} (hash : List ℕ → List ℕ) (accepted : List ℕ → List ℕ → List ℕ → Type 0) (exchanged : T → RequestContent → Frame → T → Type 0) where

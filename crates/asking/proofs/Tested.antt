@@ -74,7 +74,7 @@ pub shown_kept : (hash : List ℕ → List ℕ) (accepted : List ℕ → List �
     → IsAcceptedAt hash accepted name epoch reply → Dues hash accepted before name reply (Ok Kept) after → TestsShown hash accepted before name epoch reply silent after
 shown_kept hash accepted before name epoch reply after (read, own, at) (place, (signed, tested, (root, its, next, is, shows)), then) =
     let same : its ≡ read = one_reply reply its read is.0 own.0 in
-    let epochs : root.body.epoch ≡ epoch = ap (λ (b : Body). b.epoch) (sym is.1.0) ∙ ap (λ (r : Reply). r.body.epoch) same ∙ at in
+    let epochs : root.body.epoch ≡ epoch = ap (λ (b : Body). b.epoch) (sym is.1) ∙ ap (λ (r : Reply). r.body.epoch) same ∙ at in
     (Some epoch, (place, signed, root, tested, next, epochs), inr (refl, (Ok Kept, (place, (signed, tested, (root, its, next, is, shows)), then), refl)))
 
 -- what a monitor was shown is evidence, which was told

@@ -295,7 +295,10 @@ where
 fn changes_for<'a>(marks: &[Mark], changes: &'a [SignedPromise], name: &Name) -> &'a [SignedPromise]
     ensures { result.now ≡ noted_for marks.now name.now changes.entry.now }
 {
-    if changes.is_empty() || is_marked(marks, name) {
+    if changes.is_empty() {
+        return changes;
+    }
+    if is_marked(marks, name) {
         changes
     } else {
         &changes[..0]

@@ -12,14 +12,14 @@ use Rattle.proofs.specs.Refusals.{ReadsReply}
 use Rattle.proofs.specs.Replies.{Reply, SpellsReply}
 use Rattle.proofs.specs.declared.reply_refusal.Refusal.{Refusal}
 use Rattle.client.specs.Clients.{Client}
-use Rattle.client.specs.Dues.{left, Dues, HasNone, IsTested, ShowsKept, Tests}
+use Rattle.client.specs.Dues.{Dues, IsTested, ShowsKept, Tests}
 use Rattle.client.specs.declared.due.Due.TheVariants.{Kept}
-use Rattle.client.proofs.Tested.{none-tested, one-tested}
+use Rattle.client.proofs.Tested.{one-tested}
 
 module _ (hash : List ℕ → List ℕ) (chain : KeyedRoots) (signed : SignedPromise) (bytes : List ℕ) where
   module _ (found : Option SignedRoot) (finds : (root : SignedRoot) → (found ≡ Some root) ↔ IsNextAfter chain signed.promise.epoch root) where
     pub none-next : found ≡ None → ¬ ShowsKept hash chain signed bytes
-    none-next none (root, reply, next, shown) = let there : found ≡ Some root = (finds root).1 next in cc
+    none-next none (root, reply, next, spelled, body, shown) = let there : found ≡ Some root = (finds root).1 next in cc
 
     module _ (own : SignedRoot) (at : found ≡ Some own) (read : Reply) (spelled : SpellsReply bytes read) where
       -- the parts of what is shown, by the reply that was read
@@ -36,7 +36,7 @@ module _ (hash : List ℕ → List ℕ) (chain : KeyedRoots) (signed : SignedPro
           )
 
   pub unread : (refusal : Refusal) → ReadsReply bytes (Err refusal) → ¬ ShowsKept hash chain signed bytes
-  unread refusal reads (root, reply, next, spelled, shown) = not_spelled bytes refusal reads reply spelled
+  unread refusal reads (root, reply, next, spelled, body, shown) = not_spelled bytes refusal reads reply spelled
 
 module _ (hash : List ℕ → List ℕ) (accepted : List ℕ → List ℕ → List ℕ → Type 0) (before : Client) (name bytes : List ℕ) (its : (reply : Reply) × IsAcceptedReply hash accepted reply.body name bytes reply) where
   -- of a reply that is accepted, what it shows is what a test finds
@@ -44,12 +44,9 @@ module _ (hash : List ℕ → List ℕ) (accepted : List ℕ → List ℕ → Li
   kept-tests signed (root, reply, next, spelled, body, shows) =
       let same : its.0 ≡ reply = one_reply bytes its.0 reply its.1.0 spelled in
       let is : IsAcceptedReply hash accepted reply.body name bytes reply = subst (λ (r : Reply). IsAcceptedReply hash accepted r.body name bytes r) same its.1 in
-      (root, reply, next, (spelled, body, is.1.1), shows)
+      (root, reply, next, (spelled, body, is.2), shows)
 
   pub not-kept : (place : ℕ) (signed : SignedPromise) → IsTested before.promises name place signed → ¬ ShowsKept hash before.chain signed bytes → (after : Client) → ¬ Dues hash accepted before name bytes (Ok Kept) after
   not-kept place signed tested not after (other, (also, its-tested, (root, reply, next, is, shows)), then) =
       let same : also ≡ signed = one-tested before.promises name place other signed also tested its-tested in
-      not (subst (λ (s : SignedPromise). ShowsKept hash before.chain s bytes) same (root, reply, next, is.0, is.1.0, shows))
-
-  pub none-kept : HasNone before.promises name → (after : Client) → ¬ Dues hash accepted before name bytes (Ok Kept) after
-  none-kept none after (other, (also, tested, test), then) = none-tested before.promises name none other also tested
+      not (subst (λ (s : SignedPromise). ShowsKept hash before.chain s bytes) same (root, reply, next, is.0, is.1, shows))

@@ -34,10 +34,7 @@ none-at [] name none k other is = absurd cc
 none-at (first ∷ more) name none zero other is = subst (λ (s : SignedPromise). s.promise.name ≢ name) (sym (some-same first other is)) none.0
 none-at (first ∷ more) name none (suc k) other is = none-at more name none.1 k other is
 
--- no promise is tested where none is for the name, and else one alone is
-pub none-tested : (promises : List SignedPromise) (name : List ℕ) → HasNone promises name → (place : ℕ) (signed : SignedPromise) → ¬ IsTested promises name place signed
-none-tested promises name none place signed is = none-at promises name none place signed is.at is.named
-
+-- one promise alone is tested
 pub one-tested : (promises : List SignedPromise) (name : List ℕ) (place other : ℕ) (signed also : SignedPromise) → IsTested promises name place signed → IsTested promises name other also → also ≡ signed
 one-tested promises name place other signed also is its = elim (cases_lt other place) [
   | inl before ↦ absurd (omega (arith, is.first other also before its.at its.named, its.least place signed is.at is.named))

@@ -29,6 +29,11 @@ pub record IsTested (promises : List SignedPromise) (name : List ℕ) (place : �
   pub least : (k : ℕ) (other : SignedPromise) → slice_get promises k ≡ Some other → other.promise.name ≡ name → signed.promise.epoch ≤ other.promise.epoch
   pub first : (k : ℕ) (other : SignedPromise) → k < place → slice_get promises k ≡ Some other → other.promise.name ≡ name → signed.promise.epoch < other.promise.epoch
 
+-- a reply under the next root shows that a promise was kept, if it is accepted
+abbrev pub ShowsKept : (List ℕ → List ℕ) → KeyedRoots → SignedPromise → List ℕ → Type 0
+ShowsKept hash chain signed bytes = (root : SignedRoot) × (reply : Reply) × IsNextAfter chain signed.promise.epoch root × SpellsReply bytes reply × (reply.body ≡ root.body)
+    × ((hash reply.value ≡ signed.promise.index) × (stated reply.end ≡ Some signed.promise.key))
+
 module _ (hash : List ℕ → List ℕ) (accepted : List ℕ → List ℕ → List ℕ → Type 0) where
   module _ (signed : SignedPromise) (root : SignedRoot) (bytes : List ℕ) (reply : Reply) where
     -- what an accepted reply under the next root shows of a promise (CONIKS, section 4: whether a temporary binding
@@ -38,10 +43,6 @@ module _ (hash : List ℕ → List ℕ) (accepted : List ℕ → List ℕ → Li
     IsTestedAs Kept = (hash reply.value ≡ signed.promise.index) × (stated reply.end ≡ Some signed.promise.key)
     IsTestedAs (Broken broken) = (hash reply.value ≡ signed.promise.index) × (stated reply.end ≢ Some signed.promise.key)
         × (broken ≡ record { promise = signed; root = root; proof = bytes })
-
-  -- a reply under the next root shows that a promise was kept, if it is accepted
-  abbrev pub ShowsKept : KeyedRoots → SignedPromise → List ℕ → Type 0
-  ShowsKept chain signed bytes = (root : SignedRoot) × (reply : Reply) × IsNextAfter chain signed.promise.epoch root × SpellsReply bytes reply × (reply.body ≡ root.body) × IsTestedAs signed root bytes reply Kept
 
   -- What comes of testing a promise by a reply: the root that the reply has to be accepted under is the
   -- chain's first one after that of the promise.

@@ -90,9 +90,16 @@ pub(crate) fn shows_kept<H: NodeHash, S: Verifier>(
         return false;
     };
     match ReplyView::read(bytes) {
-        Ok(view) => view.body() == &root.body && states_kept(signed, hash, &view),
+        Ok(view) => is_under(&view, root) && states_kept(signed, hash, &view),
         Err(_) => false,
     }
+}
+
+/// Whether a reply has the body of a root.
+fn is_under(view: &ReplyView<'_>, root: &SignedRoot) -> bool
+    ensures { IsTrue result ↔ (view.now.body ≡ root.now.body) }
+{
+    view.body() == &root.body
 }
 
 /// Whether a reply states the promised key, for the promised index.
