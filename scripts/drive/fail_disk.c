@@ -87,7 +87,8 @@ int open(const char *path, int flags, ...) {
 
 long write(int descriptor, const void *bytes, unsigned long size) {
     long (*next)(int, const void *, unsigned long) = dlsym(NEXT, "write");
-    if (!is_file(descriptor))
+    // Where nothing fails and nothing is counted, no time is taken to see what the descriptor is.
+    if ((!fail_at && !count_to) || !is_file(descriptor))
         return next(descriptor, bytes, size);
     if (fail_at && count + 1 == fail_at && size > 1 && (is_way("short") || is_way("torn"))) {
         long half = next(descriptor, bytes, size / 2);

@@ -9,7 +9,7 @@ use Rattle.client.specs.Finality.{IsFirstChange}
 use Rattle.rootchain.specs.Chains.{KeyedRoots}
 use Rattle.proofs.specs.Replies.{Reply, SpellsReply}
 use Rattle.memory.specs.declared.final_seen.FinalSeen.{FinalSeen}
-use Rattle.asking.specs.FinalBindings.{change_told, listed, with_change, AreChanged, Finals, IsKeptFor, KeepsFinal, LooksShow, NotesHeard, NotesLooked, NotesReply, NotesSeen, Show, ShowsChange}
+use Rattle.asking.specs.FinalBindings.{change_told, listed, with_change, AreChanged, Finals, IsKeptFor, KeepsFinal, LooksShow, NotesHeard, NotesLooked, NotesReply, NotesSeen, Show, ShowsChange, ShowsNothing}
 use Rattle.asking.specs.Reports.{caught, report_of, silent, told_after, worse, Report, Tells}
 use Rattle.asking.specs.declared.said.Said.{Said}
 use Rattle.encoding.specs.Limits.{IsName}
@@ -17,7 +17,7 @@ use Rattle.client.specs.Clients.{Client}
 use Rattle.wire.specs.Frames.{Frame}
 use Rattle.wire.specs.Requests.{RequestContent}
 use Rattle.asking.proofs.Going.{told_onto}
-use Rattle.asking.proofs.FinalsShown.{not-both}
+use Rattle.asking.proofs.FinalsShown.{not-both, notes-nothing}
 use Rattle.asking.proofs.Handed.{tells_silent, told_alone}
 use Rattle.asking.proofs.Telling.{worse-worse}
 
@@ -80,6 +80,13 @@ module _ (hash : List ℕ → List ℕ) (accepted : List ℕ → List ℕ → Li
   noted-reply (Ok done) name bytes reply seen before after said said' spelled is (told, notes, tells) =
       (told, inl (reply, spelled, subst (λ (s : FinalSeen). NotesSeen hash accepted chain s before told after) is notes), tells)
   noted-reply (Err fault) name bytes reply seen before after said said' spelled is noted = tt
+
+  -- bytes that show nothing new
+  pub noted-nothing : (name bytes : List ℕ) (reply : Reply) (epoch : ℕ) (finals : Finals) (said : Said) → SpellsReply bytes reply → epoch ≡ reply.body.epoch → ShowsNothing name epoch bytes finals
+      → (told : Report) × NotesReply hash accepted chain name bytes finals told finals × Tells said told said
+  noted-nothing name bytes reply epoch finals said spelled is shows =
+      let own = subst (λ (n : ℕ). ShowsNothing name n bytes finals) is shows in
+      (silent, inl (reply, spelled, notes-nothing hash accepted chain (record { name = name; epoch = reply.body.epoch; reply = bytes }) finals own), tells_silent said)
 
   pub noted-unread : (name bytes : List ℕ) (finals : Finals) (said : Said) → ((reply : Reply) → ¬ SpellsReply bytes reply)
       → (told : Report) × NotesReply hash accepted chain name bytes finals told finals × Tells said told said

@@ -1,5 +1,5 @@
 -- What two replies for a name show, and which replies are kept.
-use Rattle.std.proofs.Common.{◌≡◌, ◌↔◌, ◌∙◌, ◌≤◌, ℕ, List, Bool, true, false, Option, None, Some, Err, IsTrue, MatchOption, ap, arith, inl, inr, refl, subst, sym}
+use Rattle.std.proofs.Common.{◌≡◌, ◌↔◌, ◌∙◌, ℕ, List, Bool, true, false, Option, None, Some, Err, IsTrue, MatchOption, ap, arith, inl, inr, refl, subst, sym}
 use Rattle.std.proofs.lemmas.List.Elements.{All-contains}
 use Rattle.auditor.specs.declared.evidence.Evidence.{Evidence}
 use Rattle.auditor.specs.declared.evidence.Evidence.TheVariants as evidence
@@ -15,9 +15,9 @@ use Rattle.proofs.specs.Refusals.{ReadsReply}
 use Rattle.proofs.specs.Replies.{Reply, SpellsReply}
 use Rattle.proofs.specs.declared.broken_final.BrokenFinal.{BrokenFinal}
 use Rattle.proofs.specs.declared.reply_refusal.Refusal.{Refusal}
-use Rattle.client.specs.Finality.{StateAChange}
 use Rattle.memory.specs.declared.final_seen.FinalSeen.{FinalSeen}
-use Rattle.asking.specs.FinalBindings.{IsFinalChange, IsFinalIn, Show}
+use Rattle.asking.specs.FinalBindings.{Finals, IsFinalChange, IsFinalIn, MayChange, NotesSeen, Show, ShowsNothing, StayApart}
+use Rattle.asking.specs.Reports.{silent}
 
 pub not-both : (is : Bool) → is ≡ true → is ≡ false → ⊥
 not-both is one other = absurd cc
@@ -81,28 +81,26 @@ module _ (hash : List ℕ → List ℕ) (accepted : List ℕ → List ℕ → Li
     )
 
     module _ (one other : FinalSeen) where
-      pub not-later : other.epoch ≤ one.epoch → (broken : BrokenFinal) → ¬ IsFinalChange hash accepted chain one other broken
-      not-later low broken change =
+      -- what may not change it does not
+      pub may-change : (broken : BrokenFinal) → IsFinalChange hash accepted chain one other broken → MayChange one.epoch one.reply other.epoch other.reply
+      may-change broken change =
           let p = change.rooted.1 in
           let q = change.later_rooted.1 in
           let later = change.later in
-          absurd (omega (arith, p, q, later, low))
-
-      -- what states no change shows none
-      pub not-stated : (test : Bool) → test ≡ false → IsTrue test ↔ StateAChange one.reply other.reply → (broken : BrokenFinal) → ¬ IsFinalChange hash accepted chain one other broken
-      not-stated test never exact broken change =
           let (read, spelled, states) = change.changes.passes in
-          let (later, later_spelled, later_states) = change.changes.later_passes in
+          let (later_read, later_spelled, later_states) = change.changes.later_passes in
           let own = (states-passed hash accepted broken.root.body broken.name read change.changes.statement states).0 in
-          let its = (states-passed hash accepted broken.later_root.body broken.name later change.changes.later_statement later_states).0 in
-          not-both test (exact.1 (record {
-            one = read;
-            spelled = subst (λ (b : List ℕ). SpellsReply b read) change.proof spelled;
-            final = sym (ap states_final own) ∙ change.changes.final;
-            other = later;
-            later_spelled = subst (λ (b : List ℕ). SpellsReply b later) change.later_proof later_spelled;
-            changed = λ same. change.changes.changed (its ∙ same ∙ sym own);
-          })) never
+          let its = (states-passed hash accepted broken.later_root.body broken.name later_read change.changes.later_statement later_states).0 in (
+            omega (arith, p, q, later),
+            record {
+              one = read;
+              spelled = subst (λ (b : List ℕ). SpellsReply b read) change.proof spelled;
+              final = sym (ap states_final own) ∙ change.changes.final;
+              other = later_read;
+              later_spelled = subst (λ (b : List ℕ). SpellsReply b later_read) change.later_proof later_spelled;
+              changed = λ same. change.changes.changed (its ∙ same ∙ sym own);
+            },
+          )
 
       pub no-root : (found : Option SignedRoot) → Finds one.epoch found → found ≡ None → (broken : BrokenFinal) → ¬ IsFinalChange hash accepted chain one other broken
       no-root found finds none broken change = nowhere one.epoch found finds none broken.root change.rooted
@@ -156,3 +154,13 @@ module _ (hash : List ℕ → List ℕ) (accepted : List ℕ → List ℕ → Li
         → Show hash accepted chain one other result
     shown-second one other None none shows = λ broken. (none broken, shows broken)
     shown-second one other (Some made) none (broken, is, change) = (broken, is, inr change)
+
+    -- what shows nothing: a reply that stays apart from the kept one, and one that is not to be kept
+    pub show-none : (one other : FinalSeen) → StayApart one other.epoch other.reply → Show hash accepted chain one other None
+    show-none one other (not, not-back) = λ broken. (λ change. not (may-change one other broken change), λ change. not-back (may-change other one broken change))
+
+    pub notes-nothing : (seen : FinalSeen) (finals : Finals) → ShowsNothing seen.name seen.epoch seen.reply finals → NotesSeen hash accepted chain seen finals silent finals
+    notes-nothing seen finals (inl there) = inl (there, refl, refl)
+    notes-nothing seen finals (inr (new, (None, none, adds))) =
+        inr (new, (None, none, (refl, inr ((λ final. let (reply, spelled, states) = final-spelled seen final in adds reply spelled states), refl))))
+    notes-nothing seen finals (inr (new, (Some kept, is, apart))) = inr (new, (Some kept, is, (None, show-none kept seen apart, refl, refl)))

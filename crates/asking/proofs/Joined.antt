@@ -1,5 +1,5 @@
 -- A monitor that joins the others.
-use Rattle.std.proofs.Common.{◌≡◌, ◌≢◌, ◌∙◌, ℕ, ◌+◌, ◌<◌, ◌≤◌, Bool, true, false, if◌then◌else◌, List, [], ◌∷◌, ◌++◌, Option, None, Some, ◌↔◌, Result, Ok, Err, Global, Vec, ap, codes, drop, get_or, inl, inr, length, refl, rules, subst, sym}
+use Rattle.std.proofs.Common.{◌≡◌, ◌≢◌, ◌∙◌, ℕ, ◌+◌, ◌<◌, ◌≤◌, Bool, true, false, if◌then◌else◌, List, [], ◌∷◌, ◌++◌, Option, None, Some, ◌↔◌, Result, Ok, Err, Global, Vec, ap, arith, codes, drop, get_or, inl, inr, length, refl, rules, subst, sym}
 use Rattle.std.specs.Prelude.{OnOk}
 use Rattle.std.specs.List.{list_any}
 use Rattle.std.specs.Str.{bytes_eq}
@@ -66,6 +66,15 @@ module _ (marks : List Mark) (name : List ℕ) (noted : List SignedPromise) wher
       by : (b : Bool) → list_any (λ (m : Mark). bytes_eq m.name name) marks ≡ b → ◌≡◌ {A = List SignedPromise} [] (if b then noted else [])
       by true is = let (k, mark, below, at, same) = Any-from_list_any (λ (m : Mark). bytes_eq m.name name) marks is in absurd (unmarked (mark, (k, below, at), (bytes_eq-Decides mark.name name).0 same))
       by false is = refl
+
+-- where there are none, none count
+pub noted_empty : (marks : List Mark) (name : List ℕ) (noted : List SignedPromise) → length noted ≡ 0 → noted ≡ noted_for marks name noted
+noted_empty marks name [] none = by (list_any (λ (m : Mark). bytes_eq m.name name) marks)
+  where
+    by : (b : Bool) → ◌≡◌ {A = List SignedPromise} [] (if b then [] else [])
+    by true = refl
+    by false = refl
+noted_empty marks name (signed ∷ more) none = absurd (omega (arith, none))
 
 -- the last of two lists of promises, one behind the other
 module _ (marks : List Mark) (name : List ℕ) (epoch : ℕ) where

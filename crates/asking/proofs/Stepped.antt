@@ -1,8 +1,12 @@
 -- Monitors that took a step.
-use Rattle.std.proofs.Common.{◌≡◌, ◌∙◌, ◌-◌, ◌<◌, ◌≤◌, ℕ, zero, suc, Bool, false, List, [], ◌∷◌, Option, Some, None, Result, Ok, Err, Global, Vec, ap, arith, length, refl, rules, subst, sym, inl, inr, slice_set}
+use Rattle.std.proofs.Common.{◌≡◌, ◌∙◌, ◌-◌, ◌<◌, ◌≤◌, ℕ, zero, suc, Bool, true, false, List, [], ◌∷◌, Option, Some, None, Result, Ok, Err, Global, Vec, ap, arith, length, refl, rules, subst, sym, inl, inr, slice_set}
 use Rattle.std.specs.Prelude.{slice_get, IfErr, OnOk}
+use Rattle.std.proofs.lemmas.List.Elements.{All-contains}
 use Rattle.commands.specs.Operations.{Lookup}
-use Rattle.monitor.specs.Monitors.{Monitor}
+use Rattle.rootchain.specs.declared.body.Body.{Body}
+use Rattle.rootchain.specs.declared.signed_root.SignedRoot.{SignedRoot}
+use Rattle.proofs.specs.Comparisons.{IsAcceptedReply}
+use Rattle.monitor.specs.Monitors.{IsNext, Monitor}
 use Rattle.monitor.specs.Stepping.{IsNextEpoch}
 use Rattle.wire.specs.Frames.{Frame}
 use Rattle.wire.specs.Requests.{RequestContent, Query}
@@ -14,7 +18,7 @@ use Rattle.asking.specs.Reports.{Report, Tells, report_of, silent, told_after}
 use Rattle.memory.specs.declared.mark.Mark.{Mark}
 use Rattle.asking.specs.Scenes.{GivesBody, HaltsAfter, Scene, scene}
 use Rattle.asking.specs.Visiting.{TestsAll, TestsSome}
-use Rattle.asking.specs.Watching.{AllStep, GoesOn, GoesSome, SomeStep, StepsOnce, StepsSome, StepsThrough, TestsShown, WatchesAt, WatchesBy}
+use Rattle.asking.specs.Watching.{AllStep, GoesOn, GoesSome, IsAcceptedAt, SomeStep, StepsOnce, StepsSome, StepsThrough, TestsShown, WatchesAt, WatchesBy}
 use Rattle.asking.proofs.Going.{told_onto}
 use Rattle.asking.proofs.Handed.{told_silent}
 
@@ -29,6 +33,24 @@ pub set_to_itself : {X : Type 0} (xs : List X) (k : ℕ) (x : X) → slice_get x
 set_to_itself [] k x at = refl
 set_to_itself (y ∷ ys) zero x at = ap (λ z. z ∷ ys) (same-some y x (Some y) refl at)
 set_to_itself (y ∷ ys) (suc k) x at = ap (λ zs. y ∷ zs) (set_to_itself ys k x at)
+
+-- two roots that are next are of one epoch
+one-epoch : (monitor : Monitor) (one other : SignedRoot) → IsNext monitor one → IsNext monitor other → one.body.epoch ≡ other.body.epoch
+one-epoch monitor one other is also =
+    let low = All-contains (λ (x : SignedRoot). monitor.watched < x.body.epoch → one.body.epoch ≤ x.body.epoch) monitor.client.chain.roots other is.2 also.0 also.1 in
+    let high = All-contains (λ (x : SignedRoot). monitor.watched < x.body.epoch → other.body.epoch ≤ x.body.epoch) monitor.client.chain.roots one also.2 is.0 is.1 in
+    omega (arith, low, high)
+
+-- the client of a monitor that watched an epoch accepted the reply
+pub accepted_at : (hash : List ℕ → List ℕ) (accepted : List ℕ → List ℕ → List ℕ → Type 0) (monitors : List Monitor) (place epoch : ℕ) (name reply : List ℕ) (said now : Said) (went : Bool) (after : List Monitor) (monitor : Monitor)
+    → slice_get monitors place ≡ Some monitor → name ≡ monitor.name → IsNextEpoch monitor (Some epoch) → WatchesAt hash accepted monitors place epoch reply said went now after → went ≡ true → IsAcceptedAt hash accepted name epoch reply
+accepted_at hash accepted monitors place epoch name reply said now true after monitor at named next (inl (none, not, still, same)) yes = absurd (none-some monitor (slice_get monitors place) none at)
+accepted_at hash accepted monitors place epoch name reply said now true after monitor at named (late, its, epochs) (inr (seen, watched, there, (told, (step, (root, read, (own, is), tells, then), is-told), told-now), set)) yes =
+    let same : seen ≡ monitor = same-some seen monitor (slice_get monitors place) there at in
+    let here : IsNext monitor root = subst (λ (one : Monitor). IsNext one root) same own in
+    let by_name = subst (λ (n : List ℕ). IsAcceptedReply hash accepted root.body n reply read) (ap (λ (one : Monitor). one.name) same ∙ sym named) is in
+    (read, (by_name.0, refl, by_name.2), ap (λ (b : Body). b.epoch) by_name.1 ∙ one-epoch monitor root late here its ∙ epochs)
+accepted_at hash accepted monitors place epoch name reply said now false after monitor at named next watches yes = absurd cc
 
 module _ {H V S T : Type 0} (hash : List ℕ → List ℕ) (accepted : List ℕ → List ℕ → List ℕ → Type 0) (exchanged : T → RequestContent → Frame → T → Type 0) where
   module _ (asker : Asker H V S) (said : Said) (stream : T) (place : ℕ) (monitor : Monitor) (spelled : List ℕ) (epoch : ℕ) (frame : Frame) (later : T) where

@@ -2,11 +2,15 @@
 use Rattle.std.proofs.Common.{◌≡◌, ◌∙◌, ℕ, suc, Bool, false, if◌then◌else◌, List, Option, Some, None, Result, Ok, Err, Global, Vec, ap, refl, subst, sym, inl, inr}
 use Rattle.std.specs.Prelude.{slice_get, OnOk}
 use Rattle.commands.specs.Operations.{Lookup}
+use Rattle.rootchain.specs.declared.body.Body.{Body}
 use Rattle.rootchain.specs.declared.signed_promise.SignedPromise.{SignedPromise}
+use Rattle.proofs.proofs.Passing.{one_reply}
+use Rattle.proofs.specs.Replies.{Reply}
 use Rattle.client.specs.Clients.{Client}
 use Rattle.client.specs.Dues.{Dues, IsDueEpoch}
 use Rattle.client.specs.declared.client_refusal.Refusal.{Refusal}
 use Rattle.client.specs.declared.due.Due.{Due}
+use Rattle.client.specs.declared.due.Due.TheVariants.{Kept}
 use Rattle.monitor.specs.Monitors.{Monitor}
 use Rattle.wire.specs.Frames.{Frame}
 use Rattle.wire.specs.Requests.{RequestContent, Query}
@@ -18,7 +22,7 @@ use Rattle.asking.specs.Testing.{due_told, shown_told, TellsDue}
 use Rattle.asking.specs.FinalBindings.{NotesReply}
 use Rattle.asking.specs.Reports.{Report, Tells, report_of, silent, told_after}
 use Rattle.asking.specs.Visiting.{AwaitsMonitor, TestsName, Visits}
-use Rattle.asking.specs.Watching.{TestsShown}
+use Rattle.asking.specs.Watching.{IsAcceptedAt, TestsShown}
 use Rattle.asking.proofs.Going.{told_onto}
 use Rattle.asking.proofs.Handed.{told_silent}
 
@@ -64,6 +68,14 @@ module _ {H V S T : Type 0} (hash : List ℕ → List ℕ) (accepted : List ℕ 
           tells = joined (due_told found) tells ∙ ap (λ (s : Said). told_after (report_of s) (told_after (due_told found) shown)) given.2;
           monitors = ap (λ (all : Vec Monitor Global). all.items) watchers;
         })
+
+-- what a monitor was shown was accepted, and shows that the promise was kept
+pub shown_kept : (hash : List ℕ → List ℕ) (accepted : List ℕ → List ℕ → List ℕ → Type 0) (before : Client) (name : List ℕ) (epoch : ℕ) (reply : List ℕ) (after : Client)
+    → IsAcceptedAt hash accepted name epoch reply → Dues hash accepted before name reply (Ok Kept) after → TestsShown hash accepted before name epoch reply silent after
+shown_kept hash accepted before name epoch reply after (read, own, at) (place, (signed, tested, (root, its, next, is, shows)), then) =
+    let same : its ≡ read = one_reply reply its read is.0 own.0 in
+    let epochs : root.body.epoch ≡ epoch = ap (λ (b : Body). b.epoch) (sym is.1) ∙ ap (λ (r : Reply). r.body.epoch) same ∙ at in
+    (Some epoch, (place, signed, root, tested, next, epochs), inr (refl, (Ok Kept, (place, (signed, tested, (root, its, next, is, shows)), then), refl)))
 
 -- what a monitor was shown is evidence, which was told
 pub shown_evidence : {A E : Type 0} (hash : List ℕ → List ℕ) (accepted : List ℕ → List ℕ → List ℕ → Type 0) (result : Result A E) (before : Client) (name : List ℕ) (epoch : ℕ) (reply : List ℕ) (due : Option ℕ) (shown : Result Due Refusal) (after : Client)

@@ -15,7 +15,7 @@ use Rattle.proofs.specs.declared.broken_final.BrokenFinal.{BrokenFinal}
 use Rattle.wire.specs.Frames.{Frame}
 use Rattle.wire.specs.Requests.{RequestContent, Query}
 use Rattle.client.specs.Clients.{Client}
-use Rattle.client.specs.Finality.{looks_for, IsChangedBy, IsFirstChange, NoneStandSo}
+use Rattle.client.specs.Finality.{looks_for, IsChangedBy, IsFirstChange, NoneStandSo, StateAChange}
 use Rattle.memory.specs.Memories.{Memory}
 use Rattle.memory.specs.declared.final_seen.FinalSeen.{FinalSeen}
 use Rattle.asking.specs.Reports.{Report, caught, silent, told_after}
@@ -65,6 +65,24 @@ change_told (Some made) = caught (evidence_text made)
 abbrev pub with_change : List ℕ → Option Evidence → Finals → Finals
 with_change name None before = before
 with_change name (Some made) before = record before { changed = before.changed ++ name ∷ [] }
+
+-- the first of two replies states a key with Final, and the second, at a later epoch, anything else
+abbrev pub MayChange : ℕ → List ℕ → ℕ → List ℕ → Type 0
+MayChange epoch reply later_epoch later = (epoch < later_epoch) × StateAChange reply later
+
+-- neither is so of the reply that is kept for a name and this one
+abbrev pub StayApart : FinalSeen → ℕ → List ℕ → Type 0
+StayApart kept epoch reply = ¬ MayChange kept.epoch kept.reply epoch reply × ¬ MayChange epoch reply kept.epoch kept.reply
+
+-- a reply shows nothing of the one that is kept for its name, or is not one to keep where none is
+abbrev pub AddsNothing : ℕ → List ℕ → Option FinalSeen → Type 0
+AddsNothing epoch bytes None = (reply : Reply) → SpellsReply bytes reply → states_final (stated reply.end) ≢ true
+AddsNothing epoch bytes (Some kept) = StayApart kept epoch bytes
+
+-- nor is anything told of a name of which a change was told before
+abbrev pub ShowsNothing : List ℕ → ℕ → List ℕ → Finals → Type 0
+ShowsNothing name epoch bytes finals =
+    Contains finals.changed name ⊎ ((¬ Contains finals.changed name) × ((found : Option FinalSeen) × IsKeptFor name finals.seen found × AddsNothing epoch bytes found))
 
 module _ (hash : List ℕ → List ℕ) (accepted : List ℕ → List ℕ → List ℕ → Type 0) (chain : KeyedRoots) where
   -- the evidence that the first of two replies for a name states a key with Final, and the second, at a later epoch, changes

@@ -12,6 +12,8 @@ use Rattle.monitor.specs.declared.monitor_refusal.Refusal.TheVariants.{Client}
 use Rattle.monitor.specs.declared.step.Step.{Step}
 use Rattle.monitor.specs.declared.step.Step.TheVariants.{Kept, Alarm}
 use Rattle.play.specs.Telling.{step_text}
+use Rattle.proofs.specs.Comparisons.{IsAcceptedReply}
+use Rattle.proofs.specs.Replies.{Reply}
 use Rattle.wire.specs.Frames.{Frame}
 use Rattle.wire.specs.Requests.{RequestContent, Query}
 use Rattle.memory.specs.declared.mark.Mark.{Mark}
@@ -49,6 +51,10 @@ module _ (hash : List ℕ → List ℕ) (accepted : List ℕ → List ℕ → Li
   abbrev pub ShowsEpoch : Monitor → ℕ → RequestContent → Frame → Bool → Report → Monitor → Type 0
   ShowsEpoch before epoch asked frame went told after =
       (IsUnanswered asked frame told × (went ≡ false) × (after ≡ before)) ⊎ (FrameAnswers asked frame × WatchesBy before epoch frame.body went told after)
+
+  -- bytes are a reply of this epoch that is accepted for the name under the body that it has
+  abbrev pub IsAcceptedAt : List ℕ → ℕ → List ℕ → Type 0
+  IsAcceptedAt name epoch bytes = (reply : Reply) × IsAcceptedReply hash accepted reply.body name bytes reply × (reply.body.epoch ≡ epoch)
 
   -- a promise for the name that is due in this epoch is tested by the reply: it is dropped if it was kept, and evidence that
   -- it was not is told

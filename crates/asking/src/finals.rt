@@ -9,7 +9,7 @@ ghost use Rattle.proofs.specs.Comparisons.{IsAcceptedReply};
 ghost use Rattle.proofs.specs.Replies.{Reply, SpellsReply};
 ghost use Rattle.proofs.specs.declared.broken_final.BrokenFinal.{BrokenFinal as Broken};
 ghost use Rattle.asking.specs.FinalBindings as bindings;
-ghost use Rattle.asking.specs.FinalBindings.{listed, no_finals, with_change, AreChanged, IsFinalChange, IsFinalIn, IsKeptFor, IsKnownIn, KeepsFinal, NotesReply, NotesSeen, Show, ShowsChange};
+ghost use Rattle.asking.specs.FinalBindings.{listed, no_finals, with_change, AreChanged, IsFinalChange, IsFinalIn, IsKeptFor, IsKnownIn, KeepsFinal, MayChange, NotesReply, NotesSeen, Show, ShowsChange, ShowsNothing, StayApart};
 ghost use Rattle.asking.specs.Reports.{caught, Report, Tells};
 
 use crate::checking::tell_evidence;
@@ -18,7 +18,7 @@ use auditor::{Evidence, judge};
 use audits::{ReadFault, read_evidence};
 use client::state_a_change;
 use encoding::{Name, ProofText};
-use memory::{EvidenceLine, FinalSeen, Memory};
+use memory::{EvidenceLine, FinalSeen, Memory, ReplyText, copied_finals};
 use nodehash::NodeHash;
 use proofs::{BrokenFinal, ReplyView, accept};
 use rootchain::{Chain, SignedRoot};
@@ -63,7 +63,7 @@ impl Finals {
     pub fn remembered(alloc: Global, memory: &Memory) -> Result<Self, AllocError>
         ensures { IfOk result (IsKnownIn memory.now) }
     {
-        let seen = copies_of(alloc, memory.finals())?;
+        let seen = copied_finals(alloc, memory.finals())?;
         let changed = changed_names(alloc, memory.evidence())?;
         Ok(Finals { seen, changed })
     }
@@ -95,8 +95,28 @@ impl Finals {
         let Ok(view) = ReplyView::read(reply) else {
             return Ok(());
         };
-        let (name, epoch, reply) = (name.copied(), view.body().epoch, ProofText::of(reply));
+        let epoch = view.body().epoch;
+        // Most replies end here, and are not copied.
+        if self.shows_nothing(name, epoch, reply) {
+            return Ok(());
+        }
+        let reply = ReplyText::copy_of(alloc, reply)?;
+        let name = name.copied();
         self.note_seen(alloc, chain, checks, FinalSeen { name, epoch, reply }, said)
+    }
+
+    /// Whether a reply for a name shows nothing new: a change was told of it, or neither this reply nor the one that is kept for
+    /// it can change the other, or none is kept and this one states no key with Final.
+    fn shows_nothing(&self, name: &Name, epoch: u64, reply: &[u8]) -> bool
+        ensures { IsTrue result → ShowsNothing name.now epoch reply.now self.now }
+    {
+        if self.changed.contains(name) {
+            return true;
+        }
+        match kept_for(&self.seen, name) {
+            Some(kept) => stay_apart(kept, epoch, reply),
+            None => !states_final(reply),
+        }
     }
 
     /// Notes a reply for a name.
@@ -171,17 +191,6 @@ impl Finals {
     }
 }
 
-/// Copies of replies.
-fn copies_of(alloc: Global, seen: &[FinalSeen]) -> Result<Vec<FinalSeen>, AllocError>
-    ensures { IfOk result (λ copies. copies.items ≡ seen.now) }
-{
-    let mut copies = Vec::new(alloc);
-    for kept in seen {
-        copies.push(kept.copied())?;
-    }
-    Ok(copies)
-}
-
 /// The names of which lines of evidence show that a final binding was changed.
 fn changed_names(alloc: Global, evidence: &[EvidenceLine]) -> Result<Vec<Name>, AllocError>
     ensures { IfOk result (λ names. AreChanged evidence.now names.items) }
@@ -229,6 +238,21 @@ fn kept_for<'a>(seen: &'a [FinalSeen], name: &Name) -> Option<&'a FinalSeen>
     None
 }
 
+/// Whether neither of two replies for a name can change the other.
+fn stay_apart(kept: &FinalSeen, epoch: u64, reply: &[u8]) -> bool
+    ensures { IsTrue result → StayApart kept.now epoch reply.now }
+{
+    !may_change(kept.epoch, kept.reply.bytes(), epoch, reply)
+        && !may_change(epoch, reply, kept.epoch, kept.reply.bytes())
+}
+
+/// Whether the first of two replies states a key with Final, and the second, at a later epoch, anything else.
+fn may_change(epoch: u64, reply: &[u8], later_epoch: u64, later: &[u8]) -> bool
+    ensures { IsTrue result ↔ MayChange epoch reply.now later_epoch later.now }
+{
+    epoch < later_epoch && state_a_change(reply, later)
+}
+
 /// The evidence that one of two replies for a name changes the other.
 fn shown<H, V, S>(
     chain: &Chain<H, S>,
@@ -263,10 +287,12 @@ where
         (λ made. (broken : Broken) × (made ≡ evidence.Final broken) × IsFinalChange H.digest_of V.accepted chain.now one.now other.now broken) }
 {
     // Most replies end here, and are not verified once more.
-    if other.epoch <= one.epoch {
-        return None;
-    }
-    if !state_a_change(one.reply.bytes(), other.reply.bytes()) {
+    if !may_change(
+        one.epoch,
+        one.reply.bytes(),
+        other.epoch,
+        other.reply.bytes(),
+    ) {
         return None;
     }
     let Some(root) = chain.at(one.epoch) else {
@@ -303,9 +329,9 @@ fn broken(
     BrokenFinal {
         name: one.name.copied(),
         root: root.copied(),
-        proof: one.copied().reply,
+        proof: ProofText::of(one.reply.bytes()),
         later_root: later_root.copied(),
-        later_proof: other.copied().reply,
+        later_proof: ProofText::of(other.reply.bytes()),
     }
 }
 

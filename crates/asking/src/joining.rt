@@ -295,6 +295,9 @@ where
 fn changes_for<'a>(marks: &[Mark], changes: &'a [SignedPromise], name: &Name) -> &'a [SignedPromise]
     ensures { result.now ≡ noted_for marks.now name.now changes.entry.now }
 {
+    if changes.is_empty() {
+        return changes;
+    }
     if is_marked(marks, name) {
         changes
     } else {
@@ -419,7 +422,7 @@ where
     Ok(())
 }
 
-/// Gives a monitor a promise, if it is one for its name. Only such a one is written.
+/// Gives a monitor a promise, if it is one for its name.
 fn hand_written<H, V, S>(
     checks: &mut Checks<H, V, S>,
     monitor: &mut Monitor<H, V, S>,
@@ -434,6 +437,22 @@ where
     if *monitor.name() != signed.promise.name {
         return Ok(());
     }
+    write_and_hand(checks, monitor, signed)
+}
+
+/// Gives a monitor a promise in its bytes. A function clears the room of its texts when it is called, so this one is called for a
+/// promise for the monitor's name alone.
+fn write_and_hand<H, V, S>(
+    checks: &mut Checks<H, V, S>,
+    monitor: &mut Monitor<H, V, S>,
+    signed: &SignedPromise,
+) -> Result<(), AllocError>
+where
+    H: NodeHash + Drop,
+    V: VufCheck + Drop,
+    S: Verifier + Drop,
+    ensures { OnOk result ((why : Option MonitorRefusal) × HandsTo H.digest_of V.accepted S.verified signed.now (signed_promise_bytes signed.now) monitor.old why monitor.new) }
+{
     let _refused = hand_one(monitor, checks, signed, signed.write().bytes())?;
     Ok(())
 }

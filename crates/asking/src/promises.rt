@@ -132,7 +132,7 @@ where
     fn waits_for_monitor(&self, name: &Name) -> bool
         ensures { IsTrue result ↔ AwaitsMonitor (self.now).marks.items (self.now).monitors.items name.now }
     {
-        is_marked(&self.marks, name) && !is_watched(&self.monitors, name)
+        !is_watched(&self.monitors, name) && is_marked(&self.marks, name)
     }
 
     /// Tests the promise of a name that is due, if there is one. Returns whether it was found kept.
@@ -174,7 +174,7 @@ pub(crate) fn is_marked(marks: &[Mark], name: &Name) -> bool
     false
 }
 
-/// Whether a name is watched in this run.
+/// Whether a name is watched in this run. The last monitors are looked at first: one that begins is the last.
 fn is_watched<H, V, S>(monitors: &[Monitor<H, V, S>], name: &Name) -> bool
 where
     H: NodeHash + Drop,
@@ -182,8 +182,10 @@ where
     S: Verifier + Drop,
     ensures { IsTrue result ↔ HasMonitor monitors.now name.now }
 {
-    for monitor in monitors {
-        if monitor.name() == name {
+    let mut place = monitors.len();
+    while 0 < place {
+        place -= 1;
+        if monitors[place].name() == name {
             return true;
         }
     }

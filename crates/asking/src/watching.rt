@@ -1,5 +1,5 @@
 // The monitors of names.
-ghost use Rattle.std.specs.Prelude.{◌≡◌, ◌≢◌, ◌⊎◌, ◌-◌, ◌++◌, ◌∷◌, [], ℕ, codes, length, option_map, slice_get, IfErr, IfOk, OnErr, OnOk, Some};
+ghost use Rattle.std.specs.Prelude.{◌≡◌, ◌≢◌, ◌⊎◌, ◌-◌, ◌++◌, ◌∷◌, [], ℕ, codes, length, option_map, slice_get, false, IfErr, IfOk, IsTrue, OnErr, OnOk, Some};
 ghost use Rattle.commands.specs.Operations.{Lookup};
 ghost use Rattle.wire.specs.Frames.{Frame};
 ghost use Rattle.wire.specs.Requests.{Query};
@@ -12,7 +12,7 @@ ghost use Rattle.asking.specs.FinalBindings.{NotesReply};
 ghost use Rattle.asking.specs.Refused.{client_refuses};
 ghost use Rattle.asking.specs.Scenes.{scene, GivesBody, HaltsAfter, HaltsIn, Remains, StaysWhole};
 ghost use Rattle.asking.specs.Reports.{report_of, silent, Report, Tells};
-ghost use Rattle.asking.specs.Watching.{step_told, AllStep, TestsShown, GoesOn, GoesSome, SomeStep, StepsOnce, StepsSome, StepsThrough, WatchesAt, WatchesEpoch};
+ghost use Rattle.asking.specs.Watching.{step_told, AllStep, IsAcceptedAt, TestsShown, GoesOn, GoesSome, SomeStep, StepsOnce, StepsSome, StepsThrough, WatchesAt, WatchesEpoch};
 ghost use Rattle.asking.specs.declared.ask_fault.AskFault.TheVariants.{Stopped};
 
 use crate::answering::ask_for;
@@ -145,14 +145,53 @@ where
         let (monitors, checks) = (&mut self.monitors, &mut self.checks);
         let went = watch_at(self.alloc, monitors, place, checks, epoch, &found, &mut now)?;
         self.note(&name, &found, &mut now)?;
-        self.test_shown(&name, epoch, &found, &mut now)?;
+        self.test_shown(&name, epoch, went, &found, &mut now)?;
         said.join(now)?;
         Ok(went)
     }
 
     /// Tests the promise for a name by a reply that came for its monitor, if it is due in this epoch. One that was kept is
-    /// dropped, and so not asked for. Evidence of one that was not is told; it stays, and is tested again.
+    /// dropped, and so not asked for; where the monitor's client accepted the reply, it is not verified once more. Evidence
+    /// of one that was not is told; it stays, and is tested again.
     fn test_shown(
+        &mut self,
+        name: &Name,
+        epoch: u64,
+        is_accepted: bool,
+        reply: &[u8],
+        said: &mut Said,
+    ) -> Result<(), AllocError>
+        requires { IsTrue is_accepted → IsAcceptedAt H.digest_of V.accepted name.now epoch reply.now }
+        ensures tests { OnOk result ((found : Report) × TestsShown H.digest_of V.accepted (self.old).client name.now epoch reply.now found (self.new).client × Tells said.old found said.new) }
+        ensures monitors { (self.new).monitors ≡ (self.old).monitors }
+        ensures finals { (self.new).finals ≡ (self.old).finals }
+        ensures stays { StaysWhole self.old self.new }
+    {
+        if self.drop_shown(name, epoch, is_accepted, reply) {
+            return Ok(());
+        }
+        self.test_due(name, epoch, reply, said)
+    }
+
+    /// Drops the promise for a name that is due in this epoch, if a reply that was accepted shows that it was kept. Returns
+    /// whether it did.
+    fn drop_shown(&mut self, name: &Name, epoch: u64, is_accepted: bool, reply: &[u8]) -> bool
+        requires { IsTrue is_accepted → IsAcceptedAt H.digest_of V.accepted name.now epoch reply.now }
+        ensures tests { IsTrue result → TestsShown H.digest_of V.accepted (self.old).client name.now epoch reply.now silent (self.new).client }
+        ensures client { result ≡ false → (self.new).client ≡ (self.old).client }
+        ensures monitors { (self.new).monitors ≡ (self.old).monitors }
+        ensures finals { (self.new).finals ≡ (self.old).finals }
+        ensures stays { StaysWhole self.old self.new }
+    {
+        if !is_accepted {
+            return false;
+        }
+        let checks = &mut self.checks;
+        self.client.drop_kept(&mut checks.hash, name, reply)
+    }
+
+    /// Tests the promise for a name by a reply that came for its monitor, if it is due in this epoch.
+    fn test_due(
         &mut self,
         name: &Name,
         epoch: u64,

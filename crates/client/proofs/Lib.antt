@@ -6,6 +6,7 @@ pub mod Keeping
 pub mod ByIndex
 pub mod ByNames
 pub mod Tested
+pub mod ShownKept
 pub mod Groups
 pub mod Seen
 pub mod Others

@@ -1,5 +1,6 @@
 -- Which promise is tested once one more comes behind the others.
 use Rattle.std.proofs.Common.{◌≡◌, ◌≢◌, ◌⊎◌, inl, inr, ℕ, zero, suc, ◌<◌, ◌≤◌, List, [], ◌∷◌, ◌++◌, length, slice_get, Option, Some, None, Bor, refl, sym, ap, subst, ◌∙◌, arith}
+use Rattle.std.proofs.lemmas.Bool.{cases_lt}
 use Rattle.std.proofs.lemmas.Option.{slice_get_within}
 use Rattle.rootchain.specs.declared.signed_promise.SignedPromise.{SignedPromise}
 use Rattle.client.specs.Dues.{HasNone, IsTested}
@@ -32,6 +33,18 @@ none-at : (promises : List SignedPromise) (name : List ℕ) → HasNone promises
 none-at [] name none k other is = absurd cc
 none-at (first ∷ more) name none zero other is = subst (λ (s : SignedPromise). s.promise.name ≢ name) (sym (some-same first other is)) none.0
 none-at (first ∷ more) name none (suc k) other is = none-at more name none.1 k other is
+
+-- one promise alone is tested
+pub one-tested : (promises : List SignedPromise) (name : List ℕ) (place other : ℕ) (signed also : SignedPromise) → IsTested promises name place signed → IsTested promises name other also → also ≡ signed
+one-tested promises name place other signed also is its = elim (cases_lt other place) [
+  | inl before ↦ absurd (omega (arith, is.first other also before its.at its.named, its.least place signed is.at is.named))
+  | inr from ↦ elim (cases_lt place other) [
+    | inl behind ↦ absurd (omega (arith, its.first place signed behind is.at is.named, is.least other also its.at its.named))
+    | inr to ↦
+        let same : place ≡ other = omega (arith, from, to) in
+        some-same signed also (sym is.at ∙ ap (λ (k : ℕ). slice_get promises k) same ∙ its.at)
+  ]
+]
 
 module _ (promises : List SignedPromise) (signed : SignedPromise) (name : List ℕ) where
   -- a promise for another name

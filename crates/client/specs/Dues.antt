@@ -10,7 +10,7 @@ use Rattle.rootchain.specs.declared.signed_root.SignedRoot.{SignedRoot}
 use Rattle.proofs.specs.Accepts.{stated}
 use Rattle.proofs.specs.BrokenPromises.{IsBrokenPromise}
 use Rattle.proofs.specs.Comparisons.{IsAcceptedReply, Refuses}
-use Rattle.proofs.specs.Replies.{Reply}
+use Rattle.proofs.specs.Replies.{Reply, SpellsReply}
 use Rattle.client.specs.Clients.{Client}
 use Rattle.client.specs.declared.due.Due.{Due}
 use Rattle.client.specs.declared.due.Due.TheVariants.{Kept, Broken, OtherIndex}
@@ -28,6 +28,11 @@ pub record IsTested (promises : List SignedPromise) (name : List ℕ) (place : �
   pub named : signed.promise.name ≡ name
   pub least : (k : ℕ) (other : SignedPromise) → slice_get promises k ≡ Some other → other.promise.name ≡ name → signed.promise.epoch ≤ other.promise.epoch
   pub first : (k : ℕ) (other : SignedPromise) → k < place → slice_get promises k ≡ Some other → other.promise.name ≡ name → signed.promise.epoch < other.promise.epoch
+
+-- a reply under the next root shows that a promise was kept, if it is accepted
+abbrev pub ShowsKept : (List ℕ → List ℕ) → KeyedRoots → SignedPromise → List ℕ → Type 0
+ShowsKept hash chain signed bytes = (root : SignedRoot) × (reply : Reply) × IsNextAfter chain signed.promise.epoch root × SpellsReply bytes reply × (reply.body ≡ root.body)
+    × ((hash reply.value ≡ signed.promise.index) × (stated reply.end ≡ Some signed.promise.key))
 
 module _ (hash : List ℕ → List ℕ) (accepted : List ℕ → List ℕ → List ℕ → Type 0) where
   module _ (signed : SignedPromise) (root : SignedRoot) (bytes : List ℕ) (reply : Reply) where

@@ -1,16 +1,18 @@
 -- What the words of a line say, and that nothing else says it.
-use Rattle.std.proofs.Common.{◌≡◌, ◌≢◌, ℕ, ◌^◌, ◌<◌, Bool, true, false, List, [], ◌∷◌, ◌++◌, Option, codes, refl, sym, subst, ◌∙◌, inl, inr, arith}
+use Rattle.std.proofs.Common.{◌≡◌, ◌≢◌, ℕ, ◌^◌, ◌<◌, Bool, true, false, List, [], ◌∷◌, ◌++◌, Option, None, Some, MatchOption, codes, refl, sym, subst, ◌∙◌, inl, inr, arith}
 use Rattle.std.specs.Fmt.{decimal}
 use Rattle.encoding.specs.declared.bound_key.BoundKey.{BoundKey}
 use Rattle.hex.specs.Hex.{encode_lower}
 use Rattle.rootchain.specs.declared.signed_promise.SignedPromise.{SignedPromise}
 use Rattle.rootchain.specs.Promises.{signed_promise_bytes}
+use Rattle.memory.specs.Learning.{IsOfKind}
 use Rattle.memory.specs.Lines.{found_words, line_of, promise_word, IsEvidenceLine, IsLineOf}
 use Rattle.memory.specs.Words.{HasNoSpace, IsAlarmText, IsFinalText, IsFinding, IsFoundText, IsMarkText, IsNameWord, IsNumberWord, IsPromiseWord, IsReplyWord, IsSighting, IsSpan}
 use Rattle.memory.specs.declared.alarm.Alarm.{Alarm as AlarmMade}
 use Rattle.memory.specs.declared.final_seen.FinalSeen.{FinalSeen}
 use Rattle.memory.specs.declared.item.Item.{Item}
 use Rattle.memory.specs.declared.item.Item.TheVariants.{Promised, Watched, Final, Alarm, Evidence}
+use Rattle.memory.specs.declared.kind.Kind.TheVariants.{Alarms, EvidenceLines}
 use Rattle.memory.specs.declared.mark.Mark.{Mark}
 use Rattle.memory.proofs.FoundTexts.{found-line}
 use Rattle.memory.proofs.OneItem.{final_alarm, plain-alarm, plain-evidence, plain-final, plain-watched, promise_alarm, promise_final, promise_watched, watched_alarm, watched_final}
@@ -203,3 +205,27 @@ alone_evidence line none (Promised promised) (sound, inr never) = absurd never
 alone_evidence line none (Final seen) (sound, inr never) = absurd never
 alone_evidence line none (Alarm alarm) (sound, inr never) = absurd never
 alone_evidence line none (Evidence text) (sound, inr never) = absurd never
+
+-- ---- lines by their first words
+
+no_alarm_alone : (line : List ℕ) → HasNoSpace line → (alarm : AlarmMade) → ¬ IsLineOf line (Alarm alarm)
+no_alarm_alone line none alarm (sound, inl is) = never_alone (codes "alarm") _ line none (sym is)
+no_alarm_alone line none alarm (sound, inr never) = never
+
+-- a line that begins with another word is of no alarm
+pub not_alarm : {A : Type 0} (read : A → List ℕ) (line word : List ℕ) (behind : Option A) → HasNoSpace word → MatchOption behind (line ≡ word) (λ b. line ≡ word ++ 32 ∷ read b) → word ≢ codes "alarm"
+    → (item : Item) → IsLineOf line item → ¬ IsOfKind Alarms item
+not_alarm read line word None none is other (Alarm alarm) of kind = no_alarm_alone word none alarm (subst (λ (l : List ℕ). IsLineOf l (Alarm alarm)) is of)
+not_alarm read line word (Some b) none is other (Alarm alarm) of kind = other (says word (read b) none (Alarm alarm) (subst (λ (l : List ℕ). IsLineOf l (Alarm alarm)) is of)).0
+not_alarm read line word behind none is other (Promised promised) of kind = kind
+not_alarm read line word behind none is other (Watched mark) of kind = kind
+not_alarm read line word behind none is other (Final seen) of kind = kind
+not_alarm read line word behind none is other (Evidence text) of kind = kind
+
+-- one of more words is no evidence
+pub not_evidence : (line word behind : List ℕ) → HasNoSpace word → line ≡ word ++ 32 ∷ behind → (item : Item) → IsLineOf line item → ¬ IsOfKind EvidenceLines item
+not_evidence line word behind none is (Evidence text) of kind = says word behind none (Evidence text) (subst (λ (l : List ℕ). IsLineOf l (Evidence text)) is of)
+not_evidence line word behind none is (Promised promised) of kind = kind
+not_evidence line word behind none is (Watched mark) of kind = kind
+not_evidence line word behind none is (Final seen) of kind = kind
+not_evidence line word behind none is (Alarm alarm) of kind = kind

@@ -1,5 +1,6 @@
-ghost use Rattle.std.specs.Prelude.{◌≡◌};
+ghost use Rattle.std.specs.Prelude.{◌≡◌, IfOk};
 
+use std::alloc::{AllocError, Global};
 use std::marker::Model;
 
 /// The line of evidence against the provider: the text of `audits::evidence_json`, without an LF.
@@ -29,5 +30,16 @@ impl EvidenceLine {
         ensures { result.now ≡ self.now }
     {
         &self.text
+    }
+
+    /// A copy.
+    ///
+    /// # Errors
+    ///
+    /// `AllocError` if memory runs out.
+    pub fn copied(&self, alloc: Global) -> Result<EvidenceLine, AllocError>
+        ensures { IfOk result (λ copy. copy ≡ self.now) }
+    {
+        Ok(EvidenceLine::new(Vec::from_slice(alloc, &self.text)?))
     }
 }

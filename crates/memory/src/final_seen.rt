@@ -1,30 +1,35 @@
-ghost use Rattle.std.specs.Prelude.{◌≡◌, ◌<◌, ◌≤◌, ◌^◌, length};
+ghost use Rattle.std.specs.Prelude.{◌≡◌, ◌<◌, ◌≤◌, ◌^◌, IfOk, length};
 ghost use Rattle.encoding.specs.declared.fixed_text.TheConstants.{PROOF_TEXT_ROOM};
 ghost use Rattle.memory.specs.Lines.{HasRoom, IsFinalSeen};
 
-use encoding::{Name, ProofText};
+use crate::ReplyText;
+use encoding::Name;
+use std::alloc::{AllocError, Global};
 
 /// The first reply for a name that stated a key with Final, under the root of an epoch.
 #[derive(Drop)]
 pub struct FinalSeen {
     pub name: Name,
     pub epoch: u64,
-    pub reply: ProofText,
+    pub reply: ReplyText,
 }
 
 impl FinalSeen {
     /// A copy.
-    pub fn copied(&self) -> FinalSeen
-        ensures value { result ≡ self.now }
+    ///
+    /// # Errors
+    ///
+    /// `AllocError` if memory runs out.
+    pub fn copied(&self, alloc: Global) -> Result<FinalSeen, AllocError>
+        ensures value { IfOk result (λ copy. copy ≡ self.now) }
         ensures sound { IsFinalSeen self.now }
     {
         // What `bytes` ensures of the name: it is one.
         let _name = self.name.bytes();
-        FinalSeen {
-            name: self.name.copied(),
-            epoch: fitting(self.epoch),
-            reply: text_of(self.reply.bytes()),
-        }
+        let epoch = fitting(self.epoch);
+        let reply = text_of(alloc, self.reply.bytes())?;
+        let name = self.name.copied();
+        Ok(FinalSeen { name, epoch, reply })
     }
 }
 
@@ -36,11 +41,11 @@ fn fitting(epoch: u64) -> u64
     epoch
 }
 
-/// These bytes as the text of a proof. What `ProofText::of` does not say of it: its elements are bytes.
-fn text_of(bytes: &[u8]) -> ProofText
+/// A copy of these bytes as the text of a reply. What `ReplyText::copy_of` does not say of it: its elements are bytes.
+fn text_of(alloc: Global, bytes: &[u8]) -> Result<ReplyText, AllocError>
     requires { length bytes.now ≤ PROOF_TEXT_ROOM }
-    ensures value { result ≡ bytes.now }
+    ensures value { IfOk result (λ reply. reply ≡ bytes.now) }
     ensures sound { HasRoom bytes.now }
 {
-    ProofText::of(bytes)
+    ReplyText::copy_of(alloc, bytes)
 }

@@ -1,18 +1,20 @@
 // What a memory learns in a run. Each function appends the lines of what is new: behind lines that spell the memory as it
 // was, they spell it as it is.
 
-ghost use Rattle.std.specs.Prelude.{◌≡◌, ◌≢◌, ◌↔◌, ◌++◌, ℕ, ◌≤◌, nat_lt, if◌then◌else◌, List, map, All, Contains, IfOk, IsTrue, MatchBool, OnErr, OnOk};
+ghost use Rattle.std.specs.Prelude.{◌≡◌, ◌≢◌, ◌↔◌, ◌++◌, ℕ, ◌≤◌, nat_lt, false, if◌then◌else◌, List, map, All, Contains, IfOk, IsTrue, MatchBool, OnErr, OnOk};
 ghost use Rattle.std.specs.Io.{StartsWith};
 ghost use Rattle.std.specs.List.{AllByRecursion};
 ghost use Rattle.rootchain.specs.Promises.{IsSignedPromise};
 ghost use Rattle.textio.specs.Lines.{lines_of};
 ghost use Rattle.memory.specs.Learning.{promised_item, AreGone, BeginsBehind, BeginsOne, Each, EachOfSome, IsFresh, IsOfKind, IsSince, LearnsFinal, LearnsLine, LearnsOne, MarksOne};
-ghost use Rattle.memory.specs.Lines.{IsNamed, IsSound};
+ghost use Rattle.memory.specs.Lines.{IsLineOf, IsNamed, IsSound};
 ghost use Rattle.memory.specs.Texts.{items_text, TakesAll};
 ghost use Rattle.memory.specs.declared.item.Item.{Item as Remembered};
+ghost use Rattle.memory.specs.declared.kind.Kind.TheVariants.{EvidenceLines};
 ghost use Rattle.memory.specs.declared.mark.Mark.{Mark as Marked};
 
 use crate::recalling::first_line;
+use crate::words::first_part;
 use crate::{FinalSeen, Item, Kind, Mark, Memory, Promised, read_item, watched_up_to};
 use encoding::Name;
 use monitor::Monitor;
@@ -75,6 +77,7 @@ impl Memory {
     /// `AllocError` if memory runs out. Then the first of the replies may be taken, and the text may have grown.
     pub fn learn_finals(
         &mut self,
+        alloc: Global,
         finals: &[FinalSeen],
         lines: &mut Vec<u8>,
     ) -> Result<(), AllocError>
@@ -85,19 +88,24 @@ impl Memory {
         ensures grows { StartsWith lines.new.items lines.old.items }
     {
         for seen in finals {
-            self.learn_final(seen, lines)?;
+            self.learn_final(alloc, seen, lines)?;
         }
         Ok(())
     }
 
     /// Takes a reply that stated a key with Final, if none is remembered for its name, and appends its line.
-    fn learn_final(&mut self, seen: &FinalSeen, lines: &mut Vec<u8>) -> Result<(), AllocError>
+    fn learn_final(
+        &mut self,
+        alloc: Global,
+        seen: &FinalSeen,
+        lines: &mut Vec<u8>,
+    ) -> Result<(), AllocError>
         ensures ok { OnOk result ((news : List Remembered) × LearnsFinal seen.now self.old news self.new × (lines.new.items ≡ lines.old.items ++ items_text news)) }
         ensures takes { OnOk result ((news : List Remembered) × TakesAll news self.old self.new × (lines.new.items ≡ lines.old.items ++ items_text news)) }
         ensures err { OnErr result (self.new ≡ self.old) }
         ensures grows { StartsWith lines.new.items lines.old.items }
     {
-        self.learn(Item::Final(seen.copied()), lines)
+        self.learn(Item::Final(seen.copied(alloc)?), lines)
     }
 
     /// Of promises that are kept in order, those behind the last that is remembered.
@@ -174,6 +182,10 @@ impl Memory {
         ensures err { OnErr result (self.new ≡ self.old) }
         ensures grows { StartsWith lines.new.items lines.old.items }
     {
+        // Most lines end here, and are not read.
+        if !may_be(line, kind) {
+            return Ok(());
+        }
         let Some(item) = read_item(alloc, line)? else {
             return Ok(());
         };
@@ -344,6 +356,26 @@ fn lesser(one: u64, other: u64) -> u64
     ensures most { result ≤ one }
 {
     if one < other { one } else { other }
+}
+
+/// Whether a line may have an item of this kind, by its first word.
+fn may_be(line: &[u8], kind: Kind) -> bool
+    ensures { result ≡ false → (item : Remembered) → IsLineOf line.now item → ¬ IsOfKind kind item }
+{
+    match kind {
+        Kind::Alarms => first_part(line, b' ').0 == b"alarm".as_slice(),
+        Kind::EvidenceLines => is_one_word(line),
+    }
+}
+
+/// Whether no space stands in a line.
+fn is_one_word(line: &[u8]) -> bool
+    ensures { result ≡ false → (item : Remembered) → IsLineOf line.now item → ¬ IsOfKind EvidenceLines item }
+{
+    match first_part(line, b' ').1 {
+        Some(_behind) => false,
+        None => true,
+    }
 }
 
 /// Whether an item is of this kind.

@@ -40,11 +40,18 @@ fn is_untested(signed: &SignedPromise, tested: &[SignedPromise]) -> bool
     ensures { IsTrue result ↔ All (λ other. other ≢ signed.now) tested.now }
 {
     for other in tested {
-        if *other == *signed {
+        if is_same(other, signed) {
             return false;
         }
     }
     true
+}
+
+/// Whether two promises are the same. Most differ in their names, and are not compared further.
+fn is_same(one: &SignedPromise, other: &SignedPromise) -> bool
+    ensures { IsTrue result ↔ (one.now ≡ other.now) }
+{
+    one.promise.name == other.promise.name && *one == *other
 }
 
 /// Whether a mark awaits the promise.

@@ -8,6 +8,7 @@
 #![tactic(auto)]
 
 mod alarm;
+mod copying;
 mod evidence_line;
 mod final_seen;
 mod item;
@@ -23,12 +24,14 @@ mod putting;
 mod read_fault;
 mod reading;
 mod recalling;
+mod reply_text;
 mod telling;
 mod watching;
 mod words;
 mod writing;
 
 pub use alarm::Alarm;
+pub use copying::{copied_finals, copied_marks};
 pub use evidence_line::EvidenceLine;
 pub use final_seen::FinalSeen;
 pub use item::Item;
@@ -44,4 +47,5 @@ pub use promised::Promised;
 pub use read_fault::ReadFault;
 pub use reading::read_item;
 pub use recalling::{first_line, read_memory};
+pub use reply_text::ReplyText;
 pub use watching::{is_awaited, watched_up_to};

@@ -6,6 +6,7 @@ ghost use Rattle.memory.specs.Taking.{Takes};
 ghost use Rattle.memory.specs.Texts.{items_text, memory_text, TellsAgain};
 ghost use Rattle.memory.specs.declared.item.Item.TheVariants as items;
 
+use crate::copying::{copied_alarms, copied_finals, copied_lines, copied_marks};
 use crate::leaving::drop_alarms;
 use crate::promises::Promises;
 use crate::putting::{place_of_mark, put_alarm, put_evidence, put_final, put_mark};
@@ -54,6 +55,28 @@ impl Memory {
             alarms: Vec::new(alloc),
             evidence: Vec::new(alloc),
         }
+    }
+
+    /// A copy.
+    ///
+    /// # Errors
+    ///
+    /// `AllocError` if memory runs out.
+    pub fn copied(&self, alloc: Global) -> Result<Memory, AllocError>
+        ensures { IfOk result (λ copy. copy ≡ self.now) }
+    {
+        let promises = self.promises.copied(alloc)?;
+        let marks = copied_marks(alloc, &self.marks)?;
+        let finals = copied_finals(alloc, &self.finals)?;
+        let alarms = copied_alarms(alloc, &self.alarms)?;
+        let evidence = copied_lines(alloc, &self.evidence)?;
+        Ok(Memory {
+            promises,
+            marks,
+            finals,
+            alarms,
+            evidence,
+        })
     }
 
     /// The promises.

@@ -1,3 +1,5 @@
+ghost use Rattle.std.specs.Prelude.{◌≡◌};
+
 use rootchain::SignedPromise;
 
 /// A promise that the client keeps.
@@ -6,4 +8,16 @@ pub struct Promised {
     pub signed: SignedPromise,
     /// Whether it is for a change of the owner's own.
     pub is_own: bool,
+}
+
+impl Promised {
+    /// A copy.
+    pub fn copied(&self) -> Promised
+        ensures { result ≡ self.now }
+    {
+        Promised {
+            signed: self.signed.copied(),
+            is_own: self.is_own,
+        }
+    }
 }

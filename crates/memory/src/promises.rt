@@ -47,6 +47,17 @@ impl Promises {
         }
     }
 
+    /// A copy.
+    pub(crate) fn copied(&self, alloc: Global) -> Result<Promises, AllocError>
+        ensures { IfOk result (λ copy. copy ≡ self.now) }
+    {
+        let mut copy = Promises::new(alloc);
+        for promised in &self.list {
+            copy.push(promised.copied())?;
+        }
+        Ok(copy)
+    }
+
     /// The promises.
     pub(crate) fn items(&self) -> &[Promised]
         ensures { result.now ≡ self.now }

@@ -7,10 +7,10 @@ ghost use Rattle.memory.specs.Lines.{promise_word, IsEvidenceLine, IsLineOf};
 ghost use Rattle.memory.specs.Words.{HasNoSpace, IsFinding, IsSighting, IsSpan};
 
 use crate::words::{first_part, read_found, read_name, read_number, read_promise, read_reply};
-use crate::{Alarm, EvidenceLine, FinalSeen, Item, Mark, Promised};
+use crate::{Alarm, EvidenceLine, FinalSeen, Item, Mark, Promised, ReplyText};
 use auditor::Evidence;
 use audits::{ReadFault, evidence_json, read_evidence};
-use encoding::{BoundKey, ProofText};
+use encoding::BoundKey;
 use std::alloc::{AllocError, Global};
 
 /// The item of a line without its LF, or `None` if no item has it. A mark may have the older form `watched NAME
@@ -174,7 +174,7 @@ fn read_finding(alloc: Global, text: &[u8]) -> Result<Option<(u64, Option<BoundK
 }
 
 /// `EPOCH REPLY`
-fn read_sighting(alloc: Global, text: &[u8]) -> Result<Option<(u64, ProofText)>, AllocError>
+fn read_sighting(alloc: Global, text: &[u8]) -> Result<Option<(u64, ReplyText)>, AllocError>
     ensures { IfOk result (Finds (IsSighting text.now)) }
 {
     let (word, Some(behind)) = first_part(text, b' ') else {

@@ -10,7 +10,8 @@ ghost use Rattle.memory.specs.Finding.{Finds};
 ghost use Rattle.memory.specs.Lines.{HasRoom};
 ghost use Rattle.memory.specs.Words.{HasNoSpace, IsFoundText, IsHexOf, IsNameWord, IsNumberWord, IsPromiseWord, IsReplyWord};
 
-use encoding::{BoundKey, KeyData, Name, PROOF_TEXT_ROOM, Policy, ProofText};
+use crate::ReplyText;
+use encoding::{BoundKey, KeyData, Name, PROOF_TEXT_ROOM, Policy};
 use hex::FromHexError;
 use itoa::Buffer;
 use rootchain::SignedPromise;
@@ -169,20 +170,20 @@ fn promise_of(bytes: &[u8]) -> Option<SignedPromise>
 }
 
 /// The reply that a word writes.
-pub(crate) fn read_reply(alloc: Global, word: &[u8]) -> Result<Option<ProofText>, AllocError>
+pub(crate) fn read_reply(alloc: Global, word: &[u8]) -> Result<Option<ReplyText>, AllocError>
     ensures { IfOk result (Finds (IsReplyWord word.now)) }
 {
     match read_hex(alloc, word)? {
-        Some(bytes) => Ok(reply_of(&bytes)),
+        Some(bytes) => Ok(reply_of(bytes)),
         None => Ok(None),
     }
 }
 
-fn reply_of(bytes: &[u8]) -> Option<ProofText>
-    ensures { MatchOption result (PROOF_TEXT_ROOM < length bytes.now) (λ reply. HasRoom bytes.now × (reply ≡ bytes.now)) }
+fn reply_of(bytes: Vec<u8>) -> Option<ReplyText>
+    ensures { MatchOption result (PROOF_TEXT_ROOM < length bytes.items) (λ reply. HasRoom bytes.items × (reply ≡ bytes.items)) }
 {
     if PROOF_TEXT_ROOM < bytes.len() {
         return None;
     }
-    Some(ProofText::of(bytes))
+    Some(ReplyText::new(bytes))
 }

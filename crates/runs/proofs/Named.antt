@@ -1,27 +1,19 @@
 -- The line that a fault names, and what comes of those before it.
-use Rattle.std.proofs.Common.{◌≡◌, ◌≢◌, ◌⊎◌, ◌∙◌, ℕ, ◌+◌, List, [], ◌∷◌, Option, None, Result, Ok, Err, ap, arith, inl, inr, length, option_map, refl, subst, sym}
+use Rattle.std.proofs.Common.{◌≡◌, ◌≢◌, ◌⊎◌, ℕ, ◌+◌, List, [], ◌∷◌, Option, None, Result, Ok, Err, ap, arith, inl, inr, length, option_map, refl, subst, sym}
 use Rattle.std.specs.Prelude.{IfErr, IsErrAnd}
-use Rattle.hex.specs.Hex.{encode_lower}
 use Rattle.textio.specs.Lines.{lines_of}
 use Rattle.textio.specs.declared.program_fault.ProgramFault.{ProgramFault}
 use Rattle.textio.specs.declared.program_fault.ProgramFault.TheVariants.{OutOfMemory}
-use Rattle.rootchain.specs.Promises.{signed_promise_bytes, PromiseVerifies}
-use Rattle.rootchain.specs.declared.signed_promise.SignedPromise.{SignedPromise}
-use Rattle.client.specs.Clients.{Client, HasRootOf, IsPromised}
-use Rattle.client.specs.Promising.{ReadsPromise}
+use Rattle.client.specs.Clients.{Client}
 use Rattle.client.specs.Starting.{Starts}
 use Rattle.client.specs.Updating.{Updates}
 use Rattle.client.specs.declared.client_refusal.Refusal.{Refusal}
 use Rattle.client.specs.declared.client_refusal.Refusal.TheVariants.{Root, Proof, UnknownRoot, RootDiffers, Memory, NoPromise}
-use Rattle.client.specs.declared.client_refusal.RootRefusal.TheVariants.{Malformed, BadSignature, NotLater, BadLink}
 use Rattle.memory.specs.Lines.{IsLineOf}
 use Rattle.memory.specs.Memories.{nothing, Memory as Known}
 use Rattle.memory.specs.Texts.{Spells}
 use Rattle.memory.specs.declared.item.Item.{Item}
-use Rattle.memory.specs.declared.read_fault.ReadFault.TheVariants as read
 use Rattle.memory.proofs.OneItem.{one_item}
-use Rattle.memory.proofs.OneMemory.{one_memory}
-use Rattle.memory.proofs.OneWord.{promise_same}
 use Rattle.asking.specs.FinalBindings.{no_finals, Finals, IsKnownIn}
 use Rattle.runs.specs.Loading.{fault_at, IsAccepted, IsFaultAt, IsHexOf, IsRefused, IsSecond, LoadsClient, RefusesItem, RefusesNext, StartsFrom, TakesLines, TakesNext, TakesRoots}
 
@@ -99,25 +91,6 @@ module _ (hash : List ℕ → List ℕ) (verified : List ℕ → List ℕ → Li
   pub starts_not : (bad : ℕ) → (bad ≡ 1) × IsRefused (λ root why. Starts verified key root (Err why)) line → StartsFrom hash verified key all (Err bad)
   starts_not bad (same, refused) = subst (λ (ls : List (List ℕ)). StartsFrom hash verified key ls (Err bad)) (sym at) (inr (refused, ap Err same))
 
--- ---- promises
-
--- what is not read as a promise of the provider and of a root of the chain, is none
-pub not_promised : (hash : List ℕ → List ℕ) (verified : List ℕ → List ℕ → List ℕ → Type 0) (client : Client) (bytes : List ℕ) (promise : SignedPromise) (why : Refusal) → bytes ≡ signed_promise_bytes promise
-    → ReadsPromise hash verified client bytes (Err why) → ¬ IsPromised hash verified client.chain promise
-not_promised hash verified client bytes promise (Root Malformed) is none promised = none promise (is, promised.form)
-not_promised hash verified client bytes promise (Root BadSignature) is (signed, spells, bad) promised =
-    let same = promise_same promise signed promised.form spells.1 (ap encode_lower (sym is ∙ spells.0)) in
-    bad (subst (λ (s : SignedPromise). PromiseVerifies verified client.chain.key s) same promised.verifies)
-not_promised hash verified client bytes promise (Root NotLater) is never promised = never
-not_promised hash verified client bytes promise (Root BadLink) is never promised = never
-not_promised hash verified client bytes promise (Proof why) is never promised = never
-not_promised hash verified client bytes promise UnknownRoot is (signed, (spells, verifies), none) promised =
-    let same = promise_same promise signed promised.form spells.1 (ap encode_lower (sym is ∙ spells.0)) in
-    none (subst (λ (s : SignedPromise). HasRootOf hash client.chain s.promise) same promised.rooted)
-not_promised hash verified client bytes promise (RootDiffers evidence) is never promised = never
-not_promised hash verified client bytes promise Memory is never promised = never
-not_promised hash verified client bytes promise NoPromise is never promised = never
-
 -- ---- items
 
 module _ (hash : List ℕ → List ℕ) (accepted verified : List ℕ → List ℕ → List ℕ → Type 0) (before : Client) where
@@ -127,10 +100,6 @@ module _ (hash : List ℕ → List ℕ) (accepted verified : List ℕ → List �
 
   pub refuses_none : (line : List ℕ) → ((item : Item) → ¬ IsLineOf line item) → RefusesItem hash accepted verified line before
   refuses_none line none = λ item is is_accepted. none item is
-
--- a text that spells a memory has no line that is no item
-pub spelled_so : (text : List ℕ) (memory : Known) (bad : ℕ) → Spells text (Ok memory) → Spells text (Err (read.BadItem bad)) → ⊥
-spelled_so text memory bad spells not_spelled = let same = one_memory text (Ok memory) (Err (read.BadItem bad)) spells not_spelled in cc
 
 -- ---- no second file
 

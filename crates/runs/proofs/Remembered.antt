@@ -17,7 +17,6 @@ use Rattle.memory.specs.declared.item.Item.TheVariants.{Promised, Watched, Final
 use Rattle.memory.specs.declared.promised.Promised.{Promised as PromisedMade}
 use Rattle.memory.specs.declared.read_fault.ReadFault.{ReadFault}
 use Rattle.memory.proofs.OneItem.{one_item}
-use Rattle.memory.proofs.OneMemory.{one_memory}
 use Rattle.play.proofs.Lists.{all-in}
 use Rattle.runs.specs.Remembering.{own_of, AreOwnOf, IsOwnOf}
 use Rattle.runs.specs.Runs.{IsSameAsker}
@@ -79,10 +78,6 @@ formed_on lines before after (own, are, grown) formed = subst AreFormed (sym gro
 -- the same keys, token and monitors, twice
 pub same_on : {H V S : Type 0} (first middle last : Asker H V S) → IsSameAsker first middle → IsSameAsker middle last → IsSameAsker first last
 same_on first middle last (key, token, monitors, chain) (key', token', monitors', chain') = (key' ∙ key, token' ∙ token, monitors' ∙ monitors, chain' ∙ chain)
-
--- a text spells one memory
-pub one_spelled : (text : List ℕ) (one other : Memory) → Spells text (Ok one) → Spells text (Ok other) → one ≡ other
-one_spelled text one other spells also = let same = one_memory text (Ok one) (Ok other) spells also in cc
 
 -- ---- each of them is remembered as that
 

@@ -1,6 +1,6 @@
 // The lines of the files in which a client's chain and what it keeps are stored between runs.
 ghost use Rattle.hex.specs.Hex.{decode_of};
-ghost use Rattle.std.specs.Prelude.{◌≡◌, ◌++◌, ◌∷◌, [], List, map, Err, IfErr, IfOk, Ok, OnOk};
+ghost use Rattle.std.specs.Prelude.{◌≡◌, ◌↔◌, ◌++◌, ◌∷◌, [], List, map, Err, IfErr, IfOk, IsTrue, Ok, OnOk};
 ghost use Rattle.std.specs.List.{AllByRecursion};
 ghost use Rattle.std.specs.List.Sorted.{IsNonDecreasingBy, IsPermutation, IsStableByKey};
 ghost use Rattle.std.specs.Ordering.{nat_cmp};
@@ -12,24 +12,21 @@ ghost use Rattle.memory.specs.Lists.{HasNoRepeat};
 ghost use Rattle.memory.specs.Memories.{name_of};
 ghost use Rattle.memory.specs.Texts.{Spells, TakesLine};
 ghost use Rattle.memory.specs.declared.item.Item.TheVariants as items;
-ghost use Rattle.memory.specs.declared.read_fault.ReadFault.TheVariants as read;
 ghost use Rattle.asking.specs.FinalBindings.{IsFinalIn, IsKnownIn};
 ghost use Rattle.runs.specs.Loading.{fault_at, IsAccepted, IsFaultAt, IsNoHex, KeepsItem, KeepsLine, KeepsLines, RefusesItem, RefusesNext, RefusesRoot, TakesNext, TakesRoot, TakesRoots};
 ghost use Rattle.runs.specs.Remembering.{own_of, AreOwnOf, AreWithin, IsOwnOf, IsWithin};
 ghost use Rattle.runs.specs.RunFaults.{IsFaultOfState};
 ghost use Rattle.runs.specs.Saves.{AreEarlier};
-ghost use Rattle.client.specs.Clients.{with_promise, IsPromised};
+ghost use Rattle.client.specs.Clients.{with_promise, HasRootOf, IsPromised};
 ghost use Rattle.runs.specs.Runs.{IsSameAsker, StillKeeps};
 
-use asking::{Asker, Finals, is_final_in};
+use asking::{Asker, Checks, Finals, is_final_in};
 use client::Client;
 use hex::FromHexError;
-use memory::{
-    FinalSeen, Item, Mark, Memory, Promised, ReadFault, first_line, read_item, read_memory,
-};
+use memory::{FinalSeen, Item, Memory, Promised, copied_marks, first_line, read_item};
 use nodehash::NodeHash;
 use play::push_hex;
-use rootchain::SignedPromise;
+use rootchain::{Chain, Promise, SignedPromise};
 use sigiface::Verifier;
 use std::alloc::{AllocError, Global};
 use textio::ProgramFault;
@@ -127,7 +124,7 @@ where
 {
     let memory = remember_lines(asker, text)?;
     asker.marks = copied_marks(asker.alloc, memory.marks())?;
-    asker.known = read_lines(asker.alloc, text)?;
+    asker.known = memory.copied(asker.alloc)?;
     asker.finals = Finals::remembered(asker.alloc, &asker.known)?;
     sort_promises(&mut asker.earlier)?;
     Ok(memory)
@@ -302,48 +299,83 @@ where
     ensures changes { (asker.new).changes ≡ (asker.old).changes }
     ensures err { IfErr result IsFaultOfState }
 {
-    let signed = keep_again(asker, &promised.signed, number)?;
+    keep_again(asker, &promised.signed, number)?;
     if !promised.is_own {
         return Ok(());
     }
-    asker.earlier.push(signed)?;
+    asker.earlier.push(promised.signed.copied())?;
     Ok(())
 }
 
 /// Keeps a promise once more.
 fn keep_again<H, V, S>(
     asker: &mut Asker<H, V, S>,
-    promise: &SignedPromise,
+    signed: &SignedPromise,
     number: u64,
-) -> Result<SignedPromise, ProgramFault>
+) -> Result<(), ProgramFault>
 where
     H: NodeHash + Drop,
     V: VufCheck + Drop,
     S: Verifier + Drop,
     ensures same { IsSameAsker asker.old asker.new }
-    ensures kept { IfOk result (λ signed. (asker.new).client ≡ with_promise (asker.old).client signed) }
-    ensures one { IfOk result (λ signed. IsSignedPromise promise.now → signed ≡ promise.now) }
-    ensures promised { IfOk result (λ signed. IsPromised H.digest_of S.verified (asker.old).client.chain signed) }
-    ensures names { IfErr result (IsFaultAt (λ bad. (bad ≡ number) × ¬ IsPromised H.digest_of S.verified (asker.old).client.chain promise.now)) }
+    ensures kept { OnOk result ((asker.new).client ≡ with_promise (asker.old).client signed.now) }
+    ensures promised { OnOk result (IsPromised H.digest_of S.verified (asker.old).client.chain signed.now) }
+    ensures names { IfErr result (IsFaultAt (λ bad. (bad ≡ number) × ¬ IsPromised H.digest_of S.verified (asker.old).client.chain signed.now)) }
     ensures earlier { (asker.new).earlier ≡ (asker.old).earlier }
     ensures chain { (asker.new).client.chain ≡ (asker.old).client.chain }
     ensures changes { (asker.new).changes ≡ (asker.old).changes }
     ensures err { IfErr result IsFaultOfState }
 {
     let checks = &mut asker.checks;
-    let read = asker.client.read_promise(
-        &mut checks.hash,
-        &checks.verifier,
-        promise.write().bytes(),
-    );
-    let signed = match read {
-        Ok(signed) => signed,
-        Err(why) => return Err(fault_of(&why, number)),
-    };
-    let kept = signed.copied();
-    match asker.client.keep_read(signed) {
-        Ok(()) => Ok(kept),
-        Err(why) => Err(fault_of(&why, number)),
+    if !is_promised(asker.client.chain(), checks, signed) {
+        return Err(ProgramFault::BadItem(number));
+    }
+    match asker.client.keep_read(signed.copied()) {
+        Ok(()) => Ok(()),
+        Err(_) => Err(ProgramFault::OutOfMemory),
+    }
+}
+
+/// Whether a promise is one of the chain's provider, and of a root of the chain.
+fn is_promised<H, V, S>(
+    chain: &Chain<H, S>,
+    checks: &mut Checks<H, V, S>,
+    signed: &SignedPromise,
+) -> bool
+where
+    H: NodeHash + Drop,
+    V: VufCheck + Drop,
+    S: Verifier + Drop,
+    ensures { IsTrue result ↔ IsPromised H.digest_of S.verified chain.now signed.now }
+{
+    is_formed(signed)
+        && signed.verifies(&checks.verifier, chain.key())
+        && has_root_of(chain, &mut checks.hash, &signed.promise)
+}
+
+/// Whether a promise has a form: its epoch is not 0.
+fn is_formed(signed: &SignedPromise) -> bool
+    ensures { IsTrue result ↔ IsSignedPromise signed.now }
+{
+    // What `bytes` ensures of the parts: they have their lengths.
+    let promise = &signed.promise;
+    let _name = promise.name.bytes();
+    let _key = promise.key.bytes();
+    let _signature = signed.signature.bytes();
+    let (_hash, _index) = (promise.body_hash.bytes(), promise.index.bytes());
+    promise.epoch != 0
+}
+
+/// Whether a root of the chain has the epoch and the hash of a promise.
+fn has_root_of<H, S>(chain: &Chain<H, S>, hash: &mut H, promise: &Promise) -> bool
+where
+    H: NodeHash + Drop,
+    S: Verifier + Drop,
+    ensures { IsTrue result ↔ HasRootOf H.digest_of chain.now promise.now }
+{
+    match chain.at(promise.epoch) {
+        Some(root) => promise.body_hash == hash.digest(root.body.write().bytes()),
+        None => false,
     }
 }
 
@@ -380,29 +412,4 @@ fn sort_promises(promises: &mut Vec<SignedPromise>) -> Result<(), AllocError>
 {
     promises.sort_by_key(|signed| signed.promise.epoch)?;
     Ok(())
-}
-
-/// Copies of marks.
-fn copied_marks(alloc: Global, marks: &[Mark]) -> Result<Vec<Mark>, AllocError>
-    ensures { IfOk result (λ copies. copies.items ≡ marks.now) }
-{
-    let mut copies = Vec::new(alloc);
-    for mark in marks {
-        let (name, since, epoch) = (mark.name.copied(), mark.since, mark.epoch);
-        copies.push(Mark { name, since, epoch })?;
-    }
-    Ok(copies)
-}
-
-/// The memory that a text spells.
-fn read_lines(alloc: Global, text: &[u8]) -> Result<Memory, ProgramFault>
-    ensures spells { IfOk result (λ memory. Spells text.now (Ok memory)) }
-    ensures names { IfErr result (IsFaultAt (λ bad. Spells text.now (Err (read.BadItem bad)))) }
-    ensures err { IfErr result IsFaultOfState }
-{
-    match read_memory(alloc, text) {
-        Ok(memory) => Ok(memory),
-        Err(ReadFault::BadItem(number)) => Err(ProgramFault::BadItem(number)),
-        Err(ReadFault::OutOfMemory) => Err(ProgramFault::OutOfMemory),
-    }
 }

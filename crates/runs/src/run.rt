@@ -358,6 +358,25 @@ impl Run {
         asked
     }
 
+    /// Notes the same where a fault stopped the questions. Else it is noted behind what is asked next.
+    fn note_stopped<H, V, S>(
+        &self,
+        asker: &Asker<H, V, S>,
+        asked: Result<(), RunFault>,
+        still_kept: &mut Option<Vec<SignedPromise>>,
+    ) -> Result<(), RunFault>
+    where
+        H: NodeHash + Drop,
+        V: VufCheck + Drop,
+        S: Verifier + Drop,
+        ensures same { result ≡ asked }
+    {
+        if asked.is_ok() {
+            return asked;
+        }
+        self.note_kept(asker, asked, still_kept)
+    }
+
     /// Leaves the files of the state without lines that no longer hold. Returns what came of the questions, or the fault
     /// of this if all was asked: after another fault the files have at least what they are to have.
     fn leave<K: Keeper, W: Write>(
@@ -510,8 +529,8 @@ impl Run {
         Ok(asker)
     }
 
-    /// Lets the client take the roots that are new, and tests the promises that are due. Notes which the client still
-    /// keeps.
+    /// Lets the client take the roots that are new, and tests the promises that are due. Where a fault stops it, notes which the
+    /// client still keeps.
     fn prepare<K, T, W, E, H, V, S>(
         &mut self,
         asker: &mut Asker<H, V, S>,
@@ -560,7 +579,7 @@ impl Run {
         self.catch_up(asker, reply.epoch(), keeper, stream, writer, errors)?;
         let prepared = self.look_around(asker, &reply, stream);
         let settled = self.settle(asker, prepared, keeper, writer, errors);
-        self.note_kept(asker, settled, still_kept)
+        self.note_stopped(asker, settled, still_kept)
     }
 
     /// Takes the roots up to an epoch. What is told of a list that does not get there is written, and the state kept, before

@@ -316,7 +316,7 @@ impl State {
     {
         self.learn_promises(asker, lines)?;
         let seen = behind(asker.finals.seen(), self.finals);
-        self.memory.learn_finals(seen, lines)?;
+        self.memory.learn_finals(self.alloc, seen, lines)?;
         self.finals = asker.finals.seen().len();
         Ok(())
     }

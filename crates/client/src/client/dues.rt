@@ -1,9 +1,13 @@
-ghost use Rattle.std.specs.Prelude.{◌+◌, ◌≤◌, IfOk};
+ghost use Rattle.std.specs.Prelude.{◌≡◌, ◌+◌, ◌≤◌, Ok, false, IfOk, IsTrue};
 ghost use Rattle.prefixtree.specs.declared.path.TheConstants.{MAX_SIBLINGS};
+ghost use Rattle.proofs.specs.Comparisons.{IsAcceptedReply};
+ghost use Rattle.proofs.specs.Replies.{Reply};
+ghost use Rattle.client.specs.Clients as clients;
 ghost use Rattle.client.specs.Dues.{DueHolds, Dues, IsDueEpoch};
+ghost use Rattle.client.specs.declared.due.Due.TheVariants.{Kept};
 
 use super::Client;
-use crate::promises::{test, tested};
+use crate::promises::{shows_kept, test, tested};
 use crate::{Due, Refusal};
 use encoding::Name;
 use nodehash::NodeHash;
@@ -47,5 +51,24 @@ impl<H: NodeHash, V: VufCheck, S: Verifier> Client<H, V, S> {
             Ok(Due::OtherIndex) => Ok(Due::OtherIndex),
             Err(why) => Err(why),
         }
+    }
+
+    /// Drops the promise that `due` tests for a name if this reply shows that it was kept, and returns whether it did.
+    /// The reply is known to be accepted under the body that it has, so it is not verified: takes at most one digest.
+    pub fn drop_kept(&mut self, hash: &mut H, name: &Name, bytes: &[u8]) -> bool
+        requires accepted { (reply : Reply) × IsAcceptedReply H.digest_of V.accepted reply.body name.now bytes.now reply }
+        ensures kept { IsTrue result → Dues H.digest_of V.accepted self.old name.now bytes.now (Ok Kept) self.new }
+        ensures other { result ≡ false → (after : clients.Client) → ¬ Dues H.digest_of V.accepted self.old name.now bytes.now (Ok Kept) after }
+        ensures stays { result ≡ false → self.new ≡ self.old }
+        ensures counted { H.digests hash.new ≤ H.digests hash.old + 1 }
+    {
+        let Some((place, signed)) = tested(self.promises.all(), name) else {
+            return false;
+        };
+        if !shows_kept(&self.chain, signed, hash, bytes) {
+            return false;
+        }
+        self.promises.remove(place);
+        true
     }
 }

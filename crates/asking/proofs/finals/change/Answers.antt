@@ -1,16 +1,13 @@
 use Rattle.std.proofs.Common.{◌≡◌, List, ℕ, ap, option_copied, subst, sym}
 use Rattle.auditor.specs.declared.evidence.Evidence.TheVariants as evidence
 use Rattle.proofs.specs.BrokenFinals.{IsBrokenFinal}
-use Rattle.asking.proofs.FinalsShown.{broken_of, is-change, is-evidence, no-later-root, no-root, not-both, not-later, not-stated}
+use Rattle.asking.proofs.FinalsShown.{broken_of, is-change, is-evidence, may-change, no-later-root, no-root, not-both}
 use Rattle.asking.proofs.finals.change.Goals as goal
 
-pub returns-then-other-one : goal.returns-then-other-one
-returns-then-other-one g c = not-later g.H.NodeHash.digest_of g.V.VufCheck.accepted c.args.chain.now c.args.one.now c.args.other.now c.if-other-one.true
-
-pub returns-then-not-state_a_change : goal.returns-then-not-state_a_change
-returns-then-not-state_a_change g c =
-    let exact = rw (c.bytes.ensures.value, c.bytes-2.ensures.value) at c.state_a_change.ensures in
-    not-stated g.H.NodeHash.digest_of g.V.VufCheck.accepted c.args.chain.now c.args.one.now c.args.other.now c.state_a_change.result c.if-not-state_a_change.true exact
+pub returns-then-not-may_change : goal.returns-then-not-may_change
+returns-then-not-may_change g c = λ broken change.
+    let exact = rw (c.bytes.ensures.value, c.bytes-2.ensures.value) at c.may_change.ensures in
+    not-both c.may_change.result (exact.1 (may-change g.H.NodeHash.digest_of g.V.VufCheck.accepted c.args.chain.now c.args.one.now c.args.other.now broken change)) c.if-not-may_change.true
 
 pub returns-in_default : goal.returns-in_default
 returns-in_default g c = no-root g.H.NodeHash.digest_of g.V.VufCheck.accepted c.args.chain.now c.args.one.now c.args.other.now (option_copied c.at.result) c.at.ensures (ap option_copied c.in_default.is)

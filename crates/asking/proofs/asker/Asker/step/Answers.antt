@@ -7,9 +7,9 @@ use Rattle.client.specs.Clients.{Client}
 use Rattle.monitor.specs.Monitors.{Monitor}
 use Rattle.asking.specs.Exchanges.{ExchangesFrames}
 use Rattle.asking.specs.FinalBindings.{Finals, NotesReply}
-use Rattle.asking.specs.Watching.{TestsShown, WatchesAt}
+use Rattle.asking.specs.Watching.{IsAcceptedAt, TestsShown, WatchesAt}
 use Rattle.asking.proofs.Handed.{report_silent, told_three}
-use Rattle.asking.proofs.Stepped.{steps_none, steps_some}
+use Rattle.asking.proofs.Stepped.{accepted_at, steps_none, steps_some}
 use Rattle.asking.proofs.asker.Asker.step.Goals as goal
 
 pub returns-in_default-2-clause-steps : goal.returns-in_default-2-clause-steps
@@ -21,6 +21,18 @@ returns-in_default-2-clause-steps g c =
     let gives = rw c.in_default-2.is at c.in_ok-found.ensures.gives in
     steps_none g.H.NodeHash.digest_of g.V.VufCheck.accepted (ExchangesFrames g.T.Write.contents g.T.Read.remaining) c.args.self.now c.args.said.now c.args.stream.now c.args.place
     c.in-Some.monitor.now c.copied-name.result c.in-Some-next_epoch.epoch gives.0 c.look_up.new.stream c.look_up.new.said at next (c.copied-name.ensures ∙ c.name.ensures) gives.1 gives.2
+
+pub test_shown-requires : goal.test_shown-requires
+test_shown-requires g c = λ yes.
+    let at : slice_get c.args.self.now.monitors.items c.args.place ≡ Some c.in-Some.monitor.now =
+    subst (λ (all : List Monitor). slice_get all c.args.place ≡ Some c.in-Some.monitor.now) c.deref.ensures.value
+    (slice_get_read c.deref.result.now (length c.deref.result.now) c.args.place c.in-Some.monitor.now refl c.in-Some.ensures.lookup.3.0 c.in-Some.ensures.lookup.1) in
+    let next = rw c.in-Some-next_epoch.is at c.next_epoch.ensures in
+    let watches = subst (λ (all : List Monitor). WatchesAt g.H.NodeHash.digest_of g.V.VufCheck.accepted all c.args.place c.in-Some-next_epoch.epoch c.deref-2.result.now c.new-now.result c.in_ok-went.went
+    c.watch_at.new.said c.watch_at.new.monitors) c.deref_mut.ensures.value c.in_ok-went.ensures.watches in
+    subst (IsAcceptedAt g.H.NodeHash.digest_of g.V.VufCheck.accepted c.copied-name.result c.in-Some-next_epoch.epoch) (c.deref-2.ensures.value ∙ sym c.deref-4.ensures.value)
+    (accepted_at g.H.NodeHash.digest_of g.V.VufCheck.accepted c.args.self.now.monitors.items c.args.place c.in-Some-next_epoch.epoch c.copied-name.result c.deref-2.result.now c.new-now.result c.watch_at.new.said c.in_ok-went.went
+    c.watch_at.new.monitors c.in-Some.monitor.now at (c.copied-name.ensures ∙ c.name.ensures) next watches yes)
 
 pub returns-clause-steps : goal.returns-clause-steps
 returns-clause-steps g c =

@@ -5,6 +5,9 @@ use Rattle.memory.specs.declared.item.Item.{Item}
 use Rattle.memory.proofs.Learned.{nothing_learned, on_ok, other_kind}
 use Rattle.memory.proofs.memory.Memory.learn_line.Goals as goal
 
+pub returns-then-not-may_be-clause-ok : goal.returns-then-not-may_be-clause-ok
+returns-then-not-may_be-clause-ok c = nothing_learned c.args.kind c.args.line.now c.args.self.now c.args.lines.now.items (c.may_be.ensures c.if-not-may_be.true)
+
 pub returns-in_default-clause-ok : goal.returns-in_default-clause-ok
 returns-in_default-clause-ok c =
     let none : (item : Item) → ¬ IsLineOf c.args.line.now item = search rules in

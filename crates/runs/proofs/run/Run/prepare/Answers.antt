@@ -37,7 +37,7 @@ returns-then-is_none-clause-prepares g c =
 
 pub returns-clause-prepares : goal.returns-clause-prepares
 returns-clause-prepares g c =
-    rw c.note_kept.ensures.same (let some : ¬ (c.args.self.now.state ≡ None) = search rules in
+    rw c.note_stopped.ensures.same (let some : ¬ (c.args.self.now.state ≡ None) = search rules in
     let sends = c.in-Ok.ensures.sends in
     let ready = scene c.catch_up.new.asker c.catch_up.new.self.said c.catch_up.new.stream in
     let after = scene c.look_around-prepared.new.asker c.look_around-prepared.new.self.said c.look_around-prepared.new.stream in
@@ -80,7 +80,7 @@ returns-in_err-catch_up-clause-part g c =
 
 pub returns-clause-part : goal.returns-clause-part
 returns-clause-part g c =
-    rw c.note_kept.ensures.same (let some : ¬ (c.args.self.now.state ≡ None) = search rules in
+    rw c.note_stopped.ensures.same (let some : ¬ (c.args.self.now.state ≡ None) = search rules in
     let sends = c.in-Ok.ensures.sends in
     let ready = scene c.catch_up.new.asker c.catch_up.new.self.said c.catch_up.new.stream in
     let caught = caught_up g.H.NodeHash.digest_of g.V.VufCheck.accepted g.S.Verifier.verified (ExchangesFrames g.T.Write.contents g.T.Read.remaining) (background_of c.args.asker.now) c.in-Ok.reply.epoch (scene c.args.asker.now c.args.self.now.said c.send.new.stream) ready
@@ -131,7 +131,7 @@ returns-in_err-catch_up-clause-stands g c = λ lines start old acts stands. ((c.
 
 pub returns-clause-stands : goal.returns-clause-stands
 returns-clause-stands g c =
-    rw c.note_kept.ensures.same (λ lines start old acts first.
+    rw c.note_stopped.ensures.same (λ lines start old acts first.
     let before = c.catch_up.new.asker in
     let after = c.look_around-prepared.new.asker in
     let said = c.catch_up.new.self.said in
@@ -186,7 +186,7 @@ returns-then-is_none-clause-marks g c =
 
 pub returns-clause-marks : goal.returns-clause-marks
 returns-clause-marks g c =
-    rw c.note_kept.ensures.same (let before = c.catch_up.new.asker in
+    rw c.note_stopped.ensures.same (let before = c.catch_up.new.asker in
     let after = c.look_around-prepared.new.asker in
     let said = c.catch_up.new.self.said in
     let said' = c.look_around-prepared.new.self.said in

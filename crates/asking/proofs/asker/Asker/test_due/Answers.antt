@@ -7,7 +7,7 @@ use Rattle.asking.specs.Reports.{silent}
 use Rattle.asking.specs.Testing.{shown_told}
 use Rattle.asking.proofs.Handed.{tells_silent}
 use Rattle.asking.proofs.Tested.{shown_evidence}
-use Rattle.asking.proofs.asker.Asker.test_shown.Goals as goal
+use Rattle.asking.proofs.asker.Asker.test_due.Goals as goal
 
 pub returns-then-ne-clause-tests : goal.returns-then-ne-clause-tests
 returns-then-ne-clause-tests g c =
