@@ -1,5 +1,5 @@
 -- What two replies for a name show, and which replies are kept.
-use Rattle.std.proofs.Common.{◌≡◌, ◌↔◌, ◌∙◌, ℕ, List, Bool, true, false, Option, None, Some, Err, IsTrue, MatchOption, ap, arith, inl, inr, refl, subst, sym}
+use Rattle.std.proofs.Common.{◌≡◌, ◌↔◌, ◌∙◌, ℕ, List, Bool, true, false, not, Option, None, Some, Err, IsTrue, MatchOption, ap, arith, inl, inr, refl, subst, sym}
 use Rattle.std.proofs.lemmas.List.Elements.{All-contains}
 use Rattle.auditor.specs.declared.evidence.Evidence.{Evidence}
 use Rattle.auditor.specs.declared.evidence.Evidence.TheVariants as evidence
@@ -16,7 +16,7 @@ use Rattle.proofs.specs.Replies.{Reply, SpellsReply}
 use Rattle.proofs.specs.declared.broken_final.BrokenFinal.{BrokenFinal}
 use Rattle.proofs.specs.declared.reply_refusal.Refusal.{Refusal}
 use Rattle.memory.specs.declared.final_seen.FinalSeen.{FinalSeen}
-use Rattle.asking.specs.FinalBindings.{Finals, IsFinalChange, IsFinalIn, MayChange, NotesSeen, Show, ShowsNothing, StayApart}
+use Rattle.asking.specs.FinalBindings.{AddsNothing, Finals, IsFinalChange, IsFinalIn, MayChange, NotesSeen, Show, ShowsNothing, StayApart}
 use Rattle.asking.specs.Reports.{silent}
 
 pub not-both : (is : Bool) → is ≡ true → is ≡ false → ⊥
@@ -35,6 +35,11 @@ spells-final bytes read spelled is e = (
   λ yes. (read, spelled, sym e ∙ yes),
   λ final. e ∙ ap (λ (reply : Reply). states_final (stated reply.end)) (one_reply bytes read final.0 spelled final.1) ∙ final.2,
 )
+
+-- a reply of which a test says that it states no key with Final adds nothing where none is kept
+pub adds-none : (is : Bool) (epoch : ℕ) (bytes : List ℕ) → IsTrue is ↔ SpellsFinal bytes → IsTrue (not is) → AddsNothing epoch bytes None
+adds-none true epoch bytes exact never = absurd cc
+adds-none false epoch bytes exact quiet = λ reply spelled states. not-both false (exact.1 (reply, spelled, states)) refl
 
 pub unread-no-final : (bytes : List ℕ) (refusal : Refusal) → ReadsReply bytes (Err refusal) → ¬ SpellsFinal bytes
 unread-no-final bytes refusal reads final = not_spelled bytes refusal reads final.0 final.1
@@ -157,7 +162,7 @@ module _ (hash : List ℕ → List ℕ) (accepted : List ℕ → List ℕ → Li
 
     -- what shows nothing: a reply that stays apart from the kept one, and one that is not to be kept
     pub show-none : (one other : FinalSeen) → StayApart one other.epoch other.reply → Show hash accepted chain one other None
-    show-none one other (not, not-back) = λ broken. (λ change. not (may-change one other broken change), λ change. not-back (may-change other one broken change))
+    show-none one other (never, back) = λ broken. (λ change. never (may-change one other broken change), λ change. back (may-change other one broken change))
 
     pub notes-nothing : (seen : FinalSeen) (finals : Finals) → ShowsNothing seen.name seen.epoch seen.reply finals → NotesSeen hash accepted chain seen finals silent finals
     notes-nothing seen finals (inl there) = inl (there, refl, refl)

@@ -44,13 +44,13 @@ one-epoch monitor one other is also =
 -- the client of a monitor that watched an epoch accepted the reply
 pub accepted_at : (hash : List ℕ → List ℕ) (accepted : List ℕ → List ℕ → List ℕ → Type 0) (monitors : List Monitor) (place epoch : ℕ) (name reply : List ℕ) (said now : Said) (went : Bool) (after : List Monitor) (monitor : Monitor)
     → slice_get monitors place ≡ Some monitor → name ≡ monitor.name → IsNextEpoch monitor (Some epoch) → WatchesAt hash accepted monitors place epoch reply said went now after → went ≡ true → IsAcceptedAt hash accepted name epoch reply
-accepted_at hash accepted monitors place epoch name reply said now true after monitor at named next (inl (none, not, still, same)) yes = absurd (none-some monitor (slice_get monitors place) none at)
-accepted_at hash accepted monitors place epoch name reply said now true after monitor at named (late, its, epochs) (inr (seen, watched, there, (told, (step, (root, read, (own, is), tells, then), is-told), told-now), set)) yes =
+accepted_at hash accepted monitors place epoch name reply said now true after monitor at named next (inl (none, stopped, still, same)) went_on = absurd (none-some monitor (slice_get monitors place) none at)
+accepted_at hash accepted monitors place epoch name reply said now true after monitor at named (late, its, epochs) (inr (seen, watched, there, (told, (step, (root, read, (own, is), tells, stays), is-told), told-now), set)) went_on =
     let same : seen ≡ monitor = same-some seen monitor (slice_get monitors place) there at in
     let here : IsNext monitor root = subst (λ (one : Monitor). IsNext one root) same own in
     let by_name = subst (λ (n : List ℕ). IsAcceptedReply hash accepted root.body n reply read) (ap (λ (one : Monitor). one.name) same ∙ sym named) is in
     (read, (by_name.0, refl, by_name.2), ap (λ (b : Body). b.epoch) by_name.1 ∙ one-epoch monitor root late here its ∙ epochs)
-accepted_at hash accepted monitors place epoch name reply said now false after monitor at named next watches yes = absurd cc
+accepted_at hash accepted monitors place epoch name reply said now false after monitor at named next watches went_on = absurd cc
 
 module _ {H V S T : Type 0} (hash : List ℕ → List ℕ) (accepted : List ℕ → List ℕ → List ℕ → Type 0) (exchanged : T → RequestContent → Frame → T → Type 0) where
   module _ (asker : Asker H V S) (said : Said) (stream : T) (place : ℕ) (monitor : Monitor) (spelled : List ℕ) (epoch : ℕ) (frame : Frame) (later : T) where

@@ -72,10 +72,10 @@ module _ {H V S T : Type 0} (hash : List ℕ → List ℕ) (accepted : List ℕ 
 -- what a monitor was shown was accepted, and shows that the promise was kept
 pub shown_kept : (hash : List ℕ → List ℕ) (accepted : List ℕ → List ℕ → List ℕ → Type 0) (before : Client) (name : List ℕ) (epoch : ℕ) (reply : List ℕ) (after : Client)
     → IsAcceptedAt hash accepted name epoch reply → Dues hash accepted before name reply (Ok Kept) after → TestsShown hash accepted before name epoch reply silent after
-shown_kept hash accepted before name epoch reply after (read, own, at) (place, (signed, tested, (root, its, next, is, shows)), then) =
+shown_kept hash accepted before name epoch reply after (read, own, at) (place, (signed, tested, (root, its, next, is, shows)), drops) =
     let same : its ≡ read = one_reply reply its read is.0 own.0 in
     let epochs : root.body.epoch ≡ epoch = ap (λ (b : Body). b.epoch) (sym is.1) ∙ ap (λ (r : Reply). r.body.epoch) same ∙ at in
-    (Some epoch, (place, signed, root, tested, next, epochs), inr (refl, (Ok Kept, (place, (signed, tested, (root, its, next, is, shows)), then), refl)))
+    (Some epoch, (place, signed, root, tested, next, epochs), inr (refl, (Ok Kept, (place, (signed, tested, (root, its, next, is, shows)), drops), refl)))
 
 -- what a monitor was shown is evidence, which was told
 pub shown_evidence : {A E : Type 0} (hash : List ℕ → List ℕ) (accepted : List ℕ → List ℕ → List ℕ → Type 0) (result : Result A E) (before : Client) (name : List ℕ) (epoch : ℕ) (reply : List ℕ) (due : Option ℕ) (shown : Result Due Refusal) (after : Client)

@@ -1,4 +1,4 @@
-use Rattle.std.proofs.Common.{◌≡◌, ◌++◌, ◌∷◌, [], List, Global, Vec, ap, subst}
+use Rattle.std.proofs.Common.{◌≡◌, ◌++◌, ◌∷◌, [], Global, Vec, ap, subst}
 use Rattle.rootchain.specs.declared.signed_promise.SignedPromise.{SignedPromise}
 use Rattle.runs.proofs.Earlier.{keeps_change, keeps_more, pushed_on}
 use Rattle.runs.proofs.lines.keep_earlier.Goals as goal

@@ -6,8 +6,8 @@ use Rattle.memory.specs.declared.final_seen.FinalSeen.{FinalSeen}
 use Rattle.asking.proofs.FinalsNoted.{noted-nothing, noted-reply, noted-unread}
 use Rattle.asking.proofs.finals.Finals.note.Goals as goal
 
-pub copy_of-reply-requires : goal.copy_of-reply-requires
-copy_of-reply-requires g c =
+pub copy_of-requires : goal.copy_of-requires
+copy_of-requires g c =
     let few = (reply_few c.in-Ok.view c.in-Ok.ensures.exact.1).few in
     let same = ap length c.in-Ok.ensures.exact.0 in
     omega (arith, few, same)

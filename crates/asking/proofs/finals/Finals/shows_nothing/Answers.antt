@@ -2,6 +2,7 @@ use Rattle.std.proofs.Common.{◌≡◌, ◌∙◌, ℕ, List, None, Some, ap, i
 use Rattle.std.specs.Prelude.{Contains}
 use Rattle.memory.specs.declared.final_seen.FinalSeen.{FinalSeen}
 use Rattle.asking.specs.FinalBindings.{Finals, IsKeptFor}
+use Rattle.asking.proofs.FinalsShown.{adds-none}
 use Rattle.asking.proofs.finals.Finals.shows_nothing.Goals as goal
 
 pub returns-then-contains : goal.returns-then-contains
@@ -27,5 +28,5 @@ returns-in-None c = λ quiet.
     let new : ¬ Contains c.self.inside.changed.items c.args.name.now = search rules in
     inr (
       subst (λ (ns : List (List ℕ)). ¬ Contains ns c.args.name.now) same new,
-      (None, subst (λ (all : List FinalSeen). IsKeptFor c.args.name.now all None) kept c.in-None.ensures, λ reply spelled states. let final = c.states_final.ensures.1 (reply, spelled, states) in absurd cc),
+      (None, subst (λ (all : List FinalSeen). IsKeptFor c.args.name.now all None) kept c.in-None.ensures, adds-none c.states_final.result c.args.epoch c.args.reply.now c.states_final.ensures quiet),
     )
