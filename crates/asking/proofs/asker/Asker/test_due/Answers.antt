@@ -2,7 +2,7 @@ use Rattle.std.proofs.Common.{◌≡◌, ◌≢◌, ◌∙◌, Ok, Result, Some,
 use Rattle.client.specs.Dues.{Dues}
 use Rattle.client.specs.declared.client_refusal.Refusal.{Refusal}
 use Rattle.client.specs.declared.due.Due.{Due}
-use Rattle.client.specs.declared.due.Due.TheVariants.{Broken, Kept, OtherIndex}
+use Rattle.client.specs.declared.due.Due.TheVariants.{Broken}
 use Rattle.asking.specs.Reports.{silent}
 use Rattle.asking.specs.Testing.{shown_told}
 use Rattle.asking.proofs.Handed.{tells_silent}
