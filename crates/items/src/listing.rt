@@ -52,26 +52,6 @@ fn front_item(shown: &[u8]) -> Option<Item>
     item(shown.split_at(ITEM_SIZE).0)
 }
 
-/// Takes the next line, where the reader's buffer shows an item's line and its LF. Else nothing is taken.
-fn take_shown<R: BufRead>(reader: &mut R) -> Result<Option<Item>, StreamFault>
-    ensures ok { IfOk result (λ found. MatchOption found (Keeps (R.remaining reader.old) (R.remaining reader.new))
-        (λ item. TakesNext (R.remaining reader.old) (R.remaining reader.new) (NextLine.Item item))) }
-    ensures err { IfErr result (λ fault. (fault ≡ StreamFault.CannotRead) × Keeps (R.remaining reader.old) (R.remaining reader.new)) }
-{
-    let shown = match reader.fill_buf() {
-        Ok(shown) => shown,
-        Err(error) => {
-            after_error(&error, StreamFault::CannotRead)?;
-            return Ok(None);
-        }
-    };
-    let Some(item) = front_item(shown) else {
-        return Ok(None);
-    };
-    reader.consume(ITEM_SIZE + 1);
-    Ok(Some(item))
-}
-
 /// What the next line of an input is.
 #[derive(Clone, Copy, Debug)]
 enum NextLine {
@@ -81,14 +61,38 @@ enum NextLine {
     End,
 }
 
+/// Takes the next line, where the reader's buffer shows an item's line and its LF, or that there is none. Else
+/// nothing is taken.
+fn take_shown<R: BufRead>(reader: &mut R) -> Result<Option<NextLine>, StreamFault>
+    ensures ok { IfOk result (λ found. MatchOption found (Keeps (R.remaining reader.old) (R.remaining reader.new))
+        (λ next. TakesNext (R.remaining reader.old) (R.remaining reader.new) next)) }
+    ensures err { IfErr result (λ fault. (fault ≡ StreamFault.CannotRead) × Keeps (R.remaining reader.old) (R.remaining reader.new)) }
+{
+    let shown = match reader.fill_buf() {
+        Ok(shown) => shown,
+        Err(error) => {
+            after_error(&error, StreamFault::CannotRead)?;
+            return Ok(None);
+        }
+    };
+    if shown.is_empty() {
+        return Ok(Some(NextLine::End));
+    }
+    let Some(item) = front_item(shown) else {
+        return Ok(None);
+    };
+    reader.consume(ITEM_SIZE + 1);
+    Ok(Some(NextLine::Item(item)))
+}
+
 /// Takes the next line. Most lines are read where they stand in the reader's buffer; one that it does not show
 /// whole is copied.
 fn next_item<R: BufRead>(reader: &mut R) -> Result<NextLine, StreamFault>
     ensures ok { IfOk result (λ next. TakesNext (R.remaining reader.old) (R.remaining reader.new) next) }
     ensures err { IfErr result (λ fault. fault ≡ StreamFault.CannotRead) }
 {
-    if let Some(item) = take_shown(reader)? {
-        return Ok(NextLine::Item(item));
+    if let Some(next) = take_shown(reader)? {
+        return Ok(next);
     }
     let Some(line) = next_line::<LINE_KEPT, R>(reader)? else {
         return Ok(NextLine::End);

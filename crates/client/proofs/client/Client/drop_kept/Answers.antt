@@ -19,10 +19,10 @@ pub returns-then-not-shows_kept-clause-other : goal.returns-then-not-shows_kept-
 returns-then-not-shows_kept-clause-other g c = λ never after.
     let a = (goal.at.returns-then-not-shows_kept-clause-other g c).After-shows_kept in
     not-kept g.H.NodeHash.digest_of g.V.VufCheck.accepted c.args.self.now c.args.name.now c.args.bytes.now c.requires.accepted c.in-Some.place c.in-Some.signed.now (found g a) (λ shows.
-        let here = subst (λ (client : Client). ShowsKept g.H.NodeHash.digest_of client.chain c.in-Some.signed.now c.args.bytes.now) (sym c.self.view_is) shows in
-        let one : c.shows_kept.result ≡ true = c.shows_kept.ensures.shows.1 here in
-        let other : c.shows_kept.result ≡ false = c.if-not-shows_kept.true in
-        absurd cc)
+    let here = subst (λ (client : Client). ShowsKept g.H.NodeHash.digest_of client.chain c.in-Some.signed.now c.args.bytes.now) (sym c.self.view_is) shows in
+    let one : c.shows_kept.result ≡ true = c.shows_kept.ensures.shows.1 here in
+    let other : c.shows_kept.result ≡ false = c.if-not-shows_kept.true in
+    absurd cc)
     after
 
 pub remove-requires : goal.remove-requires
