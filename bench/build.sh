@@ -18,6 +18,18 @@ build() {
     rm -f "$log"
 }
 
+# Builds the programs of these crates for x86-64-v3, too, each as PROGRAM-v3, where the processor has AVX2. The status is 1
+# where it has not: build_avx2 CRATE..
+build_avx2() {
+    local crate
+    grep -q avx2 /proc/cpuinfo || return 1
+    . scripts/drive/library.sh
+    for crate in "$@"; do
+        echo "building $crate for x86-64-v3" >&2
+        build_v3 "$crate" "crates/$crate/out/$crate-v3" || exit 1
+    done
+}
+
 # Builds the clients of a server, plain Rust with its std alone.
 build_load() {
     mkdir -p bench/out

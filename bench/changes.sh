@@ -13,3 +13,7 @@ cd "$(dirname "$0")/.."
 
 build measure
 python3 bench/bench.py changes
+if build_avx2 measure; then
+    echo
+    MEASURE=crates/measure/out/measure-v3 BUILD=x86-64-v3 python3 bench/bench.py changes
+fi

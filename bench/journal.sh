@@ -14,3 +14,7 @@ cd "$(dirname "$0")/.."
 
 build measure directoryd
 python3 bench/bench.py journal
+if build_avx2 measure; then
+    echo
+    MEASURE=crates/measure/out/measure-v3 BUILD=x86-64-v3 python3 bench/bench.py journal
+fi

@@ -10,7 +10,8 @@
 #
 # The second also times the programs of another clone, in which directoryd and measure are built.
 # The third builds neither, and only compares this program with the peer. With
-# DIRECTORYD_V3=PROGRAM it also compares one that is built for x86-64-v3 with the peer built so.
+# DIRECTORYD_V3=PROGRAM it also compares one that is built for x86-64-v3 with the peer built so,
+# as the first does where the processor has AVX2.
 #
 # Needs the kit (`rt` on the PATH) and Python 3, on Linux, and 300 MB for temporary files; and
 # `rustc` for the peer, without which directoryd is measured alone. Takes about four minutes once both
@@ -31,6 +32,9 @@ if [[ -z ${DIRECTORYD:-} ]]; then
     build directoryd measure
     python3 bench/bench.py root
     echo
+    if build_avx2 directoryd measure; then
+        export DIRECTORYD_V3=crates/directoryd/out/directoryd-v3 MEASURE_V3=crates/measure/out/measure-v3
+    fi
 fi
 peers=()
 if ! command -v rustc >/dev/null; then

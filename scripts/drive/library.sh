@@ -9,7 +9,7 @@ library() {
     "$compiler" -O1 -fPIC -shared -nostdlib -o "$2" "$1"
 }
 
-# Finds the kit, and the libraries on which a crate stands by crates.txt, as `rt ci` left them: find_libraries CRATE
+# Finds the kit, and the libraries on which a crate stands by crates.txt, as `rt` left them: find_libraries CRATE
 # They are then in `kit` and `libraries`. The status is 1 if one is not there.
 find_libraries() {
     local folder name library
@@ -25,6 +25,19 @@ find_libraries() {
         [ -d "$library" ] || return 1
         libraries+=(--extern "$name=$library")
     done
+}
+
+# Proves and builds the program of a crate for x86-64-v3, over the libraries that `rt` left: build_v3 CRATE OUTPUT
+build_v3() {
+    local kit libraries
+    if ! find_libraries "$1"; then
+        echo "some libraries of $1 are not there: rt ci makes them"
+        return 1
+    fi
+    (cd "crates/$1" && "$kit/bin/rattle" build --crate-name "$1" --cpu x86-64-v3 src/main.rt "${libraries[@]}" --jobs "$(nproc)" \
+        --toolchain "$kit/toolchain" --backend llvm -o out/v3.o) >"crates/$1/out/v3.txt" 2>&1 || { cat "crates/$1/out/v3.txt"; return 1; }
+    "$kit/bin/rattle-link" --target x86_64-unknown-linux-gnu --toolchain "$kit/toolchain" -o "$2" "crates/$1/out/v3.o" \
+        "$kit/c/libos_c.a" "$kit/c/liblibc_c.a"
 }
 
 # Begins a script that counts what passes and fails: runs it anew, so that it ends after five minutes whatever
