@@ -1,7 +1,8 @@
 mod Counted
 mod Cuts
 mod Ended
+pub mod Growing
 mod Reopening
-mod Replaying
+pub mod Replaying
 mod Settled
 mod Spelled

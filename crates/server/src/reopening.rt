@@ -39,7 +39,7 @@ pub(crate) struct Reopened {
 }
 
 /// The program's fault for a journal that is refused.
-fn fault_of(refusal: Refusal) -> ProgramFault
+pub(crate) fn fault_of(refusal: Refusal) -> ProgramFault
     ensures { result ≡ of_refusal refusal }
 {
     match refusal {
@@ -50,7 +50,7 @@ fn fault_of(refusal: Refusal) -> ProgramFault
 }
 
 /// What the bytes of a journal open to, with the salts of the stream of this number to come.
-fn open_bytes(
+pub(crate) fn open_bytes(
     alloc: Global,
     keys: &Keys,
     bytes: &[u8],
