@@ -2,8 +2,8 @@
 """Times the built programs and prints the tables of the scripts beside it. docs/SPEED.md says what
 the columns mean.
 
-usage: bench/bench.py root|tree|changes|replies|check|reconcile|epochs|journal|hub|serve|replicas|audit|client|play|ask,
-at the top of the repository
+usage: bench/bench.py root|tree|changes|replies|check|reconcile|epochs|journal|hub|serve|audit|client|play|ask, at
+the top of the repository
 
 BEFORE, if it is set, is the top of another clone, in which directoryd and measure are built. `root` and
 `hub` then time the programs of both, in turn. MEASURE, if it is set, is the program measure, built for
@@ -102,12 +102,6 @@ IN_FLIGHT, SERVE_FRAMES, SERVE_ROUNDS = 64, 8_000, 9
 CROWDS = ((1, 1), (16, 1), (256, 1), (256, 4), (256, 64), (1_000, 1))
 CROWD_FRAMES, CROWD_ROUNDS, IDLE_CONNECTIONS = 8_000, 5, 900
 SERVE_KEYS = {"sign-key": "01", "vuf-key": "02", "salt-key": "00", "token": "04"}
-# The readers, the look-ups of each in a step, and the rounds. From so many cores on, each process has one of its own.
-READERS, READER_FRAMES, READER_ROUNDS, CORES = 3, 32_000, 9, 8
-# The records that a reader takes, the runs; the registrations a second while it is asked for them, and for how many seconds.
-FOLLOWED, FOLLOWED_RUNS, REGISTERED_A_SECOND, LAG_SECONDS = 400_000, 5, 10_000, 10
-# The targets: look-ups of the readers to those of one process, records a second, milliseconds.
-MOST_READERS, MOST_FOLLOWED, MOST_LAG = 2.5, 100_000, 100
 
 # The roots of the chains that are observed, and the runs of each. In a run: the roots that then extend
 # the chain, as many that are known, and how often each piece of evidence is judged. The siblings of the
@@ -1238,235 +1232,6 @@ def serve(_folder):
     loop.end()
 
 
-def scheduled(process):
-    """The processor's time that all threads of a process have used, and how long they waited for it."""
-    times = []
-    for thread in os.listdir(f"/proc/{process.pid}/task"):
-        with open(f"/proc/{process.pid}/task/{thread}/schedstat", encoding="ascii") as file:
-            times.append(file.read().split()[:2])
-    return tuple(sum(map(int, each)) / 1e9 for each in zip(*times))
-
-
-def spent(process):
-    return scheduled(process)[0]
-
-
-def is_pinned():
-    return len(os.sched_getaffinity(0)) >= CORES
-
-
-def pin(process, number):
-    """Gives a process a core of its own, if there are enough."""
-    if is_pinned():
-        os.sched_setaffinity(process.pid, {sorted(os.sched_getaffinity(0))[number]})
-
-
-class Listening:
-    """A directory or a reader that listens, with these options."""
-
-    def __init__(self, number, *options):
-        keys = [word for key, value in SERVE_KEYS.items() for word in (f"--{key}", value * 32)]
-        words = [DIRECTORYD, "listen", *keys, "--idle", "0", "--until-eof", *options, "127.0.0.1:0"]
-        self.process = subprocess.Popen(words, stdin=subprocess.PIPE, stderr=subprocess.PIPE)
-        pin(self.process, number)
-        line = b""
-        while not line.startswith(b"listening on "):
-            line = self.process.stderr.readline()
-            if not line:
-                sys.exit(f"{' '.join(words)}: status {self.process.wait()}")
-        self.port = int(line.rpartition(b":")[2])
-
-    def stop(self):
-        with self.process:
-            self.process.kill()
-
-    def answer(self, frame, client):
-        """The reply to a request over a connection: its kind and its body."""
-        client.sendall(frame)
-        reply = client.recv(4)
-        while len(reply) < 4 + int.from_bytes(reply[:4], "big"):
-            reply += client.recv(65536)
-        return reply[4], reply[5:]
-
-    def waits_for(self, frame, is_there):
-        """Asks until the reply is the one that is waited for."""
-        with socket.create_connection(("127.0.0.1", self.port)) as client:
-            while not is_there(*self.answer(frame, client)):
-                time.sleep(0.002)
-
-
-class Asked:
-    """Look-ups at some ports at once, each by a client of its own, and the processor's time of those who answer. Of each
-    round the look-ups a second: by the clock; and of the processor's time of each server, summed, if there are several."""
-
-    def __init__(self, ports, servers):
-        self.servers, self.clock, self.used, self.rates = servers, [], [], []
-        words = ["crowd", "PORT", HUB_NAMES, 1, READER_FRAMES, READER_ROUNDS, IN_FLIGHT]
-        self.sides = [Side(LOAD, *(port if word == "PORT" else word for word in words)) for port in ports]
-        for number, side in enumerate(self.sides):
-            pin(side.process, READERS + 1 + number)
-
-    def steps(self):
-        """A step of all clients. Returns its time by the clock."""
-        start = time.perf_counter()
-        for side in self.sides:
-            side.process.stdin.write(b"\n")
-        for side in self.sides:
-            select.select([side.process.stdout], [], [])
-        taken = time.perf_counter() - start
-        for side in self.sides:
-            look(side.process)
-        return taken
-
-    def round(self):
-        self.steps()
-        before = [spent(server) for server in self.servers]
-        taken = self.steps()
-        used = [spent(server) - start for server, start in zip(self.servers, before)]
-        for _ in range(3):
-            self.steps()
-        asked = READER_FRAMES * len(self.sides)
-        self.clock.append(asked / taken)
-        self.rates.append(sum(asked / len(used) / each for each in used))
-        self.used.append(sum(used) / asked)
-
-    def end(self):
-        for side in self.sides:
-            side.end()
-
-    def row(self, name):
-        clock, rates, used = (statistics.median(each) for each in (self.clock, self.rates, self.used))
-        return [name, f"{clock:,.0f}", f"{rates:,.0f}", f"{used * 1e6:.2f}"]
-
-
-def proxied(folder, ports):
-    """HAProxy as in the example, without TLS and in one thread. All clients have one address here, so that they are sent to
-    the readers in turn."""
-    with socket.socket() as free:
-        free.bind(("127.0.0.1", 0))
-        port = free.getsockname()[1]
-    with open("examples/haproxy.cfg", encoding="ascii") as file:
-        text = file.read()
-    parts = [part for part in text.split("\n\n") if "frontend clients" not in part and "backend directory\n" not in part]
-    lines = "\n\n".join(parts).splitlines()
-    lines = [line for line in lines if not line.strip().startswith(("server ", "hash-type"))]
-    lines = [f"    bind 127.0.0.1:{port}" if line.strip().startswith("bind ") else line for line in lines]
-    text = "\n".join(lines).replace("balance source", "balance roundrobin").replace("global\n", "global\n    nbthread 1\n")
-    servers = "".join(f"    server reader{number} 127.0.0.1:{each}\n" for number, each in enumerate(ports))
-    with open(f"{folder}/haproxy.cfg", "w", encoding="ascii") as file:
-        file.write(f"{text}\n{servers}")
-    process = subprocess.Popen(["haproxy", "-db", "-f", file.name], stderr=subprocess.DEVNULL)
-    for _ in range(500):
-        try:
-            socket.create_connection(("127.0.0.1", port)).close()
-            return process, port
-        except OSError:
-            time.sleep(0.01)
-    sys.exit("haproxy does not listen")
-
-
-def ask_readers(folder, directory, readers):
-    """Look-ups at the directory alone, at all readers at once, and through HAProxy, in turn."""
-    everyone = [reader.process for reader in readers]
-    asked = {"one process": Asked([directory.port], [directory.process])}
-    asked[f"{READERS} readers"] = Asked([reader.port for reader in readers], everyone)
-    proxy = None
-    if shutil.which("haproxy"):
-        proxy, port = proxied(folder, [reader.port for reader in readers])
-        asked["through HAProxy"] = Asked([port] * READERS, everyone)
-    used = []
-    for _ in range(READER_ROUNDS):
-        for name, each in asked.items():
-            before = spent(proxy) if proxy else 0
-            each.round()
-            if proxy and name == "through HAProxy":
-                used.append((spent(proxy) - before) / (READERS * READER_FRAMES))
-    for each in asked.values():
-        each.end()
-    if proxy:
-        proxy.terminate()
-        proxy.wait()
-    head = ["", "by the clock", "of processor time", "us of it each"]
-    table("look-ups a second", head, [each.row(name) for name, each in asked.items()])
-    one, all_readers = asked["one process"], asked[f"{READERS} readers"]
-    kind = "clock" if is_pinned() else "rates"
-    ratios = [many / alone for many, alone in zip(getattr(all_readers, kind), getattr(one, kind))]
-    by = "by the clock, a core for each" if is_pinned() else f"of processor time, as there are fewer than {CORES} cores"
-    print(f"\n{READERS} readers: {statistics.median(ratios):.2f} of one process, {by}; target {MOST_READERS}")
-    print(f"HAProxy: {statistics.median(used) * 1e6:.2f} us of its own for a look-up" if used else "HAProxy is not installed")
-
-
-def followed_once(folder, records):
-    """The times by the clock, and of the processor, in which a reader takes many records that come at once."""
-    path = f"{folder}/followed"
-    with open(path, "wb") as file:
-        file.write(records[:106])
-    reader = Listening(0, "--follow", path)
-    wait_until_it_waits(reader.process)
-    before, start = spent(reader.process), time.perf_counter()
-    with open(path, "ab") as file:
-        file.write(records[106:])
-    name = b"name %011d" % (FOLLOWED - 1)
-    frame = b"\3" + len(name).to_bytes(2, "big") + name
-    reader.waits_for(len(frame).to_bytes(4, "big") + frame, lambda kind, _: kind == PROMISE)
-    taken, used = time.perf_counter() - start, spent(reader.process) - before
-    reader.stop()
-    return taken, used
-
-
-def follow_many():
-    """How many records a reader takes in a second."""
-    with tempfile.TemporaryDirectory(dir="/dev/shm") as folder, tempfile.TemporaryFile() as stream:
-        for number in range(FOLLOWED):
-            stream.write(register_frame(number))
-        served_peak(stream, f"{folder}/journal")
-        with open(f"{folder}/journal", "rb") as file:
-            records = file.read()
-        clock, used = zip(*(followed_once(folder, records) for _ in range(FOLLOWED_RUNS)))
-    spreads = Spread(clock, FOLLOWED), Spread(used, FOLLOWED)
-    rows = [[name, f"{1 / each.least:,.0f}", *each.cells(1e6, 2)] for name, each in zip(("by the clock", "processor"), spreads)]
-    table(f"{FOLLOWED:,} records that come at once, us", ["", "a second", "least", "median", "greatest"], rows)
-    rate = 1 / spreads[0 if is_pinned() else 1].median
-    print(f"\na reader takes {rate:,.0f} records a second: {rate / MOST_FOLLOWED:.2f} of the target")
-
-
-def ask_late(directory, reader):
-    """How long it takes until what is registered is answered at a reader."""
-    words = [directory.port, reader.port, HUB_NAMES, REGISTERED_A_SECOND, LAG_SECONDS]
-    side = Side(LOAD, "lag", *words)
-    pin(side.process, READERS + 1)
-    servers = directory.process, reader.process
-    before = [scheduled(server)[1] for server in servers]
-    (rate, *_), (count, *_) = side.step(), side.step()
-    waited = [scheduled(server)[1] - start for server, start in zip(servers, before)]
-    rows = []
-    for since in "the directory's answer", "the request":
-        times = [side.step()[0] / 1e6 for _ in range(3)]
-        rows.append([since, f"{count:,}", *(f"{each:.2f}" for each in times)])
-    side.end()
-    table(f"{rate:,} registrations a second: ms until a name is promised by a reader, from", ["", "names", "50th", "99th", "worst"], rows)
-    late = float(rows[0][3])
-    print(f"\nthe 99th: {late / MOST_LAG:.2f} of the target of {MOST_LAG} ms")
-    print("waited for a core meanwhile: the directory {:.2f} s, the reader {:.2f} s".format(*waited))
-
-
-def replicas(folder):
-    with tempfile.TemporaryDirectory(dir="bench/out") as disk:
-        journal, copy = f"{disk}/journal", f"{disk}/copy"
-        directory = Listening(0, "--journal", journal, "--copy", copy)
-        readers = [Listening(1 + number, "--follow", copy) for number in range(READERS)]
-        Side(LOAD, "ask", directory.port, HUB_NAMES, 1, IN_FLIGHT, 0).end()
-        head = bytes.fromhex("0000000106")
-        for reader in readers:
-            # The epoch stands behind the kind and the version.
-            reader.waits_for(head, lambda _, body: int.from_bytes(body[2:10], "big") == 2)
-        ask_readers(folder, directory, readers)
-        ask_late(directory, readers[0])
-        for each in (directory, *readers):
-            each.stop()
-    follow_many()
-
-
 class Audits:
     """The runs of `measure audit` on a chain of so many roots: the times of one digest of a body and of
     one of what is signed of it; of a root that extends the chain, and of one that it has; and, for each
@@ -1866,7 +1631,6 @@ def main(which):
         print_machine()
         of = {"root": root, "tree": tree, "changes": changes, "replies": replies}
         of |= {"reconcile": reconcile, "epochs": epochs, "journal": journal, "hub": hub, "serve": serve}
-        of |= {"replicas": replicas}
         of |= {"audit": audit, "client": client, "play": play, "ask": ask, "check": check_from_c}
         of[which](folder)
     print(f"\nload at the end {os.getloadavg()[0]:.2f}")

@@ -9,29 +9,17 @@ use std::error::Error;
 use std::io::{self, ErrorKind, Read, Write};
 use std::net::{TcpListener, TcpStream};
 use std::process::ExitCode;
-use std::sync::mpsc::{self, Receiver};
-use std::thread;
-use std::time::{Duration, Instant};
+use std::time::Instant;
 
 const USAGE: &str =
     "usage: load ask PORT NAMES FRAMES IN_FLIGHT ROUNDS | exchange PORT NAMES FRAMES ROUNDS \
-    | crowd PORT NAMES CONNECTIONS FRAMES ROUNDS TOGETHER | answer REQUEST REPLY CONNECTIONS TOGETHER \
-    | lag PORT READER NAMES PER_SECOND SECONDS";
+    | crowd PORT NAMES CONNECTIONS FRAMES ROUNDS TOGETHER | answer REQUEST REPLY CONNECTIONS TOGETHER";
 
 /// The operator's token.
 const TOKEN: [u8; 32] = [4; 32];
 
 /// The epoch whose page is the first with names.
 const FIRST: u64 = 2;
-
-/// The kind of a reply that promises.
-const PROMISE: u8 = 0x81;
-
-/// Registrations are sent once a millisecond. The last one of so many milliseconds is asked for at a reader.
-const SAMPLED: u64 = 10;
-
-/// For how long a reader is not asked again that did not know a name.
-const PAUSE: Duration = Duration::from_micros(500);
 
 /// The most bytes of replies that are read at once.
 const ROOM: usize = 16_384;
@@ -49,7 +37,6 @@ enum Kind {
     Head,
     LookUp,
     Register,
-    Promise,
 }
 
 /// The name of this number: 16 bytes, so that neighbours lie far apart.
@@ -101,7 +88,6 @@ impl Requests {
                 Kind::Head => append_frame(&mut frames, 6, &[]),
                 Kind::LookUp => append_frame(&mut frames, 4, &[&[0; 8], &[0, 16], &name]),
                 Kind::Register => append_frame(&mut frames, 1, &[&[0, 16], &name, &[0, 32], &key]),
-                Kind::Promise => append_frame(&mut frames, 3, &[&[0, 16], &name]),
             }
         }
         let size = frames.len() / numbers.len().max(1);
@@ -202,16 +188,6 @@ impl Client {
             answered += whole;
         }
         Ok(bytes)
-    }
-
-    /// The kind of the reply to one request.
-    fn kind_of_reply(&mut self, request: &Requests) -> io::Result<u8> {
-        self.stream.write_all(&request.frames)?;
-        let mut length = [0; 4];
-        self.stream.read_exact(&mut length)?;
-        let mut reply = vec![0; u32::from_be_bytes(length) as usize];
-        self.stream.read_exact(&mut reply)?;
-        Ok(reply.first().copied().unwrap_or(0))
     }
 
     /// Registers the names of the page, and closes the epoch.
@@ -318,13 +294,13 @@ impl Crowd {
         self.times.sort_unstable();
         Ok(bytes)
     }
-}
 
-/// The time of this part of a hundred, of times that ascend.
-fn time_at(times: &[u64], part: usize) -> u64 {
-    let last = times.len().saturating_sub(1);
-    let place = (times.len() * part / 100).min(last);
-    times.get(place).copied().unwrap_or(0)
+    /// The time of this part of a hundred of the look-ups.
+    fn time_at(&self, part: usize) -> u64 {
+        let last = self.times.len().saturating_sub(1);
+        let place = (self.times.len() * part / 100).min(last);
+        self.times.get(place).copied().unwrap_or(0)
+    }
 }
 
 /// The steps: the connections made; and in each round the requests made, and asked, and then the nanoseconds
@@ -354,78 +330,7 @@ fn crowd(
         end_step(requests.size as u64)?;
         end_step(crowd.ask(&requests, together)?)?;
         for part in [50, 99, 100] {
-            end_step(time_at(&crowd.times, part))?;
-        }
-    }
-    Ok(())
-}
-
-/// A name that was registered: its number, when it was asked for, and when the directory had answered.
-struct Registered {
-    number: u64,
-    sent: Instant,
-    answered: Instant,
-}
-
-/// Asks a reader for each name until it promises it. Returns how many nanoseconds after the answer of the directory
-/// that was, and how many after the request.
-fn wait_for(mut reader: Client, names: &Receiver<Registered>) -> io::Result<[Vec<u64>; 2]> {
-    let mut times = [Vec::new(), Vec::new()];
-    for name in names {
-        let request = Requests::new(Kind::Promise, &[name.number]);
-        while reader.kind_of_reply(&request)? != PROMISE {
-            thread::sleep(PAUSE);
-        }
-        for (kept, since) in times.iter_mut().zip([name.answered, name.sent]) {
-            kept.push(since.elapsed().as_nanos() as u64);
-        }
-    }
-    for kept in &mut times {
-        kept.sort_unstable();
-    }
-    Ok(times)
-}
-
-/// The steps: the connections made; the registrations a second, as they came to be; how many names a reader was asked for;
-/// and within how many nanoseconds 50, 99 and 100 of a hundred were answered there, from the answer of the directory on,
-/// and then from the request on.
-fn lag(
-    port: usize,
-    reader: usize,
-    names: u64,
-    per_second: u64,
-    seconds: u64,
-) -> Result<(), Box<dyn Error>> {
-    let (mut client, reader) = (Client::new(port)?, Client::new(reader)?);
-    end_step(0)?;
-    let (sender, receiver) = mpsc::channel();
-    let waiting = thread::spawn(move || wait_for(reader, &receiver));
-    let (start, count, ticks) = (Instant::now(), per_second / 1_000, seconds * 1_000);
-    for tick in 0..ticks {
-        let first = names + tick * count;
-        let numbers: Vec<u64> = (first..first + count).collect();
-        let requests = Requests::new(Kind::Register, &numbers);
-        thread::sleep(
-            (start + Duration::from_millis(tick)).saturating_duration_since(Instant::now()),
-        );
-        let sent = Instant::now();
-        client.ask(&requests, numbers.len())?;
-        if tick % SAMPLED == 0 {
-            sender.send(Registered {
-                number: first + count - 1,
-                sent,
-                answered: Instant::now(),
-            })?;
-        }
-    }
-    let taken = start.elapsed().as_secs_f64();
-    drop(sender);
-    let times = waiting.join().map_err(|_| "no times")??;
-    end_step(((ticks * count) as f64 / taken) as u64)?;
-    end_step(times[0].len() as u64)?;
-    for each in &times {
-        for part in [50, 99, 100] {
-            end_step(time_at(each, part))?;
+            end_step(crowd.time_at(part))?;
         }
     }
     Ok(())
@@ -489,9 +394,6 @@ fn run(program: &str, numbers: &[u64]) -> Result<(), Box<dyn Error>> {
             connections,
             together as usize,
         ),
-        ("lag", &[port, reader, names, per_second, seconds]) => {
-            lag(port as usize, reader as usize, names, per_second, seconds)
-        }
         _ => Err(USAGE.into()),
     }
 }

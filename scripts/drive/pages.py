@@ -39,8 +39,7 @@ PRINTED = {"40", "epoch", "evidence", "kept", "known", "listening", "promise", "
 TOOLS = "haproxy", "ldd", "socat"
 NOT_RUN = {
     r"\brt (run|ci)\b|^\.ci/|^bench/": "proves or measures for minutes",
-    r"^ *(scp|ssh|git clone)\b": "needs another machine",
-    r"_redis\.py": "needs a running Redis",
+    r"^(scp|ssh|git clone)\b": "needs another machine",
     r"^(useradd|runuser)|-[go] directoryd": "needs a user directoryd",
     r"^(systemctl|loginctl)": "needs a running systemd",
     r"HOST:PORT|NAME KEY|^@reboot": "scripts/drive/watching.py runs it",
@@ -72,8 +71,6 @@ BEFORE = {
         cp crates/directoryd/out/directoryd /usr/local/bin/
         cp keys/operator keys/provider keys/server /etc/directoryd/""",
     ("Install it", "install -m 755"): "cp crates/directoryd/out/directoryd .",
-    ("Copies and readers", "--copy keys/copy "): "kill $server; wait $server",
-    ("Hand over", "--copy keys/copy.new "): "kill $server; wait $server",
     ("After a crash, a move or a restore", "cp "): "cp keys/journal /var/lib/directoryd/",
     ("Upgrade it", "systemctl stop directoryd-close"): "cp directoryd directoryd.new; cp keys/journal /var/lib/directoryd/",
     ("Lost keys", "-j 42"): "kill $server; wait $server\n{listen}",

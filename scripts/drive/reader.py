@@ -17,7 +17,7 @@ import time
 SECONDS = 90
 ROOT = pathlib.Path(__file__).resolve().parents[2]
 README, OPERATING = ROOT / "README.md", ROOT / "docs/OPERATING.md"
-PORTS = "7000", "7001", "7002", "7003", "7004", "7011", "7012", "7443", "7444"
+PORTS = "7000", "7001", "7002", "7003", "7004", "7443"
 # `rt try -- WORD..` in the folder of a crate: its built program, or what an example is stored to print.
 TRY = """#!/bin/sh
 crate=out/${PWD##*/}

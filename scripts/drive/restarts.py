@@ -72,18 +72,15 @@ def salts_of(records):
 
 
 class Server:
-    """A server on a journal, with these options. `line` is what it says of the journal."""
+    """A server on a journal. `line` is what it says of the journal."""
 
-    OPTION = "--journal"
-
-    def __init__(self, program, journal, *options, **how):
-        words = [program, "listen", *keys().split(), self.OPTION, journal, *options, "127.0.0.1:0"]
+    def __init__(self, program, journal, **how):
+        words = [program, "listen", *keys().split(), "--journal", journal, "127.0.0.1:0"]
         pipes = {"stderr": subprocess.PIPE, "stdout": subprocess.DEVNULL}
         self.journal = journal
         self.process = subprocess.Popen(words, text=True, restore_signals=False, **pipes, **how)
         self.line = self.process.stderr.readline().strip()
-        told = self.process.stderr.readline()
-        self.address = told.removeprefix("listening on ").strip() if told.startswith("listening on ") else ""
+        self.address = self.process.stderr.readline().removeprefix("listening on ").strip()
 
     def stop(self):
         """What it said on standard error since it listened."""
@@ -448,11 +445,6 @@ class Log:
         with open(self.path) as file:
             words = [[*line.rstrip("\n").split(" ", 3), ""] for line in file]
         return [Call(name, int(descriptor), int(result) >= 0, path) for name, descriptor, result, path, *_ in words]
-
-    def results(self):
-        """What each call so far returned."""
-        with open(self.path) as file:
-            return [int(line.split(" ", 3)[2]) for line in file]
 
     def count(self, name):
         return sum(call.name == name for call in self.calls())

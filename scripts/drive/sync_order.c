@@ -2,8 +2,7 @@
 // hand bytes to a file or to a connection, put them on a disk, or rename a file: a line each on the descriptor SYNC_LOG,
 // with the call, its descriptor, what it returned, and the path of the descriptor; of a rename the new path, and -1 for
 // the descriptor. The fdatasync of number FAIL_SYNC, counted from 1, does nothing and fails, and so does the ftruncate of
-// number FAIL_CUT. A write to the file of path FAIL_WRITE writes half and then fails, from the write of number FAIL_FROM
-// to it on. Each fdatasync first waits SLOW_SYNC milliseconds. What is used of the C library is declared here, so
+// number FAIL_CUT. Each fdatasync first waits SLOW_SYNC milliseconds. What is used of the C library is declared here, so
 // that no header is needed.
 
 void *dlsym(void *handle, const char *name);
@@ -12,17 +11,14 @@ unsigned long strtoul(const char *text, char **end, int base);
 int dprintf(int descriptor, const char *format, ...);
 int snprintf(char *text, unsigned long room, const char *format, ...);
 long readlink(const char *path, char *text, unsigned long room);
-int strcmp(const char *one, const char *other);
 int usleep(unsigned int microseconds);
 int *__errno_location(void);
 
 #define NEXT ((void *)-1)
 #define EIO 5
-#define ENOSPC 28
 
 static int log_to = -1;
-static unsigned long syncs, failing_sync, cuts, failing_cut, writes, failing_write;
-static const char *failing_path;
+static unsigned long syncs, failing_sync, cuts, failing_cut;
 static unsigned int slow_sync;
 
 static unsigned long number_in(const char *variable) {
@@ -35,45 +31,22 @@ __attribute__((constructor)) static void begin(void) {
     log_to = text ? (int)strtoul(text, 0, 10) : -1;
     failing_sync = number_in("FAIL_SYNC");
     failing_cut = number_in("FAIL_CUT");
-    failing_write = number_in("FAIL_FROM");
-    failing_path = getenv("FAIL_WRITE");
     slow_sync = (unsigned int)number_in("SLOW_SYNC");
-}
-
-static long path_of(int descriptor, char *path, unsigned long room) {
-    char own[64];
-    snprintf(own, sizeof own, "/proc/self/fd/%d", descriptor);
-    return readlink(own, path, room);
 }
 
 // The call is over, so `errno` is its own again once the line is written.
 static long logged(const char *name, int descriptor, long result) {
     int error = *__errno_location();
-    char path[1024];
-    long size = path_of(descriptor, path, sizeof path);
+    char own[64], path[1024];
+    snprintf(own, sizeof own, "/proc/self/fd/%d", descriptor);
+    long size = readlink(own, path, sizeof path);
     dprintf(log_to, "%s %d %ld %.*s\n", name, descriptor, result, size < 0 ? 0 : (int)size, path);
     *__errno_location() = error;
     return result;
 }
 
-// Whether a write to a descriptor fails.
-static int fails(int descriptor) {
-    char path[1024];
-    long size = failing_path ? path_of(descriptor, path, sizeof path - 1) : -1;
-    if (size < 0)
-        return 0;
-    path[size] = 0;
-    return strcmp(path, failing_path) == 0 && ++writes >= failing_write;
-}
-
 long write(int descriptor, const void *bytes, unsigned long size) {
     long (*next)(int, const void *, unsigned long) = dlsym(NEXT, "write");
-    if (fails(descriptor)) {
-        if (size > 1)
-            return logged("write", descriptor, next(descriptor, bytes, size / 2));
-        *__errno_location() = ENOSPC;
-        return logged("write", descriptor, -1);
-    }
     return logged("write", descriptor, next(descriptor, bytes, size));
 }
 

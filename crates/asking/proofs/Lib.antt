@@ -11,6 +11,7 @@ pub mod Handed
 pub mod Heard
 pub mod HonestRoots
 pub mod Joined
+pub mod Parts
 pub mod Listed
 pub mod Outcomes
 pub mod Placed

@@ -1,16 +1,8 @@
 -- Whether each record was kept, as a keeper: what is told of a run where no keeper is seen. And a keeper that
--- keeps nothing, and never fails, or always.
+-- keeps nothing.
 use Rattle.std.specs.Prelude.{◌≡◌, Bool, true, false, List, ◌∷◌, ⊤}
 use Rattle.book.specs.declared.keeper.NoKeeper.{NoKeeper}
-use Rattle.book.specs.declared.keeper.NoRecord.{NoRecord}
 use Rattle.book.specs.declared.record.Record.{Record}
-
--- a keeper that always fails keeps no record, and stays
-abbrev pub KeepsNone : NoRecord → Record → NoRecord → Type 0
-KeepsNone before what after = ⊥
-
-abbrev pub AlwaysFails : NoRecord → Record → NoRecord → Type 0
-AlwaysFails before what after = after ≡ before
 
 -- the next record is kept
 abbrev pub keeps_next : List Bool → Record → List Bool → Type 0

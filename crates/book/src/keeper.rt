@@ -36,22 +36,6 @@ pub trait Keeper {
         ensures { MatchResult result (λ _. kept self.old what.now self.new) (λ _. failed self.old what.now self.new) };
 }
 
-/// Keeps nothing, and always fails: what has it makes no change.
-#[derive(Debug, Drop)]
-pub struct NoRecord;
-
-impl Keeper for NoRecord {
-    ghost use Rattle.std.specs.Prelude.{◌≡◌};
-
-    ghost kept = { λ before what after. ⊥ };
-
-    ghost failed = { λ before what after. after ≡ before };
-
-    fn keep(&mut self, _what: &Record) -> Result<(), KeepFailed> {
-        Err(KeepFailed)
-    }
-}
-
 /// Keeps nothing, and never fails.
 #[derive(Debug, Drop)]
 pub struct NoKeeper;

@@ -21,6 +21,6 @@ mod record;
 mod reply;
 
 pub use directory_refusal::Refusal;
-pub use keeper::{KeepFailed, Keeper, NoKeeper, NoRecord};
+pub use keeper::{KeepFailed, Keeper, NoKeeper};
 pub use record::Record;
 pub use reply::Reply;

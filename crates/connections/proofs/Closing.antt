@@ -125,18 +125,18 @@ gone_on : (fault : SessionFault) → (of : Course) × (went_on (Refuses fault) j
 gone_on session.Memory = (_, refl)
 gone_on session.Refused = (_, refl)
 
-module _ {S : Type 0} (opens : S → ℕ → S → Type 0) (refuses : S → ℕ → SessionFault → Type 0) (hears : S → ℕ → List ℕ → List ℕ → S → Type 0) (misses : S → ℕ → List ℕ → SessionFault → S → Type 0) (ends : S → ℕ → S → Type 0) (begins : S → S → Type 0) {C : Type 0} (has : C → History → Type 0) where
+module _ {S : Type 0} (opens : S → ℕ → S → Type 0) (refuses : S → ℕ → SessionFault → Type 0) (hears : S → ℕ → List ℕ → List ℕ → S → Type 0) (misses : S → ℕ → List ℕ → SessionFault → S → Type 0) (ends : S → ℕ → S → Type 0) {C : Type 0} (has : C → History → Type 0) where
   -- ---- the end of a connection
 
   -- a connection is closed, once these are the sessions
   abbrev pub ClosesBy : ℕ → Ending → C → S → C → Type 0
-  ClosesBy place why connections sessions connections_new = (start : S) (acts : History) → Leads opens refuses hears misses ends begins start acts sessions → has connections acts → has connections_new (On place (Closes why) ∷ acts)
+  ClosesBy place why connections sessions connections_new = (start : S) (acts : History) → Leads opens refuses hears misses ends start acts sessions → has connections acts → has connections_new (On place (Closes why) ∷ acts)
 
   -- a connection is closed, whose session is ended before
   abbrev pub ClosesAt : ℕ → Ending → C → S → C → S → Type 0
-  ClosesAt place why connections old connections_new new = (idle : ℕ) (start : S) (acts : History) → Has opens refuses hears misses ends begins has idle start connections old acts
+  ClosesAt place why connections old connections_new new = (idle : ℕ) (start : S) (acts : History) → Has opens refuses hears misses ends has idle start connections old acts
       → Here (course acts place) (λ of. (of.is_open ≡ true) × MayBeClosed idle acts place why of)
-      → (after : History) × Stays place 0 0 (lost_by why) acts after × Has opens refuses hears misses ends begins has idle start connections_new new after × (course after place ≡ None) × (was_busy after ≡ true)
+      → (after : History) × Stays place 0 0 (lost_by why) acts after × Has opens refuses hears misses ends has idle start connections_new new after × (course after place ≡ None) × (was_busy after ≡ true)
 
   pub closed : (place : ℕ) (why : Ending) (connections connections_new : C) (old new : S) → ends old place new
       → Passes has → ClosesBy place why connections new connections_new → ClosesAt place why connections old connections_new new
@@ -158,14 +158,14 @@ module _ {S : Type 0} (opens : S → ℕ → S → Type 0) (refuses : S → ℕ 
 
   -- ---- the beginning of one
 
-  module _ (idle : ℕ) (start : S) (acts : History) (place : ℕ) (connections connections_taken : C) (old : S) (known : Has opens refuses hears misses ends begins has idle start connections old acts)
+  module _ (idle : ℕ) (start : S) (acts : History) (place : ℕ) (connections connections_taken : C) (old : S) (known : Has opens refuses hears misses ends has idle start connections old acts)
       (hearing : IsHearing acts) (free : course acts place ≡ None) (unread : IsUnread place acts)
       (passes : Passes has) (step : has connections acts → has connections_taken (On place Comes ∷ acts)) where
     there : course (On place Comes ∷ acts) place ≡ Some just_taken
     there = here_one place Comes acts ∙ ap (done_at Comes) free
 
     pub opened : (wanting : ℕ) (new : S) → opens old place new
-        → (after : History) × Stays place 1 wanting wanting acts after × Has opens refuses hears misses ends begins has idle start connections_taken new after × Here (course after place) (KeepsCourse [] [] None false) × IsUsed after place × IsUnread place after × (was_busy after ≡ true)
+        → (after : History) × Stays place 1 wanting wanting acts after × Has opens refuses hears misses ends has idle start connections_taken new after × Here (course after place) (KeepsCourse [] [] None false) × IsUsed after place × IsUnread place after × (was_busy after ≡ true)
     opened wanting new does =
         let due : IsDue idle (On place Comes ∷ acts) place Opens (course (On place Comes ∷ acts) place) =
         here_at (course (On place Comes ∷ acts) place) just_taken IsNew there refl in (
@@ -181,12 +181,12 @@ module _ {S : Type 0} (opens : S → ℕ → S → Type 0) (refuses : S → ℕ 
         )
 
     pub refused : (fault : SessionFault) (wanting wanting_new : ℕ) → wanting_new ≡ wanting + lost_by (ending_of fault) → refuses old place fault → (new : S) → new ≡ old → (connections_new : C) → ClosesBy place (ending_of fault) connections_taken new connections_new
-        → (after : History) × Stays place 1 wanting wanting_new acts after × Has opens refuses hears misses ends begins has idle start connections_new new after × (course after place ≡ None) × IsUsed after place × IsUnread place after × (was_busy after ≡ true)
+        → (after : History) × Stays place 1 wanting wanting_new acts after × Has opens refuses hears misses ends has idle start connections_new new after × (course after place ≡ None) × IsUsed after place × IsUnread place after × (was_busy after ≡ true)
     refused fault wanting wanting_new more refusing new same connections_new close =
         let came : History = On place Comes ∷ acts in
         let shut : History = On place (Refuses fault) ∷ came in
         let why : Ending = ending_of fault in
-        let leads : Leads opens refuses hears misses ends begins start shut new = subst (Leads opens refuses hears misses ends begins start shut) (sym same) (known.1, refusing) in
+        let leads : Leads opens refuses hears misses ends start shut new = subst (Leads opens refuses hears misses ends start shut) (sym same) (known.1, refusing) in
         let due : IsDue idle came place (Refuses fault) (course came place) =
         here_at (course came place) just_taken IsNew there refl in
         let on = gone_on fault in

@@ -79,12 +79,12 @@ or_full : (over : Bool) (acts : History) (place : ℕ) (output : List ℕ) → (
 or_full over acts place output (inl gone) = inl gone
 or_full over acts place output (inr more) = inr (inr more)
 
-module _ {S : Type 0} (opens : S → ℕ → S → Type 0) (refuses : S → ℕ → SessionFault → Type 0) (hears : S → ℕ → List ℕ → List ℕ → S → Type 0) (misses : S → ℕ → List ℕ → SessionFault → S → Type 0) (ends : S → ℕ → S → Type 0) (begins : S → S → Type 0) where
+module _ {S : Type 0} (opens : S → ℕ → S → Type 0) (refuses : S → ℕ → SessionFault → Type 0) (hears : S → ℕ → List ℕ → List ℕ → S → Type 0) (misses : S → ℕ → List ℕ → SessionFault → S → Type 0) (ends : S → ℕ → S → Type 0) where
   -- a part more is heard
   pub hears_more : (place : ℕ) (old : S) (input output : List ℕ) (heard : ℕ) (middle : S) (output_then : List ℕ) (count : ℕ) (new : S) (output_new : List ℕ)
-      → HearsFrom opens refuses hears misses ends begins place old input output (Ok heard) middle output_then
-      → HearsFrom opens refuses hears misses ends begins place middle (drop heard input) output_then (Ok count) new output_new
-      → HearsFrom opens refuses hears misses ends begins place old input output (Ok (heard + count)) new output_new
+      → HearsFrom opens refuses hears misses ends place old input output (Ok heard) middle output_then
+      → HearsFrom opens refuses hears misses ends place middle (drop heard input) output_then (Ok count) new output_new
+      → HearsFrom opens refuses hears misses ends place old input output (Ok (heard + count)) new output_new
   hears_more place old input output heard middle output_then count new output_new one two = (
     more_few heard count input one.0 two.0,
     λ since over idle start acts held hearing here.
@@ -95,9 +95,9 @@ module _ {S : Type 0} (opens : S → ℕ → S → Type 0) (refuses : S → ℕ 
 
   -- memory is wanting for one more
   pub hears_stop : (place : ℕ) (old : S) (input output : List ℕ) (heard : ℕ) (middle : S) (output_then : List ℕ) (why : Ending) (new : S) (output_new output_last : List ℕ)
-      → HearsFrom opens refuses hears misses ends begins place old input output (Ok heard) middle output_then
-      → HearsFrom opens refuses hears misses ends begins place middle (drop heard input) output_then (Err why) new output_new
-      → HearsFrom opens refuses hears misses ends begins place old input output (Err why) new output_last
+      → HearsFrom opens refuses hears misses ends place old input output (Ok heard) middle output_then
+      → HearsFrom opens refuses hears misses ends place middle (drop heard input) output_then (Err why) new output_new
+      → HearsFrom opens refuses hears misses ends place old input output (Err why) new output_last
   hears_stop place old input output heard middle output_then why new output_new output_last one two = (
     tt,
     λ since over idle start acts held hearing here.
@@ -108,8 +108,8 @@ module _ {S : Type 0} (opens : S → ℕ → S → Type 0) (refuses : S → ℕ 
 
   -- what is left cannot be kept
   pub heard_lost : {X : Type 0} (test : X → Bool) (place : ℕ) (old : S) (input output : List ℕ) (since : Option ℕ) (over : Bool) (count : ℕ) (new : S) (output_new : List ℕ) (Then : X → Course → Type 0)
-      → HearsFrom opens refuses hears misses ends begins place old input output (Ok count) new output_new → drop count input ≢ [] → FULL_OUTPUT < length output_new
-      → Hearkens opens refuses hears misses ends begins {X = X} test place old (KeepsCourse input output since over) (Err Memory) new Then
+      → HearsFrom opens refuses hears misses ends place old input output (Ok count) new output_new → drop count input ≢ [] → FULL_OUTPUT < length output_new
+      → Hearkens opens refuses hears misses ends {X = X} test place old (KeepsCourse input output since over) (Err Memory) new Then
   heard_lost test place old input output since over count new output_new Then one some full = λ idle start acts held hearing here.
       let a = one.1 since over idle start acts held hearing here in
       let next = next_lack idle a.0 place (drop count input) output_new since over (still_hearing place 0 0 0 acts a.0 a.1 hearing) some full a.4 in (
@@ -122,8 +122,8 @@ module _ {S : Type 0} (opens : S → ℕ → S → Type 0) (refuses : S → ℕ 
       )
 
   -- what happens to a connection alone leaves the sessions
-  leads_deed : (start : S) (acts : History) (sessions : S) (place : ℕ) (deed : Deed) → IsOfConnection deed → Leads opens refuses hears misses ends begins start acts sessions
-      → Leads opens refuses hears misses ends begins start (On place deed ∷ acts) sessions
+  leads_deed : (start : S) (acts : History) (sessions : S) (place : ℕ) (deed : Deed) → IsOfConnection deed → Leads opens refuses hears misses ends start acts sessions
+      → Leads opens refuses hears misses ends start (On place deed ∷ acts) sessions
   leads_deed start acts sessions place Comes is leads = absurd is
   leads_deed start acts sessions place Opens is leads = absurd is
   leads_deed start acts sessions place (Refuses why) is leads = absurd is
@@ -139,20 +139,20 @@ module _ {S : Type 0} (opens : S → ℕ → S → Type 0) (refuses : S → ℕ 
   leads_deed start acts sessions place Ends is leads = absurd is
   leads_deed start acts sessions place (Closes why) is leads = absurd is
 
-  pub leads_adds : (start : S) (acts after : History) (sessions : S) (place : ℕ) → Adds place acts after → Leads opens refuses hears misses ends begins start acts sessions
-      → Leads opens refuses hears misses ends begins start after sessions
-  leads_adds start acts after sessions place (inl same) leads = subst (λ (h : History). Leads opens refuses hears misses ends begins start h sessions) (sym same) leads
+  pub leads_adds : (start : S) (acts after : History) (sessions : S) (place : ℕ) → Adds place acts after → Leads opens refuses hears misses ends start acts sessions
+      → Leads opens refuses hears misses ends start after sessions
+  leads_adds start acts after sessions place (inl same) leads = subst (λ (h : History). Leads opens refuses hears misses ends start h sessions) (sym same) leads
   leads_adds start acts after sessions place (inr (deed, is, same)) leads =
-      subst (λ (h : History). Leads opens refuses hears misses ends begins start h sessions) (sym same) (leads_deed start acts sessions place deed is leads)
+      subst (λ (h : History). Leads opens refuses hears misses ends start h sessions) (sym same) (leads_deed start acts sessions place deed is leads)
 
   module _ {C : Type 0} (has : C → History → Type 0) (passes : Passes has) where
     -- what happened to the session alone
     pub attends_last : (place : ℕ) (connections : C) (old : S) (talk : Talk) (result : Result Bool Ending) (new : S) (talk_new : Talk)
-        → Hearkens opens refuses hears misses ends begins {X = Bool} (λ done. done) place old (KeepsTalk talk) result new (λ _. KeepsTalk talk_new)
+        → Hearkens opens refuses hears misses ends {X = Bool} (λ done. done) place old (KeepsTalk talk) result new (λ _. KeepsTalk talk_new)
         → IfOk result (λ done. (talk_new.input.items ≡ []) ⊎ (FULL_OUTPUT < length talk_new.output.items))
         → (result ≡ Ok false → (talk_new ≡ talk) × (new ≡ old))
         → ¬ ((talk.input.items ≡ []) × (talk.is_over ≡ false) × (length talk.output.items ≤ FULL_OUTPUT))
-        → Attends opens refuses hears misses ends begins has place connections old talk result connections new talk_new
+        → Attends opens refuses hears misses ends has place connections old talk result connections new talk_new
     attends_last place connections old talk (Err why) new talk_new two all same busy = λ idle start acts known hearing unread here.
         let b = two idle start acts (known.1, known.2) hearing here in
         (b.0, b.1, (passes_all has passes connections acts b.0 b.2 known.0, b.3.0, b.3.1), b.4, tt)
@@ -171,7 +171,7 @@ module _ {S : Type 0} (opens : S → ℕ → S → Type 0) (refuses : S → ℕ 
         let kept : Here (course acts place) (KeepsTalk talk_new) = subst (λ (t : Talk). Here (course acts place) (KeepsTalk t)) (sym (same refl).0) here in (
           acts,
           stays_none place 0 acts,
-          subst (λ (s : S). Has opens refuses hears misses ends begins has idle start connections s acts) (sym (same refl).1) known,
+          subst (λ (s : S). Has opens refuses hears misses ends has idle start connections s acts) (sym (same refl).1) known,
           kept,
           (
             attended (course acts place) acts place talk_new.input.items talk_new.output.items talk_new.idle_since talk_new.is_over all
@@ -188,13 +188,13 @@ module _ {S : Type 0} (opens : S → ℕ → S → Type 0) (refuses : S → ℕ 
     -- what happened to the connection, and then to its session
     pub attends_both : (place : ℕ) (connections : C) (old : S) (talk : Talk) (connections_new : C) (Kept : Course → Type 0) (new : S) (talk_new : Talk)
         → ReadsFirst place connections talk connections_new (Ok true) Kept
-        → Hearkens opens refuses hears misses ends begins {X = Unit {0}} (λ _. true) place old Kept (Ok tt) new (λ _. KeepsTalk talk_new)
+        → Hearkens opens refuses hears misses ends {X = Unit {0}} (λ _. true) place old Kept (Ok tt) new (λ _. KeepsTalk talk_new)
         → (talk_new.input.items ≡ []) ⊎ (FULL_OUTPUT < length talk_new.output.items)
-        → Attends opens refuses hears misses ends begins has place connections old talk (Ok true) connections_new new talk_new
+        → Attends opens refuses hears misses ends has place connections old talk (Ok true) connections_new new talk_new
     attends_both place connections old talk connections_new Kept new talk_new one two all = λ idle start acts known hearing unread here.
         let a = one idle acts (known.0, known.2) hearing unread here in
         let stays : Stays place 0 0 0 acts a.0 = stays_adds place 0 acts a.0 a.1 in
-        let leads : Leads opens refuses hears misses ends begins start a.0 old = leads_adds start acts a.0 old place a.1 known.1 in
+        let leads : Leads opens refuses hears misses ends start a.0 old = leads_adds start acts a.0 old place a.1 known.1 in
         let b = two idle start a.0 (leads, a.2.1) (still_hearing place 0 0 0 acts a.0 stays hearing) a.3 in
         let asked : InRound gives_turn b.0 place = b.1.lasts.turns gives_turn place a.4.0 in (
           b.0,
@@ -206,12 +206,12 @@ module _ {S : Type 0} (opens : S → ℕ → S → Type 0) (refuses : S → ℕ 
 
     pub attends_stop : (place : ℕ) (connections : C) (old : S) (talk : Talk) (connections_new : C) (Kept : Course → Type 0) (why : Ending) (new : S) (talk_new : Talk)
         → ReadsFirst place connections talk connections_new (Ok true) Kept
-        → Hearkens opens refuses hears misses ends begins {X = Unit {0}} (λ _. true) place old Kept (Err why) new (λ _. KeepsTalk talk_new)
-        → Attends opens refuses hears misses ends begins has place connections old talk (Err why) connections_new new talk_new
+        → Hearkens opens refuses hears misses ends {X = Unit {0}} (λ _. true) place old Kept (Err why) new (λ _. KeepsTalk talk_new)
+        → Attends opens refuses hears misses ends has place connections old talk (Err why) connections_new new talk_new
     attends_stop place connections old talk connections_new Kept why new talk_new one two = λ idle start acts known hearing unread here.
         let a = one idle acts (known.0, known.2) hearing unread here in
         let stays : Stays place 0 0 0 acts a.0 = stays_adds place 0 acts a.0 a.1 in
-        let leads : Leads opens refuses hears misses ends begins start a.0 old = leads_adds start acts a.0 old place a.1 known.1 in
+        let leads : Leads opens refuses hears misses ends start a.0 old = leads_adds start acts a.0 old place a.1 known.1 in
         let b = two idle start a.0 (leads, a.2.1) (still_hearing place 0 0 0 acts a.0 stays hearing) a.3 in
         (b.0, stays_both place 0 0 0 0 0 acts a.0 b.0 stays b.1, (passes_all has passes connections_new a.0 b.0 b.2 a.2.0, b.3.0, b.3.1), b.4, tt)
 
@@ -219,7 +219,7 @@ module _ {S : Type 0} (opens : S → ℕ → S → Type 0) (refuses : S → ℕ 
     pub attends_first : (place : ℕ) (connections : C) (old : S) (talk : Talk) (connections_new : C) (result : Result Bool Ending) (talk_new : Talk)
         → ReadsFirst place connections talk connections_new result (KeepsTalk talk_new)
         → IfOk result (λ done. talk_new.input.items ≡ [])
-        → Attends opens refuses hears misses ends begins has place connections old talk result connections_new old talk_new
+        → Attends opens refuses hears misses ends has place connections old talk result connections_new old talk_new
     attends_first place connections old talk connections_new (Err why) talk_new one none = λ idle start acts known hearing unread here.
         let a = one idle acts (known.0, known.2) hearing unread here in
         (a.0, stays_adds place 0 acts a.0 a.1, (a.2.0, leads_adds start acts a.0 old place a.1 known.1, a.2.1), a.3, tt)

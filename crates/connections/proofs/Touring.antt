@@ -357,7 +357,7 @@ begun acts pause now after places (inl same) fit = subst (λ (h : History). Begi
 begun acts pause now after places (inr (inl same)) fit = subst (λ (h : History). Begins now acts h × FitAll places h) (sym same) (begins_ordered acts pause now, fit)
 begun acts pause now after places (inr (inr same)) fit = subst (λ (h : History). Begins now acts h × FitAll places h) (sym same) (begins_on acts pause now, fit)
 
-module _ {S : Type 0} (opens : S → ℕ → S → Type 0) (refuses : S → ℕ → SessionFault → Type 0) (hears : S → ℕ → List ℕ → List ℕ → S → Type 0) (misses : S → ℕ → List ℕ → SessionFault → S → Type 0) (ends : S → ℕ → S → Type 0) (begins : S → S → Type 0) where
+module _ {S : Type 0} (opens : S → ℕ → S → Type 0) (refuses : S → ℕ → SessionFault → Type 0) (hears : S → ℕ → List ℕ → List ℕ → S → Type 0) (misses : S → ℕ → List ℕ → SessionFault → S → Type 0) (ends : S → ℕ → S → Type 0) where
   module _ {C : Type 0} (has : C → History → Type 0) where
     -- ---- places, one after another
 
@@ -366,9 +366,9 @@ module _ {S : Type 0} (opens : S → ℕ → S → Type 0) (refuses : S → ℕ 
       pub toured : (left middle left_new came wanting wanting_then wanting_new place : ℕ) (Ready ReadyThere Before There After : History → Type 0) (connections between connections_new : C) (old new latest : S)
           (places places_new : List (Option Talk)) (item slot : Option Talk) → middle ≡ left_new + came → place < length places_new → length places_new ≡ length places → item ≡ get_or places_new place item
           → ((acts : History) → Before acts → ReadyThere acts) → ((before after : History) → Stays place came wanting_then wanting_new before after → Before before → There after → After after)
-          → Tours opens refuses hears misses ends begins has when idle now stop left middle wanting wanting_then Ready Before connections old places between new places_new
-          → ServesPlace opens refuses hears misses ends begins has when idle now stop place came wanting_then wanting_new ReadyThere There between new (get_or places_new place item) connections_new latest slot
-          → Tours opens refuses hears misses ends begins has when idle now stop left left_new wanting wanting_new Ready After connections old places connections_new latest (set places_new place slot)
+          → Tours opens refuses hears misses ends has when idle now stop left middle wanting wanting_then Ready Before connections old places between new places_new
+          → ServesPlace opens refuses hears misses ends has when idle now stop place came wanting_then wanting_new ReadyThere There between new (get_or places_new place item) connections_new latest slot
+          → Tours opens refuses hears misses ends has when idle now stop left left_new wanting wanting_new Ready After connections old places connections_new latest (set places_new place slot)
       toured left middle left_new came wanting wanting_then wanting_new place Ready ReadyThere Before There After connections between connections_new old new latest places places_new item slot fewer inside same_size is ready leads tours serves =
           λ start acts known at time order is_ready fit.
           let a = tours start acts known at time order is_ready fit in
@@ -397,14 +397,14 @@ module _ {S : Type 0} (opens : S → ℕ → S → Type 0) (refuses : S → ℕ 
       -- the same tour, of which less or other things are said
       pub toured_so : (left left_new wanting wanting_new : ℕ) (Ready Before After : History → Type 0) (connections connections_new : C) (old new : S) (places places_new : List (Option Talk))
           → ((acts : History) → FitAll places_new acts → Before acts → After acts)
-          → Tours opens refuses hears misses ends begins has when idle now stop left left_new wanting wanting_new Ready Before connections old places connections_new new places_new
-          → Tours opens refuses hears misses ends begins has when idle now stop left left_new wanting wanting_new Ready After connections old places connections_new new places_new
+          → Tours opens refuses hears misses ends has when idle now stop left left_new wanting wanting_new Ready Before connections old places connections_new new places_new
+          → Tours opens refuses hears misses ends has when idle now stop left left_new wanting wanting_new Ready After connections old places connections_new new places_new
       toured_so left left_new wanting wanting_new Ready Before After connections connections_new old new places places_new so tours = λ start acts known at time order ready fit.
           let a = tours start acts known at time order ready fit in (a.0, a.1, a.2, a.3, so a.0 a.3 a.4)
 
       -- no place yet
       pub toured_none : (left wanting : ℕ) (Ready None_yet : History → Type 0) (connections : C) (old : S) (places : List (Option Talk)) → ((acts : History) → Ready acts → None_yet acts)
-          → Tours opens refuses hears misses ends begins has when idle now stop left left wanting wanting Ready None_yet connections old places connections old places
+          → Tours opens refuses hears misses ends has when idle now stop left left wanting wanting Ready None_yet connections old places connections old places
       toured_none left wanting Ready None_yet connections old places so = λ start acts known at time order ready fit. (
         acts,
         record { same_clock = refl; same_stage = refl; same_stop = refl; same_rounds = refl; lasts = lasts_none acts; fewer_left = refl; more_lost = refl; inside = λ all. all },
@@ -415,18 +415,18 @@ module _ {S : Type 0} (opens : S → ℕ → S → Type 0) (refuses : S → ℕ 
 
     -- ---- the parts of a round
 
-    pub one_round : (idle now left left_new pause none one two last longest pause_told : ℕ) (stop stop_new : Option ℕ) (kept busy_taken busy_heard busy_told : Bool) (connections waited taken heard synced told : C) (old here took hearing new : S)
+    pub one_round : (idle now left left_new pause none one two last longest pause_told : ℕ) (stop stop_new : Option ℕ) (kept busy_taken busy_heard busy_told : Bool) (connections waited taken heard synced told : C) (old took hearing new : S)
         (places rested places_taken places_heard places_told : List (Option Talk)) → length rested ≡ length places → length places_taken ≡ length rested → length places_heard ≡ length places_taken → length places_told ≡ length places_heard → none ≡ 0 → longest ≡ LONGEST_WAIT
-        → ((start : S) (acts : History) → Has opens refuses hears misses ends begins has idle start connections old acts → stopped acts ≡ stop → FitAll places acts → IsPause idle acts pause
-        → (after : History) × Has opens refuses hears misses ends begins has idle start waited here after × Begins now acts after × FitAll rested after × (stopped after ≡ stop_new) × (IsStopped after ⊎ NoneOrdered after))
-        → Tours opens refuses hears misses ends begins has Hearing idle now stop_new left left_new none one (λ before. AreUnread before × IsKnownBusy false before) (λ after. (IsStopped after ⊎ (left_new ≡ 0) ⊎ NoneWaited after ⊎ AreUsed (length rested) after) × AreUnread after × IsKnownBusy busy_taken after) waited here rested taken took places_taken
-        → Tours opens refuses hears misses ends begins has Hearing idle now stop_new 0 0 one two (λ before. AreUnread before × IsKnownBusy busy_taken before) (λ after. (IsStopped after ⊎ AreAttended after) × IsKnownBusy busy_heard after) taken took places_taken heard hearing places_heard
-        → ((start : S) (acts : History) → Leads opens refuses hears misses ends begins start acts hearing → has heard acts → has synced (Syncs kept ∷ acts))
-        → Tours opens refuses hears misses ends begins has (Telling kept) idle now stop_new 0 0 two last (IsKnownBusy busy_heard) (λ after. AreServed idle after × KnowsPause idle (length places_heard) longest busy_told pause_told after) synced hearing places_heard told new places_told
-        → Turns opens refuses hears misses ends begins has idle stop left pause connections old places stop_new left_new (pause_of busy_told pause_told) last kept told new places_told
-    one_round idle now left left_new pause none one two last longest pause_told stop stop_new kept busy_taken busy_heard busy_told connections waited taken heard synced told old here took hearing new places rested places_taken places_heard places_told size_r size_t size_h size_w no_loss most begins_round takes hears_all syncs tells =
+        → ((start : S) (acts : History) → Has opens refuses hears misses ends has idle start connections old acts → stopped acts ≡ stop → FitAll places acts → IsPause idle acts pause
+        → (after : History) × Has opens refuses hears misses ends has idle start waited old after × Begins now acts after × FitAll rested after × (stopped after ≡ stop_new) × (IsStopped after ⊎ NoneOrdered after))
+        → Tours opens refuses hears misses ends has Hearing idle now stop_new left left_new none one (λ before. AreUnread before × IsKnownBusy false before) (λ after. (IsStopped after ⊎ (left_new ≡ 0) ⊎ NoneWaited after ⊎ AreUsed (length rested) after) × AreUnread after × IsKnownBusy busy_taken after) waited old rested taken took places_taken
+        → Tours opens refuses hears misses ends has Hearing idle now stop_new 0 0 one two (λ before. AreUnread before × IsKnownBusy busy_taken before) (λ after. (IsStopped after ⊎ AreAttended after) × IsKnownBusy busy_heard after) taken took places_taken heard hearing places_heard
+        → ((start : S) (acts : History) → Leads opens refuses hears misses ends start acts hearing → has heard acts → has synced (Syncs kept ∷ acts))
+        → Tours opens refuses hears misses ends has (Telling kept) idle now stop_new 0 0 two last (IsKnownBusy busy_heard) (λ after. AreServed idle after × KnowsPause idle (length places_heard) longest busy_told pause_told after) synced hearing places_heard told new places_told
+        → Turns opens refuses hears misses ends has idle stop left pause connections old places stop_new left_new (pause_of busy_told pause_told) last kept told new places_told
+    one_round idle now left left_new pause none one two last longest pause_told stop stop_new kept busy_taken busy_heard busy_told connections waited taken heard synced told old took hearing new places rested places_taken places_heard places_told size_r size_t size_h size_w no_loss most begins takes hears_all syncs tells =
         λ count start acts known order fit whole more.
-        let a = begins_round start acts known order fit whole.4 in
+        let a = begins start acts known order fit whole.4 in
         let t = takes start a.0 a.1 a.2.hearing a.2.time a.4 (a.2.unread, a.2.quiet) a.3 in
         let h = hears_all start t.0 t.2 (t.1.same_stage ∙ a.2.hearing) (t.1.same_clock ∙ a.2.time) (t.1.same_stop ∙ a.4) (t.4.1, t.4.2) t.3 in
         let w = tells start (Syncs kept ∷ h.0) (syncs start h.0 h.2.1 h.2.0, h.2.1, (h.1.same_stage ∙ t.1.same_stage ∙ a.2.hearing, h.2.2)) refl (h.1.same_clock ∙ t.1.same_clock ∙ a.2.time) (h.1.same_stop ∙ t.1.same_stop ∙ a.4) h.4.1 h.3 in
@@ -460,19 +460,19 @@ module _ {S : Type 0} (opens : S → ℕ → S → Type 0) (refuses : S → ℕ 
     module _ (is_unkept : List ℕ → Bool) (any_unkept : S → Bool) (every : ℕ) where
       -- how the loop stands after so many rounds, when so many more connections may be taken, what it wrote, and whether it
       -- told what could not be kept
-      abbrev pub Stands : ℕ → ℕ → ℕ → S → Option (List ℕ) → Option (List ℕ) → Bool → Bool → C → S → List (Option Talk) → Option ℕ → ℕ → ℕ → ℕ → Type 0
-      Stands idle count size start written errors uncopied told connections sessions places stop left pause turns = (acts : History) × Has opens refuses hears misses ends begins has idle start connections sessions acts
-          × (stopped acts ≡ stop) × FitAll places acts × (rounds acts ≡ turns) × TellsLines every uncopied told (losses acts) written errors × (told ≡ (has_unkept is_unkept acts || any_unkept start)) × HasWholeRounds idle count size left pause acts
+      abbrev pub Stands : ℕ → ℕ → ℕ → S → Option (List ℕ) → Option (List ℕ) → Bool → C → S → List (Option Talk) → Option ℕ → ℕ → ℕ → ℕ → Type 0
+      Stands idle count size start written errors told connections sessions places stop left pause turns = (acts : History) × Has opens refuses hears misses ends has idle start connections sessions acts
+          × (stopped acts ≡ stop) × FitAll places acts × (rounds acts ≡ turns) × TellsLines every told (losses acts) written errors × (told ≡ (has_unkept is_unkept acts || any_unkept start)) × HasWholeRounds idle count size left pause acts
 
       -- one round more
-      pub turned : (idle idle_now count size left left_new pause pause_new turns wanting : ℕ) (stop stop_new : Option ℕ) (kept uncopied uncopied_new told told_new : Bool) (connections connections_new : C) (sessions new : S) (places places_new : List (Option Talk))
-          → idle_now ≡ idle → length places ≡ size → MayGoOn left stop places → (start : S) (written errors errors_new : Option (List ℕ)) → Stands idle count size start written errors uncopied told connections sessions places stop left pause turns
-          → ((start : S) (acts : History) (after : S) → Leads opens refuses hears misses ends begins start acts after → any_unkept after ≡ (answered_unkept is_unkept acts || any_unkept start))
-          → ((count : ℕ) (old : Option (List ℕ)) → TellsLines every uncopied told count old errors → TellsLines every uncopied_new told_new (count + wanting) old errors_new) → told_new ≡ (told || (if kept then any_unkept new else true))
-          → Turns opens refuses hears misses ends begins has idle_now stop left pause connections sessions places stop_new left_new pause_new wanting kept connections_new new places_new
-          → Stands idle count size start written errors_new uncopied_new told_new connections_new new places_new stop_new left_new pause_new (turns + 1)
-      turned idle idle_now count size left left_new pause pause_new turns wanting stop stop_new kept uncopied uncopied_new told told_new connections connections_new sessions new places places_new same_idle same_size goes start written errors errors_new (acts, known, order, fit, began, lines, is_told, whole) follows more told_now one =
-          let turns_now = subst (λ (i : ℕ). Turns opens refuses hears misses ends begins has i stop left pause connections sessions places stop_new left_new pause_new wanting kept connections_new new places_new) same_idle one in
+      pub turned : (idle idle_now count size left left_new pause pause_new turns wanting : ℕ) (stop stop_new : Option ℕ) (kept told told_new : Bool) (connections connections_new : C) (sessions new : S) (places places_new : List (Option Talk))
+          → idle_now ≡ idle → length places ≡ size → MayGoOn left stop places → (start : S) (written errors errors_new : Option (List ℕ)) → Stands idle count size start written errors told connections sessions places stop left pause turns
+          → ((start : S) (acts : History) (after : S) → Leads opens refuses hears misses ends start acts after → any_unkept after ≡ (answered_unkept is_unkept acts || any_unkept start))
+          → ((count : ℕ) (old : Option (List ℕ)) → TellsLines every told count old errors → TellsLines every told_new (count + wanting) old errors_new) → told_new ≡ (told || (if kept then any_unkept new else true))
+          → Turns opens refuses hears misses ends has idle_now stop left pause connections sessions places stop_new left_new pause_new wanting kept connections_new new places_new
+          → Stands idle count size start written errors_new told_new connections_new new places_new stop_new left_new pause_new (turns + 1)
+      turned idle idle_now count size left left_new pause pause_new turns wanting stop stop_new kept told told_new connections connections_new sessions new places places_new same_idle same_size goes start written errors errors_new (acts, known, order, fit, began, lines, is_told, whole) follows more told_now one =
+          let turns_now = subst (λ (i : ℕ). Turns opens refuses hears misses ends has i stop left pause connections sessions places stop_new left_new pause_new wanting kept connections_new new places_new) same_idle one in
           let t = turns_now count start acts known order fit (subst (λ (n : ℕ). HasWholeRounds idle count n left pause acts) (sym same_size) whole)
           (not_finished count left stop acts places order fit whole.0 goes) in
           let round : rounds t.0 ≡ rounds acts + 1 = t.4 in
@@ -482,25 +482,25 @@ module _ {S : Type 0} (opens : S → ℕ → S → Type 0) (refuses : S → ℕ 
             t.2,
             t.3,
             round ∙ ap (λ (n : ℕ). n + 1) began,
-            subst (λ (n : ℕ). TellsLines every uncopied_new told_new n written errors_new) (sym lost) (more (losses acts) written lines),
+            subst (λ (n : ℕ). TellsLines every told_new n written errors_new) (sym lost) (more (losses acts) written lines),
             told_on kept (unsynced acts) (answered_unkept is_unkept acts) (any_unkept start) told (unsynced t.0) (answered_unkept is_unkept t.0) (any_unkept new) told_new is_told t.7 (t.8 is_unkept) (follows start t.0 new t.1.1) told_now,
             subst (λ (n : ℕ). HasWholeRounds idle count n left_new pause_new t.0) same_size t.6,
           )
 
       -- what is so when the loop ends
-      abbrev pub EndsWell : ℕ → ℕ → ℕ → S → Option (List ℕ) → Option (List ℕ) → Bool → C → S → Type 0
-      EndsWell idle count size start written errors uncopied connections sessions = (acts : History) × Has opens refuses hears misses ends begins has idle start connections sessions acts × AreWithin count acts × HasEnded count acts
-          × IsFair idle count size acts × IsWhole idle acts × AreInside size acts × TellsAll is_unkept every uncopied (any_unkept start) acts written errors
+      abbrev pub EndsWell : ℕ → ℕ → ℕ → S → Option (List ℕ) → Option (List ℕ) → C → S → Type 0
+      EndsWell idle count size start written errors connections sessions = (acts : History) × Has opens refuses hears misses ends has idle start connections sessions acts × AreWithin count acts × HasEnded count acts
+          × IsFair idle count size acts × IsWhole idle acts × AreInside size acts × TellsAll is_unkept every (any_unkept start) acts written errors
 
       closing : (count left : ℕ) (stop : Option ℕ) (acts : History) → stopped acts ≡ stop → comers acts + left ≡ most_comers count → (left ≡ 0) ⊎ (stop ≢ None) → IsClosing count acts
       closing count left stop acts order most (inl none) = inr (let m : comers acts + left ≡ most_comers count = most in omega arith)
       closing count left None acts order most (inr some) = absurd (some refl)
       closing count left (Some since) acts order most (inr some) = inl (since, order)
 
-      pub ended : (idle count size left pause turns : ℕ) (stop : Option ℕ) (start : S) (written errors : Option (List ℕ)) (uncopied told : Bool) (connections : C) (sessions : S) (places : List (Option Talk))
-          → Stands idle count size start written errors uncopied told connections sessions places stop left pause turns → (left ≡ 0) ⊎ (stop ≢ None) → ((place : ℕ) → get_or places place None ≡ None)
-          → EndsWell idle count size start written errors uncopied connections sessions
-      ended idle count size left pause turns stop start written errors uncopied told connections sessions places (acts, known, order, fit, began, lines, is_told, whole) closes free = (
+      pub ended : (idle count size left pause turns : ℕ) (stop : Option ℕ) (start : S) (written errors : Option (List ℕ)) (told : Bool) (connections : C) (sessions : S) (places : List (Option Talk))
+          → Stands idle count size start written errors told connections sessions places stop left pause turns → (left ≡ 0) ⊎ (stop ≢ None) → ((place : ℕ) → get_or places place None ≡ None)
+          → EndsWell idle count size start written errors connections sessions
+      ended idle count size left pause turns stop start written errors told connections sessions places (acts, known, order, fit, began, lines, is_told, whole) closes free = (
         acts,
         known,
         let m : comers acts + left ≡ most_comers count = whole.0 in omega arith,
@@ -508,12 +508,12 @@ module _ {S : Type 0} (opens : S → ℕ → S → Type 0) (refuses : S → ℕ 
         whole.1,
         whole.2,
         whole.3,
-        subst (λ (b : Bool). TellsLines every uncopied b (losses acts) written errors) is_told lines,
+        subst (λ (b : Bool). TellsLines every b (losses acts) written errors) is_told lines,
       )
 
-      pub ended_late : (idle count size left pause turns : ℕ) (stop : Option ℕ) (start : S) (written errors : Option (List ℕ)) (uncopied told : Bool) (connections : C) (sessions : S) (places : List (Option Talk))
-          → Stands idle count size start written errors uncopied told connections sessions places stop left pause turns → turns ≡ 2 ^ 64 - 1 → EndsWell idle count size start written errors uncopied connections sessions
-      ended_late idle count size left pause turns stop start written errors uncopied told connections sessions places (acts, known, order, fit, began, lines, is_told, whole) last = (
+      pub ended_late : (idle count size left pause turns : ℕ) (stop : Option ℕ) (start : S) (written errors : Option (List ℕ)) (told : Bool) (connections : C) (sessions : S) (places : List (Option Talk))
+          → Stands idle count size start written errors told connections sessions places stop left pause turns → turns ≡ 2 ^ 64 - 1 → EndsWell idle count size start written errors connections sessions
+      ended_late idle count size left pause turns stop start written errors told connections sessions places (acts, known, order, fit, began, lines, is_told, whole) last = (
         acts,
         known,
         let m : comers acts + left ≡ most_comers count = whole.0 in omega arith,
@@ -521,5 +521,5 @@ module _ {S : Type 0} (opens : S → ℕ → S → Type 0) (refuses : S → ℕ 
         whole.1,
         whole.2,
         whole.3,
-        subst (λ (b : Bool). TellsLines every uncopied b (losses acts) written errors) is_told lines,
+        subst (λ (b : Bool). TellsLines every b (losses acts) written errors) is_told lines,
       )

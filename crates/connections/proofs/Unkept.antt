@@ -20,17 +20,16 @@ pub told_on : (kept unsynced answered before told unsynced_new answered_new any 
     → (answered ≡ true → answered_new ≡ true) → any ≡ (answered_new || before) → told_new ≡ (told || (if kept then any else true)) → told_new ≡ ((unsynced_new || answered_new) || before)
 told_on kept unsynced answered before told unsynced_new answered_new any told_new was sync on follows is = rw (is, was, sync, follows) (told_now kept unsynced answered before answered_new on)
 
-module _ {S : Type 0} (opens : S → ℕ → S → Type 0) (refuses : S → ℕ → SessionFault → Type 0) (hears : S → ℕ → List ℕ → List ℕ → S → Type 0) (misses : S → ℕ → List ℕ → SessionFault → S → Type 0) (ends : S → ℕ → S → Type 0) (begins : S → S → Type 0)
+module _ {S : Type 0} (opens : S → ℕ → S → Type 0) (refuses : S → ℕ → SessionFault → Type 0) (hears : S → ℕ → List ℕ → List ℕ → S → Type 0) (misses : S → ℕ → List ℕ → SessionFault → S → Type 0) (ends : S → ℕ → S → Type 0)
     (is_unkept : List ℕ → Bool) (any_unkept : S → Bool)
     (opened : (before : S) (session : ℕ) (after : S) → opens before session after → any_unkept after ≡ any_unkept before)
     (heard : (before : S) (session : ℕ) (part reply : List ℕ) (after : S) → hears before session part reply after → any_unkept after ≡ (is_unkept reply || any_unkept before))
     (missed : (before : S) (session : ℕ) (part : List ℕ) (why : SessionFault) (after : S) → misses before session part why after → any_unkept after ≡ any_unkept before)
-    (ended : (before : S) (session : ℕ) (after : S) → ends before session after → any_unkept after ≡ any_unkept before)
-    (begun : (before after : S) → begins before after → any_unkept after ≡ any_unkept before) where
+    (ended : (before : S) (session : ℕ) (after : S) → ends before session after → any_unkept after ≡ any_unkept before) where
   -- sessions know whether one of them was answered so
-  pub follows : (start : S) (acts : History) (after : S) → Leads opens refuses hears misses ends begins start acts after → any_unkept after ≡ (answered_unkept is_unkept acts || any_unkept start)
+  pub follows : (start : S) (acts : History) (after : S) → Leads opens refuses hears misses ends start acts after → any_unkept after ≡ (answered_unkept is_unkept acts || any_unkept start)
   follows start [] after same = ap any_unkept same
-  follows start (At pause now ∷ acts) after (middle, leads, does) = begun middle after does ∙ follows start acts middle leads
+  follows start (At pause now ∷ acts) after leads = follows start acts after leads
   follows start (Ordered ∷ acts) after leads = follows start acts after leads
   follows start (GoesOn ∷ acts) after leads = follows start acts after leads
   follows start (Syncs kept ∷ acts) after leads = follows start acts after leads

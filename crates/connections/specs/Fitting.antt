@@ -216,10 +216,10 @@ HasWholeRounds idle count size left pause acts = (comers acts + left ≡ most_co
 
 -- ---- sessions, and both
 
-module _ {S : Type 0} (opens : S → ℕ → S → Type 0) (refuses : S → ℕ → SessionFault → Type 0) (hears : S → ℕ → List ℕ → List ℕ → S → Type 0) (misses : S → ℕ → List ℕ → SessionFault → S → Type 0) (ends : S → ℕ → S → Type 0) (begins : S → S → Type 0) where
+module _ {S : Type 0} (opens : S → ℕ → S → Type 0) (refuses : S → ℕ → SessionFault → Type 0) (hears : S → ℕ → List ℕ → List ℕ → S → Type 0) (misses : S → ℕ → List ℕ → SessionFault → S → Type 0) (ends : S → ℕ → S → Type 0) where
   -- the history leads from these sessions to those, and is sound
   abbrev pub Held : ℕ → S → S → History → Type 0
-  Held idle start sessions acts = Leads opens refuses hears misses ends begins start acts sessions × IsSoundHistory idle acts
+  Held idle start sessions acts = Leads opens refuses hears misses ends start acts sessions × IsSoundHistory idle acts
 
   -- what happens to the session of a place while connections are heard, from what is kept of it to what is then kept;
   -- by the test, whether it heard anything
@@ -237,7 +237,7 @@ module _ {S : Type 0} (opens : S → ℕ → S → Type 0) (refuses : S → ℕ 
   module _ {C : Type 0} (has : C → History → Type 0) where
     -- all that is known of connections and sessions
     abbrev pub Has : ℕ → S → C → S → History → Type 0
-    Has idle start connections sessions acts = has connections acts × Leads opens refuses hears misses ends begins start acts sessions × IsSoundHistory idle acts
+    Has idle start connections sessions acts = has connections acts × Leads opens refuses hears misses ends start acts sessions × IsSoundHistory idle acts
 
     -- what happens to a connection and its session while connections are heard, whether anything is done, and what is
     -- then kept

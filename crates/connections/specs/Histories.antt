@@ -191,11 +191,11 @@ IsOfSession Fails = ⊥
 IsOfSession Ends = ⊤
 IsOfSession (Closes why) = ⊥
 
--- what happens to sessions leads from these to those: a round begins for them, too
-module _ {S : Type 0} (opens : S → ℕ → S → Type 0) (refuses : S → ℕ → SessionFault → Type 0) (hears : S → ℕ → List ℕ → List ℕ → S → Type 0) (misses : S → ℕ → List ℕ → SessionFault → S → Type 0) (ends : S → ℕ → S → Type 0) (begins : S → S → Type 0) where
+-- what happens to sessions leads from these to those
+module _ {S : Type 0} (opens : S → ℕ → S → Type 0) (refuses : S → ℕ → SessionFault → Type 0) (hears : S → ℕ → List ℕ → List ℕ → S → Type 0) (misses : S → ℕ → List ℕ → SessionFault → S → Type 0) (ends : S → ℕ → S → Type 0) where
   abbrev pub Leads : S → History → S → Type 0
   Leads start [] after = after ≡ start
-  Leads start (At pause now ∷ before) after = (middle : S) × Leads start before middle × begins middle after
+  Leads start (At pause now ∷ before) after = Leads start before after
   Leads start (Ordered ∷ before) after = Leads start before after
   Leads start (Syncs kept ∷ before) after = Leads start before after
   Leads start (GoesOn ∷ before) after = Leads start before after

@@ -9,14 +9,12 @@ use Rattle.connections.specs.Histories.{At, Ordered, GoesOn, Syncs, NoneWaits, O
 pub data Line : Type 0 where
   OutOfMemory : Line
   Unkept : Line
-  Uncopied : Line
   -- a report in these words
   Report : List ℕ → Line
 
 abbrev pub line_text : Line → List ℕ
 line_text OutOfMemory = codes "out of memory\n"
 line_text Unkept = codes "journal: cannot write, edits are refused until a restart\n"
-line_text Uncopied = codes "copy: cannot write, it ends here until a restart\n"
 line_text (Report words) = codes "report: " ++ words ++ 10 ∷ []
 
 -- these lines are written, the latest first, each whole or less of it
@@ -29,7 +27,6 @@ abbrev pub about_memory : List Line → ℕ
 about_memory [] = 0
 about_memory (OutOfMemory ∷ before) = about_memory before + 1
 about_memory (Unkept ∷ before) = about_memory before
-about_memory (Uncopied ∷ before) = about_memory before
 about_memory (Report words ∷ before) = about_memory before
 
 -- how many are about what cannot be kept
@@ -37,38 +34,23 @@ abbrev pub about_unkept : List Line → ℕ
 about_unkept [] = 0
 about_unkept (OutOfMemory ∷ before) = about_unkept before
 about_unkept (Unkept ∷ before) = about_unkept before + 1
-about_unkept (Uncopied ∷ before) = about_unkept before
 about_unkept (Report words ∷ before) = about_unkept before
-
--- how many are about a copy
-abbrev pub about_copy : List Line → ℕ
-about_copy [] = 0
-about_copy (OutOfMemory ∷ before) = about_copy before
-about_copy (Unkept ∷ before) = about_copy before
-about_copy (Uncopied ∷ before) = about_copy before + 1
-about_copy (Report words ∷ before) = about_copy before
 
 -- how many are reports
 abbrev pub reports : List Line → ℕ
 reports [] = 0
 reports (OutOfMemory ∷ before) = reports before
 reports (Unkept ∷ before) = reports before
-reports (Uncopied ∷ before) = reports before
 reports (Report words ∷ before) = reports before + 1
 
--- so many lines about memory, one about a copy and one about what cannot be kept if these were told, and reports, of which
--- there is none where they are wanted every 0 milliseconds
-abbrev pub TellsLines : ℕ → Bool → Bool → ℕ → Option (List ℕ) → Option (List ℕ) → Type 0
-TellsLines every uncopied told count old new = (lines : List Line) × Writes lines old new × (about_memory lines ≡ count) × (about_unkept lines ≡ (if told then 1 else 0))
-    × (about_copy lines ≡ (if uncopied then 1 else 0)) × (every ≡ 0 → reports lines ≡ 0)
+-- so many lines about memory, one about what cannot be kept if that was told, and reports, of which there is none where
+-- they are wanted every 0 milliseconds
+abbrev pub TellsLines : ℕ → Bool → ℕ → Option (List ℕ) → Option (List ℕ) → Type 0
+TellsLines every told count old new = (lines : List Line) × Writes lines old new × (about_memory lines ≡ count) × (about_unkept lines ≡ (if told then 1 else 0)) × (every ≡ 0 → reports lines ≡ 0)
 
 -- some number of them
-abbrev pub TellsSome : ℕ → Bool → Bool → Option (List ℕ) → Option (List ℕ) → Type 0
-TellsSome every uncopied told old new = (count : ℕ) × TellsLines every uncopied told count old new
-
--- what is kept is copied, and some connections said that it could not be
-abbrev pub WasUncopied : {C : Type 0} → (C → Bool) → Bool → Type 0
-WasUncopied {C} any_uncopied is_copied = (is_copied ≡ true) × (connections : C) × (any_uncopied connections ≡ true)
+abbrev pub TellsSome : ℕ → Bool → Option (List ℕ) → Option (List ℕ) → Type 0
+TellsSome every told old new = (count : ℕ) × TellsLines every told count old new
 
 -- how many connections are closed for want of memory, by a reason and by a deed
 abbrev pub lost_by : Ending → ℕ
@@ -149,6 +131,6 @@ module _ (is_unkept : List ℕ → Bool) where
   has_unkept acts = unsynced acts || answered_unkept acts
 
   -- each connection that was closed for want of memory has its line, and there is one if something could not be kept, or
-  -- could not before; reports are wanted every so many milliseconds, or never; and one is about a copy if that was told
-  abbrev pub TellsAll : ℕ → Bool → Bool → History → Option (List ℕ) → Option (List ℕ) → Type 0
-  TellsAll every uncopied before acts old new = TellsLines every uncopied (has_unkept acts || before) (losses acts) old new
+  -- could not before; reports are wanted every so many milliseconds, or never
+  abbrev pub TellsAll : ℕ → Bool → History → Option (List ℕ) → Option (List ℕ) → Type 0
+  TellsAll every before acts old new = TellsLines every (has_unkept acts || before) (losses acts) old new

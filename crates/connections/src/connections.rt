@@ -1,4 +1,4 @@
-ghost use Rattle.std.specs.Prelude.{◌≡◌, ◌≤◌, ◌∷◌, ℕ, Bool, List, true, false, take, length};
+ghost use Rattle.std.specs.Prelude.{◌≡◌, ◌≤◌, ◌∷◌, ℕ, List, true, false, take, length};
 ghost use Rattle.connections.specs.Histories.{Act, At, Deed, Ordered, GoesOn, IsOfSession, Leads, Syncs, NoneWaits, On, Comes, Reads, IsOver, IsSilent, Takes, TakesNone, Fails, Closes};
 
 use crate::{Ending, Sessions};
@@ -40,18 +40,15 @@ pub trait Connections<S: Sessions> {
     // These acts have happened, the latest first. Of what happens to sessions it says nothing.
     ghost has: { Self → List Act → Type 0 };
 
-    // What is kept could not be copied.
-    ghost any_uncopied: { Self → Bool };
-
     /// Waits until a connection may be taken, read or written, or a stop may have been ordered, but for
     /// at most so many milliseconds. Returns the time, in milliseconds since some start.
     fn wait(&mut self, sessions: &S, most: u64) -> u64
-        ensures { (start : S) (acts : List Act) → Leads S.opens S.refuses S.hears S.misses S.ends S.begins start acts sessions.now → has self.old acts → has self.new (At most result ∷ acts) };
+        ensures { (start : S) (acts : List Act) → Leads S.opens S.refuses S.hears S.misses S.ends start acts sessions.now → has self.old acts → has self.new (At most result ∷ acts) };
 
     /// Whether a stop has been ordered.
     fn is_stopped(&mut self, sessions: &S) -> bool
-        ensures yes { result ≡ true → (start : S) (acts : List Act) → Leads S.opens S.refuses S.hears S.misses S.ends S.begins start acts sessions.now → has self.old acts → has self.new (Ordered ∷ acts) }
-        ensures no { result ≡ false → (start : S) (acts : List Act) → Leads S.opens S.refuses S.hears S.misses S.ends S.begins start acts sessions.now → has self.old acts → has self.new (GoesOn ∷ acts) };
+        ensures yes { result ≡ true → (start : S) (acts : List Act) → Leads S.opens S.refuses S.hears S.misses S.ends start acts sessions.now → has self.old acts → has self.new (Ordered ∷ acts) }
+        ensures no { result ≡ false → (start : S) (acts : List Act) → Leads S.opens S.refuses S.hears S.misses S.ends start acts sessions.now → has self.old acts → has self.new (GoesOn ∷ acts) };
 
     /// Takes the next connection, if one waits and can be taken now, into a free place.
     fn take(&mut self, place: usize) -> bool
@@ -78,15 +75,11 @@ pub trait Connections<S: Sessions> {
 
     /// Closes the connection at a place, which is free again.
     fn close(&mut self, sessions: &S, place: usize, why: Ending)
-        ensures { (start : S) (acts : List Act) → Leads S.opens S.refuses S.hears S.misses S.ends S.begins start acts sessions.now → has self.old acts → has self.new (On place (Closes why) ∷ acts) };
+        ensures { (start : S) (acts : List Act) → Leads S.opens S.refuses S.hears S.misses S.ends start acts sessions.now → has self.old acts → has self.new (On place (Closes why) ∷ acts) };
 
     /// Puts on its disk what the answers so far tell of, and says whether it is there.
     fn sync(&mut self, sessions: &S) -> bool
-        ensures { (start : S) (acts : List Act) → Leads S.opens S.refuses S.hears S.misses S.ends S.begins start acts sessions.now → has self.old acts → has self.new (Syncs result ∷ acts) };
-
-    /// Whether what is kept could not be copied.
-    fn is_uncopied(&self) -> bool
-        ensures { result ≡ any_uncopied self.now };
+        ensures { (start : S) (acts : List Act) → Leads S.opens S.refuses S.hears S.misses S.ends start acts sessions.now → has self.old acts → has self.new (Syncs result ∷ acts) };
 
     /// Says how many are open, for a report, and what else it knows, in words `key=value`. No clause speaks of them.
     fn report(&self, alloc: Global) -> Result<String, AllocError>;

@@ -10,8 +10,8 @@
 //! after a round in which nothing was done, for a second at most, and never past the time to close a connection, by
 //! the time at which the round began (`IsSoundHistory`). Each round gives each connection its turn to send and to
 //! take, and none that waits finds a place left free (`IsFair`). The loop returns once it is over (`HasEnded`), and
-//! each want of memory has its line, and so have, once, what could not be kept and what could not be copied; reports
-//! come where they are wanted (`TellsAll`).
+//! each want of memory has its line, and so has, once, what could not be kept; reports come where they are wanted
+//! (`TellsAll`).
 #![tactic(auto)]
 
 mod connections;

@@ -8,8 +8,6 @@ pub struct Limits {
     pub idle: u64,
     /// Every how many milliseconds a report is written; 0 for never.
     pub report: u64,
-    /// What is kept is copied, so that it is told, once, where it could not be.
-    pub is_copied: bool,
 }
 
 /// Where more bytes than these wait for a connection, nothing is read from it, and its session hears

@@ -78,7 +78,7 @@ pub(crate) fn take_all<S: Sessions, C: Connections<S>>(
 ) -> u64
     requires goes_on { round.stopped ≡ None }
     requires few { work.old.wanting + length places.old < 2 ^ 64 }
-    ensures tours { Tours S.opens S.refuses S.hears S.misses S.ends S.begins C.has Hearing round.idle round.now round.stopped left result work.old.wanting work.new.wanting (λ before. AreUnread before × IsKnownBusy work.old.is_busy before) (λ after. ((result ≡ 0) ⊎ NoneWaited after ⊎ AreUsed (length places.old) after) × AreUnread after × IsKnownBusy work.new.is_busy after) connections.old sessions.old places.old connections.new sessions.new places.new }
+    ensures tours { Tours S.opens S.refuses S.hears S.misses S.ends C.has Hearing round.idle round.now round.stopped left result work.old.wanting work.new.wanting (λ before. AreUnread before × IsKnownBusy work.old.is_busy before) (λ after. ((result ≡ 0) ⊎ NoneWaited after ⊎ AreUsed (length places.old) after) × AreUnread after × IsKnownBusy work.new.is_busy after) connections.old sessions.old places.old connections.new sessions.new places.new }
     ensures few { work.new.wanting ≤ work.old.wanting + length places.old }
     ensures pause { work.new.pause ≡ work.old.pause }
 {
@@ -118,7 +118,7 @@ pub(crate) fn hear_all<S: Sessions, C: Connections<S>>(
 )
     requires goes_on { round.stopped ≡ None }
     requires few { work.old.wanting + length places.old < 2 ^ 64 }
-    ensures tours { Tours S.opens S.refuses S.hears S.misses S.ends S.begins C.has Hearing round.idle round.now round.stopped 0 0 work.old.wanting work.new.wanting (λ before. AreUnread before × IsKnownBusy work.old.is_busy before) (λ after. AreAttended after × IsKnownBusy work.new.is_busy after) connections.old sessions.old places.old connections.new sessions.new places.new }
+    ensures tours { Tours S.opens S.refuses S.hears S.misses S.ends C.has Hearing round.idle round.now round.stopped 0 0 work.old.wanting work.new.wanting (λ before. AreUnread before × IsKnownBusy work.old.is_busy before) (λ after. AreAttended after × IsKnownBusy work.new.is_busy after) connections.old sessions.old places.old connections.new sessions.new places.new }
     ensures few { work.new.wanting ≤ work.old.wanting + length places.old }
     ensures pause { work.new.pause ≡ work.old.pause }
 {
@@ -145,7 +145,7 @@ pub(crate) fn tell_all<S: Sessions, C: Connections<S>>(
     round: Round,
     work: &mut Work,
 )
-    ensures { Tours S.opens S.refuses S.hears S.misses S.ends S.begins C.has (Telling round.is_synced) round.idle round.now round.stopped 0 0 work.old.wanting work.new.wanting (IsKnownBusy work.old.is_busy) (λ after. AreServed round.idle after × KnowsPause round.idle (length places.old) work.old.pause work.new.is_busy work.new.pause after) connections.old sessions.old places.old connections.new sessions.new places.new }
+    ensures { Tours S.opens S.refuses S.hears S.misses S.ends C.has (Telling round.is_synced) round.idle round.now round.stopped 0 0 work.old.wanting work.new.wanting (IsKnownBusy work.old.is_busy) (λ after. AreServed round.idle after × KnowsPause round.idle (length places.old) work.old.pause work.new.is_busy work.new.pause after) connections.old sessions.old places.old connections.new sessions.new places.new }
 {
     for place in 0..places.len() {
         tell_at(

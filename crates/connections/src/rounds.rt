@@ -1,5 +1,5 @@
-//! The loop. A round waits, begins for the sessions, takes connections into free places, reads and hears each, puts
-//! what was answered on its disk, and then tells each. A round that did anything is followed by one that does not wait: a place may
+//! The loop. A round waits, takes connections into free places, reads and hears each, puts what was answered on
+//! its disk, and then tells each. A round that did anything is followed by one that does not wait: a place may
 //! have become free, and there may be more to read.
 
 ghost use Rattle.std.specs.Prelude.{◌≡◌, ◌≢◌, ◌⊎◌, ◌↔◌, ◌||◌, ◌+◌, ◌^◌, ◌<◌, ◌≤◌, ℕ, Bool, List, Option, [], None, IsTrue, get_or, if◌then◌else◌, length, true};
@@ -8,7 +8,7 @@ ghost use Rattle.connections.specs.Fairness.{AreAttended, AreUsed, IsFair, IsWho
 ghost use Rattle.connections.specs.Fitting.{AreFree, AreUnread, Begins, FitAll, Has, IsKnownBusy, MayOrder, Tours, Turns, size_of};
 ghost use Rattle.connections.specs.Histories.{History, Hearing, clock, stopped};
 ghost use Rattle.connections.specs.Pauses.{IsPause, pause_of};
-ghost use Rattle.connections.specs.Telling.{TellsAll, TellsLines, TellsSome, WasUncopied};
+ghost use Rattle.connections.specs.Telling.{TellsAll, TellsLines, TellsSome};
 
 use crate::connections::Connections;
 use crate::loop_limits::LONGEST_WAIT;
@@ -28,8 +28,8 @@ fn stop_by<S: Sessions, C: Connections<S>>(
     now: u64,
     known: Option<u64>,
 ) -> Option<u64>
-    ensures { (idle : ℕ) (start : S) (acts : History) → Has S.opens S.refuses S.hears S.misses S.ends S.begins C.has idle start connections.old sessions.now acts → clock acts ≡ now → stopped acts ≡ known
-        → (after : History) × MayOrder acts after × Has S.opens S.refuses S.hears S.misses S.ends S.begins C.has idle start connections.new sessions.now after × (stopped after ≡ result)
+    ensures { (idle : ℕ) (start : S) (acts : History) → Has S.opens S.refuses S.hears S.misses S.ends C.has idle start connections.old sessions.now acts → clock acts ≡ now → stopped acts ≡ known
+        → (after : History) × MayOrder acts after × Has S.opens S.refuses S.hears S.misses S.ends C.has idle start connections.new sessions.now after × (stopped after ≡ result)
         × (IsStopped after ⊎ NoneOrdered after) }
 {
     if known.is_some() {
@@ -52,7 +52,7 @@ fn take_new<S: Sessions, C: Connections<S>>(
     work: &mut Work,
 ) -> u64
     requires { work.old.wanting + length places.old < 2 ^ 64 }
-    ensures tours { Tours S.opens S.refuses S.hears S.misses S.ends S.begins C.has Hearing round.idle round.now round.stopped left result work.old.wanting work.new.wanting (λ before. AreUnread before × IsKnownBusy work.old.is_busy before) (λ after. (IsStopped after ⊎ (result ≡ 0) ⊎ NoneWaited after ⊎ AreUsed (length places.old) after) × AreUnread after × IsKnownBusy work.new.is_busy after) connections.old sessions.old places.old connections.new sessions.new places.new }
+    ensures tours { Tours S.opens S.refuses S.hears S.misses S.ends C.has Hearing round.idle round.now round.stopped left result work.old.wanting work.new.wanting (λ before. AreUnread before × IsKnownBusy work.old.is_busy before) (λ after. (IsStopped after ⊎ (result ≡ 0) ⊎ NoneWaited after ⊎ AreUsed (length places.old) after) × AreUnread after × IsKnownBusy work.new.is_busy after) connections.old sessions.old places.old connections.new sessions.new places.new }
     ensures few { work.new.wanting ≤ work.old.wanting + length places.old }
     ensures pause { work.new.pause ≡ work.old.pause }
 {
@@ -73,7 +73,7 @@ fn hear_new<S: Sessions, C: Connections<S>>(
     work: &mut Work,
 )
     requires { work.old.wanting + length places.old < 2 ^ 64 }
-    ensures tours { Tours S.opens S.refuses S.hears S.misses S.ends S.begins C.has Hearing round.idle round.now round.stopped 0 0 work.old.wanting work.new.wanting (λ before. AreUnread before × IsKnownBusy work.old.is_busy before) (λ after. (IsStopped after ⊎ AreAttended after) × IsKnownBusy work.new.is_busy after) connections.old sessions.old places.old connections.new sessions.new places.new }
+    ensures tours { Tours S.opens S.refuses S.hears S.misses S.ends C.has Hearing round.idle round.now round.stopped 0 0 work.old.wanting work.new.wanting (λ before. AreUnread before × IsKnownBusy work.old.is_busy before) (λ after. (IsStopped after ⊎ AreAttended after) × IsKnownBusy work.new.is_busy after) connections.old sessions.old places.old connections.new sessions.new places.new }
     ensures pause { work.new.pause ≡ work.old.pause }
 {
     if round.stopped.is_some() {
@@ -85,7 +85,7 @@ fn hear_new<S: Sessions, C: Connections<S>>(
 /// Writes so many lines about connections that were closed for want of memory. One that cannot be written is
 /// passed over.
 fn tell_wanting<E: Write>(errors: &mut E, wanting: u64)
-    ensures { (every : ℕ) (uncopied told : Bool) (count : ℕ) (start : Option (List ℕ)) → TellsLines every uncopied told count start (E.contents errors.old) → TellsLines every uncopied told (count + wanting) start (E.contents errors.new) }
+    ensures { (every : ℕ) (told : Bool) (count : ℕ) (start : Option (List ℕ)) → TellsLines every told count start (E.contents errors.old) → TellsLines every told (count + wanting) start (E.contents errors.new) }
 {
     for _line in 0..wanting {
         let _told = write_text(errors, b"out of memory\n");
@@ -101,7 +101,7 @@ fn tell_unkept<S: Sessions, E: Write>(
     was_told: bool,
 ) -> bool
     ensures told { result ≡ (was_told || (if is_synced then S.any_unkept sessions.now else true)) }
-    ensures lines { (every : ℕ) (uncopied : Bool) (count : ℕ) (start : Option (List ℕ)) → TellsLines every uncopied was_told count start (E.contents errors.old) → TellsLines every uncopied result count start (E.contents errors.new) }
+    ensures lines { (every count : ℕ) (start : Option (List ℕ)) → TellsLines every was_told count start (E.contents errors.old) → TellsLines every result count start (E.contents errors.new) }
 {
     if was_told || (is_synced && !sessions.has_unkept()) {
         return was_told;
@@ -171,21 +171,20 @@ fn is_finished(state: State, places: &[Option<Talk>]) -> bool
     state.is_closing() && are_free(places)
 }
 
-/// Begins a round: waits, tells the sessions, and asks whether a stop was ordered. By then the last round is over.
+/// Begins a round: waits, and asks whether a stop was ordered. By then the last round is over.
 fn begin<S: Sessions, C: Connections<S>>(
     places: &mut [Option<Talk>],
-    sessions: &mut S,
+    sessions: &S,
     connections: &mut C,
     last: State,
 ) -> Round
-    ensures begins { (start : S) (acts : History) → Has S.opens S.refuses S.hears S.misses S.ends S.begins C.has last.round.idle start connections.old sessions.old acts → stopped acts ≡ last.round.stopped → FitAll places.old acts
+    ensures begins { (start : S) (acts : History) → Has S.opens S.refuses S.hears S.misses S.ends C.has last.round.idle start connections.old sessions.now acts → stopped acts ≡ last.round.stopped → FitAll places.old acts
         → IsPause last.round.idle acts (pause_of last.work.is_busy last.work.pause)
-        → (after : History) × Has S.opens S.refuses S.hears S.misses S.ends S.begins C.has last.round.idle start connections.new sessions.new after × Begins result.now acts after × FitAll places.new after × (stopped after ≡ result.stopped)
+        → (after : History) × Has S.opens S.refuses S.hears S.misses S.ends C.has last.round.idle start connections.new sessions.now after × Begins result.now acts after × FitAll places.new after × (stopped after ≡ result.stopped)
         × (IsStopped after ⊎ NoneOrdered after) }
     ensures same { result.idle ≡ last.round.idle }
 {
     let now = connections.wait(sessions, last.pause());
-    sessions.begin();
     rest_all(places, now);
     let stopped = stop_by(sessions, connections, now, last.round.stopped);
     Round {
@@ -205,7 +204,7 @@ fn turn<S: Sessions, C: Connections<S>>(
     last: State,
     room: &mut [u8; PIECE_SIZE],
 ) -> State
-    ensures turns { Turns S.opens S.refuses S.hears S.misses S.ends S.begins C.has last.round.idle last.round.stopped last.left (pause_of last.work.is_busy last.work.pause) connections.old sessions.old places.old result.round.stopped result.left (pause_of result.work.is_busy result.work.pause) result.work.wanting result.round.is_synced connections.new sessions.new places.new }
+    ensures turns { Turns S.opens S.refuses S.hears S.misses S.ends C.has last.round.idle last.round.stopped last.left (pause_of last.work.is_busy last.work.pause) connections.old sessions.old places.old result.round.stopped result.left (pause_of result.work.is_busy result.work.pause) result.work.wanting result.round.is_synced connections.new sessions.new places.new }
     ensures same { result.round.idle ≡ last.round.idle }
 {
     let mut round = begin(places, sessions, connections, last);
@@ -236,14 +235,14 @@ fn turn_all<S: Sessions, C: Connections<S>, E: Write>(
     errors: &mut E,
 )
     requires { (place : ℕ) → get_or places.old place None ≡ None }
-    ensures tells { (uncopied told : Bool) × (uncopied ≡ true → WasUncopied C.any_uncopied limits.is_copied) × TellsSome limits.report uncopied told (E.contents errors.old) (E.contents errors.new) }
-    ensures happens { C.has connections.old [] → (uncopied : Bool) × (uncopied ≡ true → WasUncopied C.any_uncopied limits.is_copied) × (acts : History) × Has S.opens S.refuses S.hears S.misses S.ends S.begins C.has limits.idle sessions.old connections.new sessions.new acts × AreWithin limits.count acts × HasEnded limits.count acts
+    ensures tells { (told : Bool) × TellsSome limits.report told (E.contents errors.old) (E.contents errors.new) }
+    ensures happens { C.has connections.old [] → (acts : History) × Has S.opens S.refuses S.hears S.misses S.ends C.has limits.idle sessions.old connections.new sessions.new acts × AreWithin limits.count acts × HasEnded limits.count acts
         × IsFair limits.idle limits.count (length places.old) acts × IsWhole limits.idle acts × AreInside (length places.old) acts
-        × TellsAll S.is_unkept limits.report uncopied (S.any_unkept sessions.old) acts (E.contents errors.old) (E.contents errors.new) }
+        × TellsAll S.is_unkept limits.report (S.any_unkept sessions.old) acts (E.contents errors.old) (E.contents errors.new) }
 {
     let mut is_told = tell_unkept(sessions, true, errors, false);
     let mut state = State::new(limits);
-    let mut reports = Reports::new(limits.report, limits.is_copied);
+    let mut reports = Reports::new(limits.report);
     // Pieces are read into this one room: what is heard at once is kept nowhere else.
     let mut room = [0; PIECE_SIZE];
     // Every loop of Rattle has an end: this one's is past any life of a server.
@@ -263,7 +262,7 @@ fn turn_all<S: Sessions, C: Connections<S>, E: Write>(
 /// is sound: each connection takes a beginning of what its session was answered, in order, and is closed for
 /// a reason that holds; and each round gives each connection its turn, until the loop is over. A connection
 /// that is closed for want of memory is told of in a line to the errors, and so is, once, that something could not be kept:
-/// an answer said so, or a sync failed; or that it could not be copied. A report is written as often as the limits say.
+/// an answer said so, or a sync failed. A report is written as often as the limits say.
 pub fn answer_all<S: Sessions, C: Connections<S>, E: Write>(
     alloc: Global,
     places: Places,
@@ -273,10 +272,10 @@ pub fn answer_all<S: Sessions, C: Connections<S>, E: Write>(
     errors: &mut E,
 )
     requires { AreFree places }
-    ensures tells { (uncopied told : Bool) × (uncopied ≡ true → WasUncopied C.any_uncopied limits.is_copied) × TellsSome limits.report uncopied told (E.contents errors.old) (E.contents errors.new) }
-    ensures happens { C.has connections.old [] → (uncopied : Bool) × (uncopied ≡ true → WasUncopied C.any_uncopied limits.is_copied) × (acts : History) × Has S.opens S.refuses S.hears S.misses S.ends S.begins C.has limits.idle sessions.old connections.new sessions.new acts × AreWithin limits.count acts × HasEnded limits.count acts
+    ensures tells { (told : Bool) × TellsSome limits.report told (E.contents errors.old) (E.contents errors.new) }
+    ensures happens { C.has connections.old [] → (acts : History) × Has S.opens S.refuses S.hears S.misses S.ends C.has limits.idle sessions.old connections.new sessions.new acts × AreWithin limits.count acts × HasEnded limits.count acts
         × IsFair limits.idle limits.count (size_of places) acts × IsWhole limits.idle acts × AreInside (size_of places) acts
-        × TellsAll S.is_unkept limits.report uncopied (S.any_unkept sessions.old) acts (E.contents errors.old) (E.contents errors.new) }
+        × TellsAll S.is_unkept limits.report (S.any_unkept sessions.old) acts (E.contents errors.old) (E.contents errors.new) }
 {
     let mut places = places;
     turn_all(

@@ -22,10 +22,6 @@ pub trait Sessions {
     // The sessions before, the number of one, and the sessions once it is ended.
     ghost ends: { Self → ℕ → Self → Type 0 };
 
-    // The sessions before a round begins, and the sessions then. What comes to them otherwise than by connections comes
-    // here.
-    ghost begins: { Self → Self → Type 0 };
-
     // Whether an answer says that what was asked could not be kept.
     ghost is_unkept: { List ℕ → Bool };
 
@@ -63,10 +59,6 @@ pub trait Sessions {
     fn end(&mut self, session: usize)
         ensures { ends self.old session self.new };
 
-    /// A round begins.
-    fn begin(&mut self)
-        ensures { begins self.old self.new };
-
     /// Whether an answer so far said that what was asked could not be kept.
     fn has_unkept(&self) -> bool
         ensures { result ≡ any_unkept self.now };
@@ -82,6 +74,4 @@ pub trait Sessions {
     ghost misses_as: { (before : Self) (session : ℕ) (part : List ℕ) (why : SessionFault) (after : Self) → misses before session part why after → any_unkept after ≡ any_unkept before };
 
     ghost ends_as: { (before : Self) (session : ℕ) (after : Self) → ends before session after → any_unkept after ≡ any_unkept before };
-
-    ghost begins_as: { (before after : Self) → begins before after → any_unkept after ≡ any_unkept before };
 }

@@ -72,9 +72,9 @@ fn close<S: Sessions, C: Connections<S>>(
     place: usize,
     why: Ending,
 )
-    ensures { (idle : ℕ) (start : S) (acts : History) → Has S.opens S.refuses S.hears S.misses S.ends S.begins C.has idle start connections.old sessions.old acts
+    ensures { (idle : ℕ) (start : S) (acts : History) → Has S.opens S.refuses S.hears S.misses S.ends C.has idle start connections.old sessions.old acts
         → Here (course acts place) (λ of. (of.is_open ≡ true) × MayBeClosed idle acts place why of)
-        → (after : History) × Stays place 0 0 (lost_by why) acts after × Has S.opens S.refuses S.hears S.misses S.ends S.begins C.has idle start connections.new sessions.new after × (course after place ≡ None) × (was_busy after ≡ true) }
+        → (after : History) × Stays place 0 0 (lost_by why) acts after × Has S.opens S.refuses S.hears S.misses S.ends C.has idle start connections.new sessions.new after × (course after place ≡ None) × (was_busy after ≡ true) }
 {
     sessions.end(place);
     connections.close(sessions, place, why);
@@ -103,7 +103,7 @@ pub(crate) fn take_at<S: Sessions, C: Connections<S>>(
     requires free { slot.old ≡ None }
     requires goes_on { round.stopped ≡ None }
     requires few { work.old.wanting < 2 ^ 64 - 1 }
-    ensures serves { ServesPlace S.opens S.refuses S.hears S.misses S.ends S.begins C.has Hearing round.idle round.now round.stopped place (came_by result) work.old.wanting work.new.wanting (λ before. IsUnread place before × IsKnownBusy work.old.is_busy before) (λ after. HasTried result place after × IsUnread place after × IsKnownBusy work.new.is_busy after) connections.old sessions.old slot.old connections.new sessions.new slot.new }
+    ensures serves { ServesPlace S.opens S.refuses S.hears S.misses S.ends C.has Hearing round.idle round.now round.stopped place (came_by result) work.old.wanting work.new.wanting (λ before. IsUnread place before × IsKnownBusy work.old.is_busy before) (λ after. HasTried result place after × IsUnread place after × IsKnownBusy work.new.is_busy after) connections.old sessions.old slot.old connections.new sessions.new slot.new }
     ensures few { work.new.wanting ≤ work.old.wanting + 1 }
     ensures pause { work.new.pause ≡ work.old.pause }
 {
@@ -138,7 +138,7 @@ pub(crate) fn hear_at<S: Sessions, C: Connections<S>>(
 )
     requires goes_on { round.stopped ≡ None }
     requires few { work.old.wanting < 2 ^ 64 - 1 }
-    ensures serves { ServesPlace S.opens S.refuses S.hears S.misses S.ends S.begins C.has Hearing round.idle round.now round.stopped place 0 work.old.wanting work.new.wanting (λ before. IsUnread place before × IsKnownBusy work.old.is_busy before) (λ after. IfThere (course after place) (IsAttended after place) × IsKnownBusy work.new.is_busy after) connections.old sessions.old slot.old connections.new sessions.new slot.new }
+    ensures serves { ServesPlace S.opens S.refuses S.hears S.misses S.ends C.has Hearing round.idle round.now round.stopped place 0 work.old.wanting work.new.wanting (λ before. IsUnread place before × IsKnownBusy work.old.is_busy before) (λ after. IfThere (course after place) (IsAttended after place) × IsKnownBusy work.new.is_busy after) connections.old sessions.old slot.old connections.new sessions.new slot.new }
     ensures few { work.new.wanting ≤ work.old.wanting + 1 }
     ensures pause { work.new.pause ≡ work.old.pause }
 {
@@ -165,7 +165,7 @@ pub(crate) fn tell_at<S: Sessions, C: Connections<S>>(
     round: Round,
     work: &mut Work,
 )
-    ensures { ServesPlace S.opens S.refuses S.hears S.misses S.ends S.begins C.has (Telling round.is_synced) round.idle round.now round.stopped place 0 work.old.wanting work.new.wanting (IsKnownBusy work.old.is_busy) (λ after. IfThere (course after place) (IsServed round.idle after place) × KnowsPauseAt round.idle place work.old.is_busy work.old.pause work.new.is_busy work.new.pause after) connections.old sessions.old slot.old connections.new sessions.new slot.new }
+    ensures { ServesPlace S.opens S.refuses S.hears S.misses S.ends C.has (Telling round.is_synced) round.idle round.now round.stopped place 0 work.old.wanting work.new.wanting (IsKnownBusy work.old.is_busy) (λ after. IfThere (course after place) (IsServed round.idle after place) × KnowsPauseAt round.idle place work.old.is_busy work.old.pause work.new.is_busy work.new.pause after) connections.old sessions.old slot.old connections.new sessions.new slot.new }
 {
     let Some(talk) = slot else {
         return;

@@ -75,7 +75,7 @@ impl Talk {
     /// Has the session hear what waits to be heard, as long as its answers have room. Says whether it heard
     /// anything.
     fn hear_rest<S: Sessions>(&mut self, sessions: &mut S, place: usize) -> Result<bool, Ending>
-        ensures hears { Hearkens S.opens S.refuses S.hears S.misses S.ends S.begins (λ done. done) place sessions.old (KeepsTalk self.old) result sessions.new (λ _. KeepsTalk self.new) }
+        ensures hears { Hearkens S.opens S.refuses S.hears S.misses S.ends (λ done. done) place sessions.old (KeepsTalk self.old) result sessions.new (λ _. KeepsTalk self.new) }
         ensures all { IfOk result (λ _. (self.new.input.items ≡ []) ⊎ (FULL_OUTPUT < length self.new.output.items)) }
         ensures nothing { result ≡ Ok false → (self.new ≡ self.old) × (sessions.new ≡ sessions.old) }
     {
@@ -98,7 +98,7 @@ impl Talk {
     ) -> Result<(), Ending>
         requires none { self.old.input.items ≡ [] }
         requires some { MayHearFrom bytes.now self.old.output.items }
-        ensures hears { Hearkens S.opens S.refuses S.hears S.misses S.ends S.begins (λ _. true) place sessions.old (KeepsCourse bytes.now self.old.output.items self.old.idle_since self.old.is_over) result sessions.new (λ _. KeepsTalk self.new) }
+        ensures hears { Hearkens S.opens S.refuses S.hears S.misses S.ends (λ _. true) place sessions.old (KeepsCourse bytes.now self.old.output.items self.old.idle_since self.old.is_over) result sessions.new (λ _. KeepsTalk self.new) }
         ensures all { IfOk result (λ _. (self.new.input.items ≡ []) ⊎ (FULL_OUTPUT < length self.new.output.items)) }
     {
         let heard = hear_parts(sessions, place, bytes, &mut self.output)?;
@@ -124,7 +124,7 @@ impl Talk {
         place: usize,
         room: &mut [u8; PIECE_SIZE],
     ) -> Result<bool, Ending>
-        ensures { Attends S.opens S.refuses S.hears S.misses S.ends S.begins C.has place connections.old sessions.old self.old result connections.new sessions.new self.new }
+        ensures { Attends S.opens S.refuses S.hears S.misses S.ends C.has place connections.old sessions.old self.old result connections.new sessions.new self.new }
     {
         if !self.may_read() {
             return self.hear_rest(sessions, place);
@@ -264,7 +264,7 @@ fn hear_part<S: Sessions>(
     output: &mut Vec<u8>,
 ) -> Result<usize, Ending>
     requires { MayHearFrom bytes.now output.old.items }
-    ensures { HearsFrom S.opens S.refuses S.hears S.misses S.ends S.begins place sessions.old bytes.now output.old.items result sessions.new output.new.items }
+    ensures { HearsFrom S.opens S.refuses S.hears S.misses S.ends place sessions.old bytes.now output.old.items result sessions.new output.new.items }
 {
     match sessions.hear(place, bytes, output) {
         Ok(count) => Ok(count),
@@ -280,7 +280,7 @@ fn hear_parts<S: Sessions>(
     output: &mut Vec<u8>,
 ) -> Result<usize, Ending>
     requires { MayHearFrom bytes.now output.old.items }
-    ensures hears { HearsFrom S.opens S.refuses S.hears S.misses S.ends S.begins place sessions.old bytes.now output.old.items result sessions.new output.new.items }
+    ensures hears { HearsFrom S.opens S.refuses S.hears S.misses S.ends place sessions.old bytes.now output.old.items result sessions.new output.new.items }
     ensures all { IfOk result (λ count. (count ≡ length bytes.now) ⊎ (FULL_OUTPUT < length output.new.items)) }
 {
     let mut heard = hear_part(sessions, place, bytes, output)?;

@@ -97,8 +97,7 @@ serve_app = with_directory (new_app (codes "serve"))
 
 abbrev pub listen_app : App
 listen_app =
-    with_rule (with_rule (with_rule (with_rule (with_rule (with_rule (with_rule (with_rule (with_directory (new_app (codes "listen")))
-    (text_rule (codes "copy"))) (text_rule (codes "follow")))
+    with_rule (with_rule (with_rule (with_rule (with_rule (with_rule (with_directory (new_app (codes "listen")))
     (number_rule (codes "count") 0 (codes "0"))) (bounded_rule (codes "sessions") 1 MOST_SESSIONS (codes "1000"))) (number_rule (codes "idle") 0 (codes "60")))
     (number_rule (codes "report") 0 (codes "0")))
     (flag_rule (codes "until-eof"))) (positional_rule (codes "address"))

@@ -93,8 +93,6 @@ connections_in rows = record {
   sessions = number_from 1 (text_in (codes "sessions") rows);
   idle = number_from 0 (text_in (codes "idle") rows);
   report = number_from 0 (text_in (codes "report") rows);
-  copy = first_of (codes "copy") rows;
-  follow = first_of (codes "follow") rows;
   until_eof = flag_in (codes "until-eof") rows;
   address = text_in (codes "address") rows;
 }

@@ -1,6 +1,5 @@
 -- What the programs do, and how the process ends.
-use Rattle.std.specs.Prelude.{◌≡◌, ◌⊎◌, ◌↔◌, ◌&&◌, ◌||◌, ℕ, zero, suc, List, Bool, true, false, not, is_some, if◌then◌else◌, Option, Some, None, Result, Ok, Err, IfErr, IfOk, Vec, String, map, string_bytes, codes, ⊤}
-use Rattle.std.specs.Str.{bytes_eq}
+use Rattle.std.specs.Prelude.{◌≡◌, ◌⊎◌, ◌↔◌, ◌&&◌, ℕ, zero, suc, List, Bool, true, false, not, is_some, if◌then◌else◌, Option, Some, None, Result, Ok, Err, IfErr, IfOk, Vec, String, map, string_bytes, codes, ⊤}
 use Rattle.std.specs.IoError.{error_kind}
 use Rattle.std.specs.declared.io.Error.{Error as IoError}
 use Rattle.std.specs.declared.io.ErrorKind.TheVariants as io
@@ -103,40 +102,6 @@ ListensKeyed asked taken keys err err-new result =
     HasNoKeys Secret keys err err-new result
     ⊎ ((used : DirectoryOptions) × Uses Secret directory_with keys asked used × ((result ≡ Err BadHex) ↔ (keys_of used ≡ None)) × ListensUsed (unusable_line used) used taken err result err-new)
 
--- the line about options of a server that are of no use together, if there are some: a copy of no journal; a reader that
--- keeps something, or takes standard input twice
-abbrev pub no_journal : List ℕ
-no_journal = codes "error: '--copy' is for what has a '--journal'\n"
-
-abbrev pub no_keeper : List ℕ
-no_keeper = codes "error: '--follow' is in place of '--journal' and '--copy'\n"
-
-abbrev pub no_input : List ℕ
-no_input = codes "error: '--follow -' and '--until-eof' both take standard input\n"
-
-abbrev pub wrong_follow : Option Text → Bool → Bool → Option (List ℕ)
-wrong_follow None keeps unkept = if unkept then Some no_journal else None
-wrong_follow (Some path) keeps unkept = if keeps then Some no_keeper else None
-
-abbrev pub wrong_input : Option Text → Bool → Option (List ℕ)
-wrong_input None until_eof = None
-wrong_input (Some path) until_eof = if bytes_eq path (codes "-") && until_eof then Some no_input else None
-
-abbrev pub or_line : Option (List ℕ) → Option (List ℕ) → Option (List ℕ)
-or_line None other = other
-or_line (Some line) other = Some line
-
-abbrev pub wrong_pair : DirectoryOptions → ConnectionOptions → Option (List ℕ)
-wrong_pair asked taken = or_line (wrong_follow taken.follow (is_some asked.journal || is_some taken.copy) (is_some taken.copy && not (is_some asked.journal))) (wrong_input taken.follow taken.until_eof)
-
--- so if the options are of use together; else a line is told
-abbrev pub ListensUnless : Option (List ℕ) → DirectoryOptions → ConnectionOptions → Option Text → Option (List ℕ) → Option (List ℕ) → Result ℕ ProgramFault → Type 0
-ListensUnless (Some line) asked taken keys err err-new outcome = Prints WRONG_WORDS line err err-new outcome
-ListensUnless None asked taken keys err err-new outcome = IsZero outcome × ListensKeyed asked taken keys err err-new (without_status outcome)
-
-abbrev pub ListensPaired : DirectoryOptions → ConnectionOptions → Option Text → Option (List ℕ) → Option (List ℕ) → Result ℕ ProgramFault → Type 0
-ListensPaired asked taken = ListensUnless (wrong_pair asked taken) asked taken
-
 -- the line about a name that is to be text where the lines of the input are asked
 abbrev pub no_command : List ℕ
 no_command = codes "error: '--text' is for a COMMAND of the words; names in the lines of the input are hexadecimal digits\n"
@@ -194,8 +159,8 @@ Obeys Clock the_script input out out-new err err-new outcome = IsZero outcome ×
     × PlaysTo (printed script_index script_salts) input out out-new (without_status outcome)
 Obeys Clock (the_session asked keys) input out out-new err err-new outcome = IsZero outcome
     × ServesKeyed asked keys input out out-new err err-new (without_status outcome)
-Obeys Clock (the_connections asked taken keys) input out out-new err err-new outcome = Keeps out out-new
-    × ListensPaired asked taken keys err err-new outcome
+Obeys Clock (the_connections asked taken keys) input out out-new err err-new outcome = IsZero outcome × Keeps out out-new
+    × ListensKeyed asked taken keys err err-new (without_status outcome)
 Obeys Clock (the_questions asked texts) input out out-new err err-new outcome = AsksKeyed Clock asked texts input out out-new err err-new outcome
 
 -- Words that order nothing are answered by a text of clap's, on the output with status 0, on the errors

@@ -1,22 +1,19 @@
 // From the words of the command line to the end of the process. What they order is done and returns a
 // status or a fault; a fault's line goes to the errors. `main` only passes on the process's own words and
 // streams, so that all of this is in one contract.
-ghost use Rattle.std.specs.Prelude.{◌≡◌, map, option_map, Result};
-ghost use Rattle.server.specs.ConnectionOptions.{connections_of};
-ghost use Rattle.server.specs.DirectoryOptions.{directory_values};
+ghost use Rattle.std.specs.Prelude.{◌≡◌, map, Result};
 ghost use Rattle.textio.specs.declared.program_fault.ProgramFault.{ProgramFault};
 ghost use Rattle.audits.specs.declared.judging.Verdict.{Verdict};
 ghost use Rattle.audits.specs.Verdicts.{JudgesAt, TellsOfFile};
 ghost use Rattle.directoryd.specs.Orders.{values_in};
-ghost use Rattle.directoryd.specs.Programs.{verdict_outcome, with_zero, EndsAs, ListensPaired, Obeys, RunsProgram, StartsProgram};
+ghost use Rattle.directoryd.specs.Programs.{verdict_outcome, with_zero, EndsAs, Obeys, RunsProgram, StartsProgram};
 
 use crate::keyed::{ask_keyed, listen_keyed, serve_keyed};
 use crate::order::{Order, order};
-use crate::refusing::{refuse, refuse_bytes, refuse_line, wrong_pair};
+use crate::refusing::{refuse, refuse_bytes};
 use crate::{audit, judge_at, play, prove, root};
 use audits::JudgeOrder;
 use nodehash::GroupSize;
-use server::ListenOrder;
 use std::alloc::Global;
 use std::convert::AsStr;
 use std::fs::{File, Files};
@@ -61,27 +58,6 @@ fn done(outcome: Result<(), ProgramFault>) -> Result<u8, ProgramFault>
     }
 }
 
-/// Answers connections, if the options are of use together, and answers the status.
-fn listen_paired<N, R, E>(
-    alloc: Global,
-    system: &N,
-    order: ListenOrder<'_>,
-    keys: Option<&str>,
-    reader: &mut R,
-    errors: &mut E,
-) -> Result<u8, ProgramFault>
-where
-    N: Net + Clock + Files<File = File>,
-    R: BufRead,
-    E: Write,
-    ensures { ListensPaired (directory_values order.entry.directory) (connections_of order.entry) (option_map (λ path. path.now) keys.entry) (E.contents errors.old) (E.contents errors.new) result }
-{
-    match wrong_pair(&order) {
-        Some(line) => refuse_line(line, errors),
-        None => done(listen_keyed(alloc, system, order, keys, reader, errors)),
-    }
-}
-
 /// Does what is ordered, and answers the status.
 fn obey<N, R, W, E>(
     alloc: Global,
@@ -114,7 +90,9 @@ where
         Order::Serve(order, keys) => done(serve_keyed(
             alloc, system, order, keys, reader, writer, errors,
         )),
-        Order::Listen(order, keys) => listen_paired(alloc, system, order, keys, reader, errors),
+        Order::Listen(order, keys) => {
+            done(listen_keyed(alloc, system, order, keys, reader, errors))
+        }
         Order::Ask(order, texts) => ask_keyed(alloc, system, order, texts, reader, writer, errors),
     }
 }

@@ -273,8 +273,6 @@ pub(crate) fn listen_with<'a>(order: ListenOrder<'a>, file: &'a str) -> ListenOr
         sessions: order.sessions,
         idle: order.idle,
         report: order.report,
-        copy: order.copy,
-        follow: order.follow,
         until_eof: order.until_eof,
         address: order.address,
     }

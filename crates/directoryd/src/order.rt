@@ -205,8 +205,6 @@ fn listen_order<'a>(found: &ArgMatches<'a>) -> Order<'a>
         sessions: number(found, "sessions", 1),
         idle: number(found, "idle", 0),
         report: number(found, "report", 0),
-        copy: found.get_str("copy"),
-        follow: found.get_str("follow"),
         until_eof: flag(found, "until-eof"),
         address: text(found, "address"),
     };

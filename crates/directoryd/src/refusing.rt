@@ -3,12 +3,10 @@ ghost use Rattle.std.specs.IoError.{error_kind};
 ghost use Rattle.clap.specs.Words.{kind_of};
 ghost use Rattle.clap.specs.declared.error.kind.ErrorKind.TheVariants.{OutOfMemory};
 ghost use Rattle.directoryd.specs.CommandLine.{status_of};
-ghost use Rattle.directoryd.specs.Programs.{no_text, wrong_line, wrong_pair, Prints, ShowsText};
+ghost use Rattle.directoryd.specs.Programs.{no_text, wrong_line, Prints, ShowsText};
 ghost use Rattle.directoryd.specs.Orders.{texts_of};
 ghost use Rattle.directoryd.specs.TextNames.{has_last};
 ghost use Rattle.runs.specs.AskOptions.{ask_values};
-ghost use Rattle.server.specs.ConnectionOptions.{connections_of};
-ghost use Rattle.server.specs.DirectoryOptions.{directory_values};
 ghost use Rattle.clap.specs.Words.{Text};
 ghost use Rattle.directoryd.specs.declared.refusing.TheConstants.{WRONG_WORDS};
 
@@ -16,7 +14,6 @@ use crate::order::AskTexts;
 use clap::Error;
 use clap::error::ErrorKind;
 use runs::AskOrder;
-use server::ListenOrder;
 use std::alloc::Global;
 use std::io::{self, ErrorKind as IoKind, Write};
 use textio::{ProgramFault, write_text};
@@ -34,15 +31,6 @@ static NO_COMMAND: &[u8] =
 /// The line about a last epoch of words that have none.
 static NO_LAST: &[u8] =
     b"error: '--after' is for the COMMAND 'watch', 'watch2' or 'head' of the words\n";
-
-/// The line about a copy of nothing.
-static NO_JOURNAL: &[u8] = b"error: '--copy' is for what has a '--journal'\n";
-
-/// The line about a reader that keeps something.
-static NO_KEEPER: &[u8] = b"error: '--follow' is in place of '--journal' and '--copy'\n";
-
-/// The line about standard input that is taken twice.
-static NO_INPUT: &[u8] = b"error: '--follow -' and '--until-eof' both take standard input\n";
 
 /// Writes a text whole, and returns this status.
 fn print<W: Write>(writer: &mut W, text: &[u8], status: u8) -> Result<u8, ProgramFault>
@@ -121,25 +109,6 @@ pub(crate) fn wrong_line<'a>(order: &AskOrder<'_>, texts: &AskTexts<'_>) -> Opti
     }
     if order.after.is_some() && !has_last(order.command) {
         return Some(NO_LAST);
-    }
-    None
-}
-
-/// The line about options of a server that are of no use together, if there are some.
-pub(crate) fn wrong_pair<'a>(order: &ListenOrder<'_>) -> Option<&'a [u8]>
-    ensures { option_map (λ line. line.now) result ≡ wrong_pair (directory_values order.now.directory) (connections_of order.now) }
-{
-    let Some(path) = order.follow else {
-        if order.copy.is_some() && order.directory.journal.is_none() {
-            return Some(NO_JOURNAL);
-        }
-        return None;
-    };
-    if order.directory.journal.is_some() || order.copy.is_some() {
-        return Some(NO_KEEPER);
-    }
-    if path == "-" && order.until_eof {
-        return Some(NO_INPUT);
     }
     None
 }

@@ -101,7 +101,6 @@ fn run(case: &mut Case<'_>, report: u64) -> Result<(), AllocError> {
         count: case.number(),
         idle: case.number(),
         report,
-        is_copied: false,
     };
     let acts = read_acts(case)?;
     let mut echoes = Echoes::new(alloc, count, most)?;

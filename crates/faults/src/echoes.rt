@@ -102,8 +102,6 @@ impl Sessions for Echoes {
 
     ghost ends = { λ _ _ _. ⊤ };
 
-    ghost begins = { λ _ _. ⊤ };
-
     // None of them keeps anything.
     ghost is_unkept = { λ _. false };
 
@@ -116,8 +114,6 @@ impl Sessions for Echoes {
     ghost misses_as = { λ _ _ _ _ _ _. refl };
 
     ghost ends_as = { λ _ _ _ _. refl };
-
-    ghost begins_as = { λ _ _ _. refl };
 
     fn open(&mut self, session: usize) -> Result<(), SessionFault> {
         if self.open >= self.most {
@@ -163,8 +159,6 @@ impl Sessions for Echoes {
             *echo = None;
         }
     }
-
-    fn begin(&mut self) {}
 
     fn has_unkept(&self) -> bool {
         false

@@ -217,12 +217,10 @@ impl<'a> Peers<'a> {
 }
 
 impl<S: Sessions> Connections<S> for Peers<'_> {
-    ghost use Rattle.std.specs.Prelude.{⊤, false};
+    ghost use Rattle.std.specs.Prelude.{⊤};
 
     // What happens is told by the script, and contracts know nothing of it.
     ghost has = { λ _ _. ⊤ };
-
-    ghost any_uncopied = { λ _. false };
 
     ghost passes = { λ _ _ _ _ _ _. tt };
 
@@ -286,10 +284,6 @@ impl<S: Sessions> Connections<S> for Peers<'_> {
 
     fn sync(&mut self, _sessions: &S) -> bool {
         self.is_synced
-    }
-
-    fn is_uncopied(&self) -> bool {
-        false
     }
 
     fn report(&self, alloc: Global) -> Result<String, AllocError> {

@@ -3,9 +3,8 @@ ghost use Rattle.commands.specs.declared.edit.Verb.TheVariants.{Change, Register
 ghost use Rattle.commands.specs.Operations.{question, Lookup, Promise};
 ghost use Rattle.rootchain.specs.declared.root_list.TheConstants.{MAX_ROOTS};
 ghost use Rattle.book.specs.declared.reply.Reply.{Reply};
-ghost use Rattle.book.specs.Shows.{index_of, IsRootOf};
-ghost use Rattle.epochs.specs.DirectoryStates.{book, provider, HasKeysOf};
-ghost use Rattle.journal.specs.Opened.{CarriesOut};
+ghost use Rattle.book.specs.Shows.{IsRootOf};
+ghost use Rattle.epochs.specs.DirectoryStates.{book, provider};
 ghost use Rattle.epochs.specs.Replied.{last, promised, TellsRoots};
 ghost use Rattle.wire.specs.Frames.{frame_bytes};
 ghost use Rattle.wire.specs.Requests.{request_seen};
@@ -21,7 +20,6 @@ use book::{Keeper, Refusal};
 use commands::{Put, Query, Verb};
 use encoding::Hash32;
 use epochs::Directory;
-use journal::carry_out;
 use nodehash::NodeHash;
 use rand_core::Rng;
 use rootchain::{SignedPromise, SignedRoot};
@@ -68,15 +66,6 @@ impl<H: NodeHash, V: Vuf, S: Signer, R: Rng, K: Keeper> Desk<H, V, S, R, K> {
         ensures well { IsSoundDesk H.digest_of V.value_of S.signature_of R.stream V.accepted S.verified self.now }
     {
         self.directory.head()
-    }
-
-    /// Carries out the records at the front of the bytes on the directory: see `carry_out` of `journal`.
-    pub(crate) fn carry_out(&mut self, bytes: &[u8]) -> Result<usize, journal::Refusal>
-        ensures carries { CarriesOut (index_of (provider H.digest_of V.value_of S.signature_of self.old.directory)) (book R.stream self.old.directory) bytes.now result (book R.stream self.new.directory) }
-        ensures keys { HasKeysOf self.old.directory self.new.directory }
-        ensures rest { (self.new.keeper ≡ self.old.keeper) × (self.new.token ≡ self.old.token) }
-    {
-        carry_out(&mut self.directory, bytes)
     }
 
     /// Answers a request by one call of the directory, and writes the reply.

@@ -4,9 +4,8 @@ ghost use Rattle.std.specs.Prelude.{◌≡◌, ◌≢◌, ◌≤◌, ◌⊎◌, 
 ghost use Rattle.std.specs.List.Sorted.{IsStrictlySortedBy};
 ghost use Rattle.std.specs.Map.{keys_of};
 ghost use Rattle.std.specs.Ordering.{nat_cmp};
-ghost use Rattle.book.specs.Shows.{index_of, IsRootOf};
-ghost use Rattle.epochs.specs.DirectoryStates.{book, provider, HasKeysOf};
-ghost use Rattle.journal.specs.Opened.{CarriesOut};
+ghost use Rattle.book.specs.Shows.{IsRootOf};
+ghost use Rattle.epochs.specs.DirectoryStates.{book, provider};
 ghost use Rattle.hub.specs.DeskRuns.{IsSoundDesk, ShowHonestRun};
 ghost use Rattle.hub.specs.Desks.{DeskAnswers};
 ghost use Rattle.wire.specs.Streams.{Remainder, EndsOne};
@@ -23,7 +22,6 @@ use crate::{Event, HubRefusal, Service};
 use book::Keeper;
 use encoding::Hash32;
 use epochs::Directory;
-use journal::Refusal;
 use nodehash::NodeHash;
 use rand_core::Rng;
 use rootchain::SignedRoot;
@@ -75,20 +73,6 @@ where
         ensures well { IsSoundDesk H.digest_of V.value_of S.signature_of R.stream V.accepted S.verified self.now.service }
     {
         self.service.head()
-    }
-
-    /// Carries out on the directory the records at the front of the bytes, as `open` of `journal` does behind a start, and
-    /// returns how many bytes they have. The sessions stay as they are.
-    ///
-    /// # Errors
-    ///
-    /// `BadRecord` and `Memory`, once the records before the fault are carried out.
-    pub fn carry_out(&mut self, bytes: &[u8]) -> Result<usize, Refusal>
-        ensures carries { CarriesOut (index_of (provider H.digest_of V.value_of S.signature_of self.old.service.directory)) (book R.stream self.old.service.directory) bytes.now result (book R.stream self.new.service.directory) }
-        ensures keys { HasKeysOf self.old.service.directory self.new.service.directory }
-        ensures rest { (self.new.service.keeper ≡ self.old.service.keeper) × (self.new.service.token ≡ self.old.service.token) × (self.new.sessions ≡ self.old.sessions) }
-    {
-        self.service.carry_out(bytes)
     }
 
     /// Handles events in order, of which a refused one does nothing. Returns the output of each

@@ -1,6 +1,5 @@
 -- Records at the front of bytes, one after another.
-use Rattle.std.proofs.Common.{◌≡◌, ℕ, suc, ◌+◌, ◌≤◌, ◌<◌, List, [], ◌∷◌, ◌++◌, length, length-append, append_assoc, Some, None, refl, sym, ap, subst, ◌∙◌, arith, inl, inr}
-use Rattle.std.specs.List.{AllByRecursion}
+use Rattle.std.proofs.Common.{◌≡◌, ℕ, suc, ◌+◌, ◌≤◌, ◌<◌, List, [], ◌∷◌, ◌++◌, length, length-append, append_assoc, Some, None, refl, sym, ap, subst, ◌∙◌, arith}
 use Rattle.encoding.specs.Bytes.{IsBytes}
 use Rattle.encoding.specs.Fields.{Begins, Reads}
 use Rattle.encoding.specs.Reading.{Gives}
@@ -9,7 +8,7 @@ use Rattle.encoding.proofs.Fields.{gives-reads}
 use Rattle.book.specs.declared.record.Record.{Record}
 use Rattle.book.specs.declared.record.Record.TheVariants.{Start, Bound, Turned}
 use Rattle.std.proofs.Common.{Result}
-use Rattle.journal.specs.Counting.{HasLater, IsFront}
+use Rattle.journal.specs.Counting.{HasLater}
 use Rattle.journal.specs.Records.{later_seen, read_later, read_start, record_bytes, records_bytes, start_bytes, IsLater, IsStart}
 use Rattle.journal.specs.declared.forms.Later.{Later}
 use Rattle.journal.specs.declared.beginning.Beginning.{Beginning}
@@ -76,46 +75,3 @@ module _ {whole : List ℕ} {most counter : ℕ} {rest : List ℕ} {count : ℕ}
   -- nothing is left to count
   pub counted_out : most ≤ counter → HasLater whole count
   counted_out over = subst (HasLater whole) (omega (arith, so.counted)) (so.ends 0 (nothing_later rest (omega (arith, so.within, over))))
-
--- ---- the first of them
-
--- what fronts the rest fronts the whole, with the bytes so far
-pub record Fronting (whole : List ℕ) (most counter size : ℕ) (rest : List ℕ) : Type 0 where
-  pub read : length whole ≡ size + length rest
-  pub records : List Record
-  pub is : whole ≡ records_bytes records ++ rest
-  pub later : AllByRecursion IsLater records
-  pub many : length records ≡ counter
-
--- a record behind others
-record_last : (records : List Record) (kept : Record) (left : List ℕ) → records_bytes (records ++ (kept ∷ [])) ++ left ≡ records_bytes records ++ (record_bytes kept ++ left)
-record_last [] kept left = append_assoc (record_bytes kept) [] left
-record_last (first ∷ records) kept left =
-    append_assoc (record_bytes first) (records_bytes (records ++ (kept ∷ []))) left
-    ∙ ap (λ (t : List ℕ). record_bytes first ++ t) (record_last records kept left)
-    ∙ sym (append_assoc (record_bytes first) (records_bytes records) (record_bytes kept ++ left))
-
-later_last : (records : List Record) (kept : Record) → AllByRecursion IsLater records → IsLater kept → AllByRecursion IsLater (records ++ (kept ∷ []))
-later_last [] kept all one = (one, tt)
-later_last (first ∷ records) kept (now, all) one = (now, later_last records kept all one)
-
-module _ {whole : List ℕ} {most counter size : ℕ} {rest : List ℕ} (so : Fronting whole most counter size rest) where
-  pub fronting_on : (kept : Record) (left : List ℕ) → (rest ≡ record_bytes kept ++ left) × IsLater kept → Fronting whole most (counter + 1) (size + length (record_bytes kept)) left
-  fronting_on kept left (is, one) = record {
-    read = omega (arith, so.read, ap length is, length-append (record_bytes kept) left);
-    records = so.records ++ (kept ∷ []);
-    is = so.is ∙ ap (λ (t : List ℕ). records_bytes so.records ++ t) is ∙ sym (record_last so.records kept left);
-    later = later_last so.records kept so.later one;
-    many = length-append so.records (kept ∷ []) ∙ ap (λ (n : ℕ). n + 1) so.many;
-  }
-
-  -- all that were wanted
-  pub front_full : counter ≡ most → IsFront whole most size
-  front_full full = (so.records, rest, so.is, so.later, inl (so.many ∙ full, omega (arith, so.read, ap length so.is, length-append (records_bytes so.records) rest)))
-
-  -- fewer
-  pub front_less : counter < most → ¬ Begins record_bytes IsLater rest → IsFront whole most (length whole)
-  front_less less none = (so.records, rest, so.is, so.later, inr (omega (arith, less, so.many), none, refl))
-
-pub fronting_none : (whole : List ℕ) (most : ℕ) → Fronting whole most 0 0 whole
-fronting_none whole most = record { read = omega arith; records = []; is = refl; later = tt; many = refl }

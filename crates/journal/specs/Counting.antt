@@ -1,5 +1,5 @@
 -- How many whole records stand at the front of bytes: a start, and then others.
-use Rattle.std.specs.Prelude.{◌≡◌, ◌⊎◌, ◌<◌, ℕ, suc, List, ◌++◌, length}
+use Rattle.std.specs.Prelude.{◌≡◌, ◌⊎◌, ℕ, suc, List, ◌++◌, length}
 use Rattle.std.specs.List.{AllByRecursion}
 use Rattle.encoding.specs.Fields.{Begins}
 use Rattle.book.specs.declared.record.Record.{Record}
@@ -15,9 +15,3 @@ HasLater bytes n = (records : List Record) × (rest : List ℕ)
 abbrev pub Counts : List ℕ → ℕ → Type 0
 Counts bytes n = ((¬ Begins start_bytes IsStart bytes) × (n ≡ 0))
     ⊎ ((start : Beginning) × (rest : List ℕ) × (later : ℕ) × (bytes ≡ start_bytes start ++ rest) × IsStart start × HasLater rest later × (n ≡ suc later))
-
--- so many bytes are those of as many first records as are wanted; or all bytes, where fewer stand at the front
-abbrev pub IsFront : List ℕ → ℕ → ℕ → Type 0
-IsFront bytes most size = (records : List Record) × (rest : List ℕ) × (bytes ≡ records_bytes records ++ rest) × AllByRecursion IsLater records
-    × (((length records ≡ most) × (size ≡ length (records_bytes records)))
-    ⊎ ((length records < most) × (¬ Begins record_bytes IsLater rest) × (size ≡ length bytes)))

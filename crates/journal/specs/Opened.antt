@@ -38,10 +38,6 @@ OpensUpTo index_of before bytes (Err BadRecord) after rest = RecordsLead index_o
 OpensUpTo index_of before bytes (Err OtherKeys) after rest = ⊥
 OpensUpTo index_of before bytes (Err Memory) after rest = RecordsLead index_of before bytes after rest × IsGoodNext index_of after rest
 
--- the same, whatever is left
-abbrev pub CarriesOut : (List ℕ → List ℕ) → Book → List ℕ → Result ℕ Refusal → Book → Type 0
-CarriesOut index_of before bytes result after = (rest : List ℕ) × OpensUpTo index_of before bytes result after rest
-
 module _ (index_of : List ℕ → List ℕ) (signing_key vuf_key : List ℕ) (salts : Stream) where
   -- the bytes are no whole start; or they open to this directory, which has the keys of the start
   abbrev pub Opens : {H V S R : Type 0} → (R → Stream) → List ℕ → Opened H V S R → Type 0

@@ -1,8 +1,8 @@
 // Whole records are read one after another from the front, and counted; what does not read as a record ends it.
-ghost use Rattle.std.specs.Prelude.{◌≡◌, ◌≤◌, length};
-ghost use Rattle.journal.specs.Counting.{Counts, HasLater, IsFront};
+ghost use Rattle.std.specs.Prelude.{◌≤◌, length};
+ghost use Rattle.journal.specs.Counting.{Counts, HasLater};
 
-use crate::forms::{later_size, read_later, read_start};
+use crate::forms::{read_later, read_start};
 use encoding::Cursor;
 
 /// How many whole records of commands stand at the front of at most so many bytes.
@@ -21,33 +21,6 @@ fn later_records(cursor: &mut Cursor<'_>, most: usize) -> u64
         count += 1;
     }
     count
-}
-
-/// The same as `front`, of all bytes, whose number is known.
-fn front_of(cursor: &mut Cursor<'_>, most: usize, all: usize) -> usize
-    requires { length cursor.old ≡ all }
-    ensures front { IsFront cursor.old most result }
-    ensures inside { result ≤ all }
-{
-    let mut size = 0;
-    for _ in 0..most {
-        let mut ahead = cursor.copied();
-        let Ok(what) = read_later(&mut ahead) else {
-            return all;
-        };
-        size += later_size(&what);
-        *cursor = ahead;
-    }
-    size
-}
-
-/// How many bytes the first whole records of commands have, of which so many are wanted. All bytes, where fewer stand at the
-/// front.
-pub fn front(bytes: &[u8], most: usize) -> usize
-    ensures front { IsFront bytes.now most result }
-    ensures inside { result ≤ length bytes.now }
-{
-    front_of(&mut Cursor::new(bytes), most, bytes.len())
 }
 
 /// How many whole records stand at the front of a journal's bytes, the start among them.

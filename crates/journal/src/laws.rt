@@ -6,7 +6,7 @@ ghost use Rattle.book.specs.Books.{Book};
 ghost use Rattle.book.specs.Shows.{index_of, Provider};
 ghost use Rattle.journal.specs.declared.beginning.Beginning.{Beginning};
 ghost use Rattle.journal.specs.Journals.{JournalState};
-ghost use Rattle.journal.specs.Openings.{HasOtherKeys, IsBad, IsCut, OpensTo, ReachesBook, RecordsLead};
+ghost use Rattle.journal.specs.Openings.{HasOtherKeys, IsBad, IsCut, OpensTo};
 ghost use Rattle.journal.specs.Records.{start_bytes, IsStart};
 ghost use Rattle.journal.specs.Reopened.{begun, with_stream, KeepsRun, OpensInto};
 
@@ -52,14 +52,4 @@ pub fn faults_are_settled()
     ensures { (index_of : List ℕ → List ℕ) (signing_key vuf_key : List ℕ) (salts : Stream) (bytes : List ℕ)
         → (IsCut start_bytes IsStart bytes → (¬ IsBad index_of signing_key vuf_key salts bytes) × (¬ HasOtherKeys signing_key vuf_key bytes))
         × (IsBad index_of signing_key vuf_key salts bytes → ¬ HasOtherKeys signing_key vuf_key bytes) }
-{}
-
-/// Bytes that open go on so with more behind them: the records that these make whole lead on from the book, and what is left
-/// is held. So what follows a journal, and carries out records as they come, has at each time the directory to which
-/// a beginning of what came opens.
-pub fn openings_go_on()
-    ensures { (index_of : List ℕ → List ℕ) (signing_key vuf_key : List ℕ) (salts : Stream) (bytes held came rest : List ℕ) (book after : Book)
-        → ReachesBook index_of signing_key vuf_key salts bytes book held
-        → RecordsLead index_of book (held ++ came) after rest
-        → ReachesBook index_of signing_key vuf_key salts (bytes ++ came) after rest }
 {}

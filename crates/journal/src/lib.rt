@@ -1,8 +1,7 @@
 //! The journal of a directory: the records of what it did, as bytes.
 //!
 //! To the layers above: a record is written whole, or the keeper fails and keeps nothing more. `open` gives
-//! exactly the directory that the records lead to, `carry_out` goes on so with more of them, and the whole records at the
-//! front are counted exactly.
+//! exactly the directory that the records lead to, and the whole records at the front are counted exactly.
 //!
 //! ```
 //! let mut journal = Journal::new(file);
@@ -24,11 +23,10 @@ mod laws;
 mod open_refusal;
 mod opening;
 
-pub use counting::{front, records};
+pub use counting::records;
 pub use journal::{Journal, write_record};
 pub use laws::{
     faults_are_settled, journals_go_on, journals_open_to_their_runs, openings_are_settled,
-    openings_go_on,
 };
 pub use open_refusal::Refusal;
-pub use opening::{Opened, carry_out, open};
+pub use opening::{Opened, open};

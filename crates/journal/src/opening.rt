@@ -7,7 +7,7 @@ ghost use Rattle.book.specs.Shows.{index_of, keyed_provider};
 ghost use Rattle.epochs.specs.DirectoryStates.{book, provider, HasKeysOf};
 ghost use Rattle.book.specs.Replays.{replayed};
 ghost use Rattle.journal.specs.Records.{later_seen, IsLater};
-ghost use Rattle.journal.specs.Opened.{BeginsSo, CarriesOut, IsNotBegun, IsNotReplayed, IsOpenRefusal, Opens, OpensUpTo};
+ghost use Rattle.journal.specs.Opened.{BeginsSo, IsNotBegun, IsNotReplayed, IsOpenRefusal, Opens, OpensUpTo};
 
 use crate::Refusal;
 use crate::beginning::Beginning;
@@ -192,24 +192,6 @@ fn replay_all<H: NodeHash, V: Vuf, S: Signer, R: Rng>(
         *cursor = ahead;
     }
     Ok(taken)
-}
-
-/// Carries out on a directory the records at the front of the bytes, as `open` does behind a start, and returns how many
-/// bytes they have. The rest has to be a record that was cut short.
-///
-/// # Errors
-///
-/// The first fault from the front, once the records before it are carried out: `BadRecord` if what follows them is no later
-/// record and none that was cut short, or has a command that the directory refuses; `Memory` if memory runs out before.
-pub fn carry_out<H: NodeHash, V: Vuf, S: Signer, R: Rng>(
-    directory: &mut Directory<H, V, S, R>,
-    bytes: &[u8],
-) -> Result<usize, Refusal>
-    ensures carries { CarriesOut (index_of (provider H.digest_of V.value_of S.signature_of directory.old)) (book R.stream directory.old) bytes.now result (book R.stream directory.new) }
-    ensures keys { HasKeysOf directory.old directory.new }
-{
-    let mut cursor = Cursor::new(bytes);
-    replay_all(directory, &mut cursor, bytes.len())
 }
 
 /// Opens a journal: the directory after the longest list of whole records that begins the bytes, with

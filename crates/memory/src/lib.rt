@@ -17,6 +17,7 @@ mod laws;
 mod learning;
 mod leaving;
 mod mark;
+mod marks;
 mod memory;
 mod promised;
 mod promises;

@@ -19,7 +19,7 @@ some_bytes [] some = absurd (some refl)
 some_bytes (byte ∷ more) some = omega arith
 
 module _ {S : Type 0} (answers : S → Frame → List ℕ → S → Type 0) where
-  pub does_answered : (before : HubState S) (it : Happening) (xs : List Exchange) (after : HubState S) → Does answers before it xs after
+  does_answered : (before : HubState S) (it : Happening) (xs : List Exchange) (after : HubState S) → Does answers before it xs after
       → AllAnswered answers before.service (lines (number it) xs) after.service
   does_answered before (Open session) xs after (none, does) =
       subst (λ (ys : List Exchange). AllAnswered answers before.service (lines session ys) after.service) (sym none) (ap (λ (h : HubState S). h.service) does)
@@ -28,13 +28,13 @@ module _ {S : Type 0} (answers : S → Frame → List ℕ → S → Type 0) wher
   does_answered before (End session) xs after (none, does) =
       subst (λ (ys : List Exchange). AllAnswered answers before.service (lines session ys) after.service) (sym none) (ap (λ (h : HubState S). h.service) does)
 
-  pub passes_answered : (before : HubState S) (it : Happening) (xs : List Exchange) (after : HubState S) → DoesUnlessRefused answers before it xs after
+  passes_answered : (before : HubState S) (it : Happening) (xs : List Exchange) (after : HubState S) → DoesUnlessRefused answers before it xs after
       → AllAnswered answers before.service (lines (number it) xs) after.service
   passes_answered before it xs after (inl (refusal, is, none, stays)) =
       subst (λ (ys : List Exchange). AllAnswered answers before.service (lines (number it) ys) after.service) (sym none) (ap (λ (h : HubState S). h.service) stays)
   passes_answered before it xs after (inr (is, does)) = does_answered before it xs after does
 
-  pub loses_answered : (before : HubState S) (session : ℕ) (part : List ℕ) (xs : List Exchange) (after : HubState S) → Loses answers before session part xs after
+  loses_answered : (before : HubState S) (session : ℕ) (part : List ℕ) (xs : List Exchange) (after : HubState S) → Loses answers before session part xs after
       → AllAnswered answers before.service (lines session xs) after.service
   loses_answered before session part xs after (inl (due, takes, none, same)) =
       subst (λ (ys : List Exchange). AllAnswered answers before.service (lines session ys) after.service) (sym none) (ap (λ (h : HubState S). h.service) same)
@@ -95,12 +95,7 @@ module _ {S : Type 0} (answers : S → Frame → List ℕ → S → Type 0) wher
 
     pub crowd_answered : (start : X) (acts : History) (after : X) → HubLeads answers hub_of start acts after → Told start acts after
     crowd_answered start [] after same = ([], (ap hub_of same, refl), ap (λ (x : X). (hub_of x).service) same)
-    crowd_answered start (At pause now ∷ acts) after (middle, leads, same) =
-        let earlier = crowd_answered start acts middle leads in (
-          earlier.0,
-          subst (λ (h : HubState S). AreLines answers (hub_of start) acts h earlier.0) (sym same) earlier.1,
-          subst (λ (h : HubState S). AllAnswered answers (hub_of start).service earlier.0 h.service) (sym same) earlier.2,
-        )
+    crowd_answered start (At pause now ∷ acts) after leads = crowd_answered start acts after leads
     crowd_answered start (Ordered ∷ acts) after leads = crowd_answered start acts after leads
     crowd_answered start (Syncs kept ∷ acts) after leads = crowd_answered start acts after leads
     crowd_answered start (GoesOn ∷ acts) after leads = crowd_answered start acts after leads
@@ -154,11 +149,10 @@ module _ {S : Type 0} (answers : S → Frame → List ℕ → S → Type 0) wher
           (λ before session part reply after. Heard answers (hub_of before) session part reply (hub_of after) × (any_unkept after ≡ (is_unkept reply || any_unkept before)))
           (λ before session part why after. Missed answers (hub_of before) session part why (hub_of after) × (any_unkept after ≡ any_unkept before))
           (λ before session after. Ended answers (hub_of before) session (hub_of after) × (any_unkept after ≡ any_unkept before))
-          (λ before after. (hub_of after ≡ hub_of before) × (any_unkept after ≡ any_unkept before))
 
       pub hub_leads : (start : X) (acts : History) (after : X) → KnowingLeads start acts after → HubLeads answers hub_of start acts after
       hub_leads start [] after same = same
-      hub_leads start (At pause now ∷ acts) after (middle, leads, same) = (middle, hub_leads start acts middle leads, same.0)
+      hub_leads start (At pause now ∷ acts) after leads = hub_leads start acts after leads
       hub_leads start (Ordered ∷ acts) after leads = hub_leads start acts after leads
       hub_leads start (Syncs kept ∷ acts) after leads = hub_leads start acts after leads
       hub_leads start (GoesOn ∷ acts) after leads = hub_leads start acts after leads

@@ -1,8 +1,5 @@
-pub mod Beginning
 pub mod Behind
-pub mod Carried
 pub mod Conversing
-pub mod Copied
 pub mod Crowds
 pub mod Earlier
 pub mod Ending

@@ -1,5 +1,5 @@
 -- Connections that are answered within the limits of an order.
-use Rattle.std.proofs.Common.{◌≡◌, ℕ, Bool, true, false, IsSome, List, [], Option, ap, subst, ◌∙◌}
+use Rattle.std.proofs.Common.{◌≡◌, ℕ, Bool, false, List, [], Option, ap, subst, ◌∙◌}
 use Rattle.nodehash.specs.Sha256.{sha256}
 use Rattle.vrfiface.specs.StandIns.{keyed_value}
 use Rattle.sigiface.specs.StandIn.{keyed_signature}
@@ -19,7 +19,7 @@ use Rattle.server.specs.Programs.{ShownBy}
 use Rattle.server.specs.Sessions.{is_unkept, AreLines}
 use Rattle.server.proofs.Earlier.{always_answered, always_in_order}
 
-pub keeps_order : (taken : ConnectionOptions) (idle count size : ℕ) (acts : History) → idle ≡ idle_limit taken → count ≡ taken.count → size ≡ most_open taken → KeepsLimits idle count size acts → KeepsOrder taken acts
+keeps_order : (taken : ConnectionOptions) (idle count size : ℕ) (acts : History) → idle ≡ idle_limit taken → count ≡ taken.count → size ≡ most_open taken → KeepsLimits idle count size acts → KeepsOrder taken acts
 keeps_order taken idle count size acts same_idle same_count same_size keeps = rw (← same_idle, ← same_count, ← same_size) keeps
 
 module _ {K : Type 0} (kept failed : K → Record → K → Type 0) where
@@ -28,8 +28,8 @@ module _ {K : Type 0} (kept failed : K → Record → K → Type 0) where
       → hub.sessions ≡ [] → before ≡ hub → any ≡ false → idle ≡ idle_limit taken → every ≡ report_every taken → count ≡ taken.count → size ≡ most_open taken
       → (acts : History) → KeepsLimits idle count size acts → AlwaysWaitWithin MAX_ANSWER_LEN acts
       → ((lines : List Line) × AreLines (DeskAnswers sha256 keyed_value keyed_signature chacha_salts kept failed) before acts after lines × ShownBy kept failed before.service lines after.service)
-      → (uncopied : Bool) → (uncopied ≡ true → IsSome taken.copy) → TellsAll is_unkept every uncopied any acts errors new → AnswersConnections kept failed taken hub.service errors new
-  answers_ordered taken hub idle every count size before after any errors new none same never same_idle same_every same_count same_size acts keeps waits (lines, are, shown) uncopied copied tells =
+      → TellsAll is_unkept every any acts errors new → AnswersConnections kept failed taken hub.service errors new
+  answers_ordered taken hub idle every count size before after any errors new none same never same_idle same_every same_count same_size acts keeps waits (lines, are, shown) tells =
       let answers = DeskAnswers sha256 keyed_value keyed_signature chacha_salts kept failed in
       let start : HubState (DeskState ChaCha K) = record { service = hub.service; sessions = [] } in
       let lines_are : AreLines answers start acts after lines = subst (λ (h : HubState (DeskState ChaCha K)). AreLines answers h acts after lines) (same ∙ ap (λ sessions. record { service = hub.service; sessions = sessions }) none) are in (
@@ -42,7 +42,5 @@ module _ {K : Type 0} (kept failed : K → Record → K → Type 0) where
         lines_are,
         always_answered answers start idle acts after lines lines_are keeps.sound,
         subst (λ (h : HubState (DeskState ChaCha K)). ShownBy kept failed h.service lines after.service) same shown,
-        uncopied,
-        copied,
-        subst (λ (n : ℕ). TellsAll is_unkept n uncopied false acts errors new) same_every (subst (λ (b : Bool). TellsAll is_unkept every uncopied b acts errors new) never tells),
+        subst (λ (n : ℕ). TellsAll is_unkept n false acts errors new) same_every (subst (λ (b : Bool). TellsAll is_unkept every b acts errors new) never tells),
       )

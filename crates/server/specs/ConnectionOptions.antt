@@ -1,25 +1,21 @@
 -- How a server is asked to take connections.
-use Rattle.std.specs.Prelude.{ℕ, ◌*◌, ◌-◌, ◌^◌, min, max, Bool, false, List, Option, None, Some, codes, option_map}
-use Rattle.std.specs.Str.{bytes_eq}
+use Rattle.std.specs.Prelude.{ℕ, ◌*◌, ◌-◌, ◌^◌, min, max, Bool, List}
 use Rattle.hub.specs.declared.sessions.TheConstants.{MAX_SESSIONS}
 use Rattle.server.specs.declared.listening.TheConstants.{MILLISECONDS_PER_SECOND}
 use Rattle.server.specs.declared.order.ListenOrder.{ListenOrder}
 
 -- how many, and how many at once; for how many seconds one may be idle; every how many seconds a report is wanted, or never;
--- where they are given, the paths of the journal's copy and of what is followed; whether the end of the input is an order to
--- stop; and the text of the address
+-- whether the end of the input is an order to stop; and the text of the address
 pub record ConnectionOptions : Type 0 where
   pub count : ℕ
   pub sessions : ℕ
   pub idle : ℕ
   pub report : ℕ
-  pub copy : Option (List ℕ)
-  pub follow : Option (List ℕ)
   pub until_eof : Bool
   pub address : List ℕ
 
 abbrev pub connections_of : ListenOrder → ConnectionOptions
-connections_of order = record { count = order.count; sessions = order.sessions; idle = order.idle; report = order.report; copy = option_map (λ path. path.now) order.copy; follow = option_map (λ path. path.now) order.follow; until_eof = order.until_eof; address = order.address.now }
+connections_of order = record { count = order.count; sessions = order.sessions; idle = order.idle; report = order.report; until_eof = order.until_eof; address = order.address.now }
 
 -- for how many milliseconds a connection may be idle; 0 for ever
 abbrev pub idle_limit : ConnectionOptions → ℕ
@@ -32,11 +28,3 @@ report_every taken = min (taken.report * MILLISECONDS_PER_SECOND) (2 ^ 64 - 1)
 -- how many connections are open at once at most
 abbrev pub most_open : ConnectionOptions → ℕ
 most_open taken = max 1 (min taken.sessions MAX_SESSIONS)
-
--- whether the input is followed
-abbrev pub is_input : Option (List ℕ) → Bool
-is_input None = false
-is_input (Some path) = bytes_eq path (codes "-")
-
-abbrev pub follows_input : ConnectionOptions → Bool
-follows_input taken = is_input taken.follow

@@ -1,9 +1,7 @@
 pub mod ConnectionOptions
-pub mod Copying
 pub mod DirectoryOptions
 pub mod Directories
 pub mod Faults
-pub mod Following
 pub mod Listening
 pub mod Pieces
 pub mod Programs

@@ -1,6 +1,6 @@
 -- What a server does with connections, and what it says of where it listens.
-use Rattle.std.specs.Prelude.{◌≡◌, ◌⊎◌, ℕ, Bool, true, false, List, ◌++◌, [], ◌∷◌, Option, None, Some, IsSome, Result, Ok, Err, codes, ⊤}
-use Rattle.std.specs.Io.KnownBytes.{Appends, Consumes, Keeps}
+use Rattle.std.specs.Prelude.{◌≡◌, ◌⊎◌, ℕ, false, List, ◌++◌, [], ◌∷◌, Option, None, Some, Result, Ok, Err, codes, ⊤}
+use Rattle.std.specs.Io.KnownBytes.{Appends, Keeps}
 use Rattle.textio.specs.declared.program_fault.ProgramFault.{ProgramFault}
 use Rattle.textio.specs.declared.program_fault.ProgramFault.TheVariants.{BadHex, BadItem, IndexRepeated, NotACommand, NotEvidence, BadRecord, OtherKeys, CannotRead, CannotWrite, CannotListen, OutOfMemory}
 use Rattle.textio.specs.Output.{WritesBeginning}
@@ -19,18 +19,13 @@ use Rattle.connections.specs.Histories.{History}
 use Rattle.connections.specs.Laws.{AlwaysWaitWithin}
 use Rattle.connections.specs.Soundness.{IsSoundHistory}
 use Rattle.connections.specs.Telling.{TellsAll}
-use Rattle.journal.specs.Counting.{Counts}
 use Rattle.hub.specs.Desks.{DeskAnswers, DeskState}
 use Rattle.hub.specs.Events.{HubState}
 use Rattle.hub.specs.Runs.{Line}
 use Rattle.server.specs.ConnectionOptions.{ConnectionOptions, idle_limit, most_open, report_every}
 use Rattle.server.specs.DirectoryOptions.{DirectoryOptions}
 use Rattle.server.specs.Directories.{keys_of, DirectoryKeys, HasBegun}
-use Rattle.files.specs.Faults.{IsSystemFault}
-use Rattle.files.specs.Telling.{TellsError}
-use Rattle.server.specs.Following.{follow_outcome, AlwaysStretches, IsBookOf, Reader, ReaderLeads}
-use Rattle.server.specs.Programs.{AfterJournal, KeepsInFile, LosesInFile, ShownBy, TellsFailure, TellsWhy}
-use Rattle.server.specs.Reopening.{at_stream, journal_line, IsUnopened}
+use Rattle.server.specs.Programs.{AfterJournal, KeepsInFile, LosesInFile, ShownBy}
 use Rattle.server.specs.Sessions.{is_unkept, AlwaysAnswered, AlwaysInOrder, AreLines}
 
 -- the line with an address
@@ -75,29 +70,21 @@ KeepsOrder taken = KeepsLimits (idle_limit taken) taken.count (most_open taken)
 -- there is a history of them, and what is answered in it shows a run. At each time, each connection took a
 -- beginning of what its session was answered, as the lines so far have it; no more than 64 KiB and the
 -- longest reply ever wait for one; and of each that was closed for want of memory there is a line on the
--- errors, and one line if an edit was refused because its record could not be kept, or a sync failed; at most one is about
--- a copy, if there is one; reports come where they are wanted, of which no clause says what they tell or when. What ties the history to the sockets is not in a
+-- errors, and one line if an edit was refused because its record could not be kept, or a sync failed; reports come where
+-- they are wanted, of which no clause says what they tell or when. What ties the history to the sockets is not in a
 -- contract.
 abbrev pub AnswersConnections : {K : Type 0} → (K → Record → K → Type 0) → (K → Record → K → Type 0) → ConnectionOptions → DeskState ChaCha K → Option (List ℕ) → Option (List ℕ) → Type 0
 AnswersConnections {K} kept failed taken desk errors new = (acts : History) × (lines : List Line) × (after : HubState (DeskState ChaCha K))
     × KeepsOrder taken acts × AlwaysWaitWithin MAX_ANSWER_LEN acts × AlwaysInOrder acts
     × AreLines (DeskAnswers sha256 keyed_value keyed_signature chacha_salts kept failed) (record { service = desk; sessions = [] }) acts after lines
     × AlwaysAnswered (DeskAnswers sha256 keyed_value keyed_signature chacha_salts kept failed) (record { service = desk; sessions = [] }) acts lines
-    × ShownBy kept failed desk lines after.service
-    × (uncopied : Bool) × (uncopied ≡ true → IsSome taken.copy) × TellsAll is_unkept (report_every taken) uncopied false acts errors new
-
--- what is next comes, unless the journal in the file of this path cannot be put on its disk, or its copy fails at the start:
--- then a line may say why
-abbrev pub AfterCopy : List ℕ → Option (List ℕ) → Option (List ℕ) → Result (Unit {0}) ProgramFault → Option (List ℕ) → Type 0 → Type 0
-AfterCopy journal None old result new Next = Next
-AfterCopy journal (Some path) old result new Next = ((result ≡ Err CannotWrite) × TellsWhy journal CannotWrite old new)
-    ⊎ (((fault : ProgramFault) × (result ≡ Err fault) × IsSystemFault fault × TellsError (codes "copy: ") path old new) ⊎ Next)
+    × ShownBy kept failed desk lines after.service × TellsAll is_unkept (report_every taken) false acts errors new
 
 -- connections are answered from the desk of a journal's directory, whose line comes first
 abbrev pub TellsKept : DirectoryOptions → List ℕ → ConnectionOptions → Option (List ℕ) → Result (Unit {0}) ProgramFault → Option (List ℕ) → Type 0
 TellsKept asked path taken errors result new = ((result ≡ Err BadHex) × Keeps errors new)
     ⊎ ((keys : DirectoryKeys) × (keys_of asked ≡ Some keys)
-    × AfterJournal keys path errors new result ⊤ (λ desk told. AfterCopy path taken.copy told result new (TellsAddress (AnswersConnections KeepsInFile LosesInFile taken desk) told result new)))
+    × AfterJournal keys path errors new result ⊤ (λ desk told. TellsAddress (AnswersConnections KeepsInFile LosesInFile taken desk) told result new))
 
 -- the directory of these keys is begun, and connections are answered from its desk
 abbrev pub ServesBegun : DirectoryOptions → ConnectionOptions → Option (List ℕ) → Option (List ℕ) → Type 0
@@ -113,48 +100,5 @@ abbrev pub TellsBy : Option (List ℕ) → DirectoryOptions → ConnectionOption
 TellsBy None asked taken errors result new = TellsUnkept asked taken errors result new
 TellsBy (Some path) asked taken errors result new = TellsKept asked path taken errors result new
 
--- ---- readers
-
--- Connections are answered from a reader to another, as ordered: there is a history of them, which leads from one to the other,
--- so that at each time it has the book of what came. In each stretch of it where no round begins, what is answered shows
--- one run, from one book. At each time, each connection took a beginning of what its session was answered, as the lines of
--- these have it, and no more than 64 KiB and the longest reply wait for one. What an edit is refused is told of nowhere.
-abbrev pub AnswersReading : ConnectionOptions → Reader → Reader → Option (List ℕ) → Option (List ℕ) → Type 0
-AnswersReading taken start after errors new = (acts : History)
-    × KeepsOrder taken acts × AlwaysWaitWithin MAX_ANSWER_LEN acts × AlwaysInOrder acts × ReaderLeads (λ reader. reader) start acts after × AlwaysStretches start acts
-    × (uncopied : Bool) × (uncopied ≡ true → IsSome taken.copy) × TellsAll (λ _. false) (report_every taken) uncopied false acts errors new
-
--- The line of the address is written, and this is what comes behind it; or none comes. What ended the reader is the result,
--- of which a line may say why.
-abbrev pub TellsReading : List ℕ → ConnectionOptions → Reader → Option (List ℕ) → Result (Unit {0}) ProgramFault → Option (List ℕ) → Type 0
-TellsReading path taken start old result new = ((fault : ProgramFault) × (result ≡ Err fault) × TellsAddressLine old (Err fault) new)
-    ⊎ ((address : List ℕ) × (told answered : Option (List ℕ)) × (after : Reader) × Appends old told (address_line address) × AnswersReading taken start after told answered
-    × (result ≡ follow_outcome after.fault) × TellsFailure path result answered new)
-
--- a reader of these keys begins with the book to which the bytes open that came of a source, which had these
-abbrev pub BeginsReading : DirectoryKeys → Option (List ℕ) → Reader → Type 0
-BeginsReading keys source start = (start.hub.sessions ≡ []) × (start.hub.service.token ≡ keys.token) × (start.fault ≡ None)
-    × (start.hub.service.directory.signing_key ≡ keys.signing_key) × (start.hub.service.directory.vuf_key ≡ keys.vuf_key)
-    × (bytes : List ℕ) × (records : ℕ) × Consumes source start.left bytes × Counts bytes records × IsBookOf (chacha_salts (at_stream keys.salt_key records)) bytes start
-
--- why no reader begins: what it follows is refused, or cannot be read; or its line cannot be written
-abbrev pub NotBegun : DirectoryKeys → List ℕ → ProgramFault → Option (List ℕ) → Option (List ℕ) → Type 0
-NotBegun keys path fault old new = (IsUnopened keys None fault × TellsWhy path fault old new)
-    ⊎ ((records : ℕ) × (fault ≡ CannotWrite) × WritesBeginning old new (journal_line records 0))
-
--- What comes of what is followed, once a line may have said that its start is not whole: no reader begins, and no more is
--- done; or one does, its line is written to the errors, and connections are answered.
-abbrev pub TellsFollowed : DirectoryOptions → List ℕ → ConnectionOptions → Option (List ℕ) → Result (Unit {0}) ProgramFault → Option (List ℕ) → Type 0
-TellsFollowed asked path taken errors result new = ((result ≡ Err BadHex) × Keeps errors new)
-    ⊎ ((keys : DirectoryKeys) × (waited : Option (List ℕ)) × (keys_of asked ≡ Some keys) × TellsError (codes "journal: ") path errors waited
-    × (((fault : ProgramFault) × (result ≡ Err fault) × NotBegun keys path fault waited new)
-    ⊎ ((records : ℕ) × (start : Reader) × (told : Option (List ℕ)) × BeginsReading keys None start
-    × Appends waited told (journal_line records 0) × TellsReading path taken start told result new)))
-
--- the same of an order, by whether it follows anything
-abbrev pub TellsUnless : Option (List ℕ) → DirectoryOptions → ConnectionOptions → Option (List ℕ) → Result (Unit {0}) ProgramFault → Option (List ℕ) → Type 0
-TellsUnless None asked taken errors result new = TellsBy asked.journal asked taken errors result new
-TellsUnless (Some path) asked taken errors result new = TellsFollowed asked path taken errors result new
-
 abbrev pub ListenTells : DirectoryOptions → ConnectionOptions → Option (List ℕ) → Result (Unit {0}) ProgramFault → Option (List ℕ) → Type 0
-ListenTells asked taken = TellsUnless taken.follow asked taken
+ListenTells asked = TellsBy asked.journal asked

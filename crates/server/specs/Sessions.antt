@@ -89,7 +89,6 @@ module _ {S : Type 0} (answers : S → Frame → List ℕ → S → Type 0) wher
       (λ before session part reply after. Heard (hub_of before) session part reply (hub_of after))
       (λ before session part why after. Missed (hub_of before) session part why (hub_of after))
       (λ before session after. Ended (hub_of before) session (hub_of after))
-      (λ before after. hub_of after ≡ hub_of before)
 
   -- The messages of what happened from this hub to that one, each with its reply, as lines of the hub: what a
   -- session is answered to a part is the replies to the messages that its stream completes with these bytes.

@@ -7,7 +7,6 @@ ghost use Rattle.std.specs.Io.KnownBytes.{Appends};
 ghost use Rattle.textio.specs.Faults.{IsDeviceFault};
 ghost use Rattle.textio.specs.Output.{WritesBeginning};
 
-use crate::copying::{Placed, Settled};
 use files::read_rest;
 use std::alloc::Global;
 use std::cell::Cell;
@@ -31,10 +30,6 @@ pub(crate) struct Disk {
     state: Cell<DiskState>,
     /// What the system said when it last did not do what was asked.
     error: Cell<Option<Error>>,
-    /// How many bytes it has, since this was last asked of the system.
-    size: Cell<u64>,
-    /// How many of them are whole texts: the write that ended them took all that it was given.
-    whole: Cell<u64>,
 }
 
 impl Disk {
@@ -44,18 +39,7 @@ impl Disk {
             file,
             state: Cell::new(DiskState::Unsynced),
             error: Cell::new(None),
-            size: Cell::new(0),
-            whole: Cell::new(0),
         }
-    }
-
-    /// Puts on the disk what it has just after it was opened, which are whole records, and returns how many bytes that are.
-    pub(crate) fn begin(&self) -> io::Result<u64> {
-        self.sync()?;
-        let size = self.size()?;
-        self.size.set(size);
-        self.whole.set(size);
-        Ok(size)
     }
 
     /// The last error of the system, if there was one.
@@ -114,23 +98,11 @@ impl Disk {
         }
         self.state.set(DiskState::Unsynced);
         match (&mut &self.file).write(bytes) {
-            Ok(count) => {
-                self.grow(count, bytes.len());
-                Ok(count)
-            }
+            Ok(count) => Ok(count),
             Err(error) => {
                 self.error.set(Some(error));
                 Err(error)
             }
-        }
-    }
-
-    /// It has so many bytes more, of so many that it was given.
-    fn grow(&self, count: usize, given: usize) {
-        let size = self.size.get().saturating_add(count as u64);
-        self.size.set(size);
-        if count == given {
-            self.whole.set(size);
         }
     }
 
@@ -149,30 +121,6 @@ impl Disk {
                 Ok(())
             }
         }
-    }
-}
-
-impl Placed for Disk {
-    ghost use Rattle.std.specs.Prelude.{None, ⊤};
-
-    // Contracts do not know what a disk has.
-    ghost held = { λ _. None };
-
-    ghost read_fails = { λ _. ⊤ };
-
-    fn read_from(&self, place: u64, room: &mut [u8]) -> io::Result<usize> {
-        self.file.read_from(place, room)
-    }
-}
-
-impl Settled for Disk {
-    ghost use Rattle.std.specs.Prelude.{⊤};
-
-    ghost settled = { λ _ _. ⊤ };
-
-    fn settle(&self) -> io::Result<u64> {
-        self.sync()?;
-        Ok(self.whole.get())
     }
 }
 

@@ -1,13 +1,5 @@
-ghost use Rattle.std.specs.Prelude.{◌≡◌, ◌⊎◌, ◌≤◌, ℕ, Bool, List, Some, take};
-ghost use Rattle.server.specs.Copying.{AppendsFrom, IsCopy};
+ghost use Rattle.std.specs.Prelude.{◌≡◌, ◌⊎◌, ℕ, List};
 ghost use Rattle.rand_chacha.specs.ChaCha.{ChaCha};
-ghost use Rattle.rand_core.specs.Stream.{Stream};
-ghost use Rattle.nodehash.specs.Sha256.{sha256};
-ghost use Rattle.vrfiface.specs.StandIns.{keyed_value, KeyedAccepts};
-ghost use Rattle.sigiface.specs.StandIn.{keyed_signature, KeyedVerifies};
-ghost use Rattle.book.specs.Keeps.{AlwaysFails, KeepsNone};
-ghost use Rattle.server.specs.Following.{reader_book, AlwaysFollows, HasNoRound, IsBookOf, Reader, ReaderAnswers, ReaderLeads};
-ghost use Rattle.server.specs.Programs.{ShownBy};
 ghost use Rattle.book.specs.Salts.{chacha_salts, GivesSalts};
 ghost use Rattle.hub.specs.DeskRuns.{IsSoundDesk, ShowHonestRun};
 ghost use Rattle.hub.specs.Desks.{DeskState, DeskAnswers};
@@ -80,30 +72,4 @@ pub fn crowd_outputs_are_bounded<H: NodeHash, V: Vuf, S: Signer, G: Rng, K: Keep
 /// `book` ask of the salts to come.
 pub fn salts_have_their_size()
     ensures { (generator : ChaCha) → GivesSalts (chacha_salts generator) }
-{}
-
-/// A reader has at each time the book of a beginning of what its source had: that to which the bytes of its start and those
-/// that came so far open, with what is held behind them. So it is, by `journals_open_to_their_runs`, the book of a beginning
-/// of the run that the journal has.
-pub fn readers_follow()
-    ensures { (start after : Reader) (acts : History) (salts : Stream) (bytes : List ℕ)
-        → IsBookOf salts bytes start → ReaderLeads (λ reader. reader) start acts after → AlwaysFollows salts bytes start acts }
-{}
-
-/// What a reader answers leaves its book, since it can keep no record. So in a stretch of its history where no round begins,
-/// what is answered is of one book, and shows an honest run from it. This needs that the desk before it is known as
-/// sound, as a call of `head` says of each.
-pub fn readers_answer_from_one_book()
-    ensures { (before after : Reader) (acts : History)
-        → HasNoRound acts → ReaderLeads (λ reader. reader) before acts after
-        → IsSoundDesk sha256 keyed_value keyed_signature chacha_salts KeyedAccepts KeyedVerifies before.hub.service
-        → (lines : List Line) × AreLines ReaderAnswers before.hub acts after.hub lines × (reader_book after ≡ reader_book before)
-        × ShownBy KeepsNone AlwaysFails before.hub.service lines after.hub.service }
-{}
-
-/// What a copy holds stays a beginning of what its journal holds, whatever fails: so it is of what was on the journal's
-/// disk, since no more is handed to it.
-pub fn copies_are_beginnings()
-    ensures { (journal copy new : List ℕ) (from reached : ℕ) (is_whole : Bool) → from ≤ reached → copy ≡ take from journal
-        → AppendsFrom (Some journal) from reached is_whole (Some copy) (Some new) → IsCopy journal new }
 {}

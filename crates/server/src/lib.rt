@@ -3,23 +3,16 @@
 //! To the layers above: `serve` writes exactly the replies to the messages in the bytes that it reads, or a
 //! beginning of them if there is a fault, and it ends the session on every way out. With a journal, the
 //! directory is the one that the bytes of a file open to, and records are written behind the bytes that
-//! were taken. A copy gets of it what its disk has, and no more. A reader has at each time the book of a beginning of
-//! what it follows had, and answers from one book as long as no round begins. Malformed keys are refused before anything
-//! is read.
+//! were taken. Malformed keys are refused before anything is read.
 #![tactic(auto)]
 
-mod copying;
 mod disk;
-mod journal_copy;
 mod journal_file;
 mod keys;
 mod laws;
 mod listening;
 mod opening;
 mod order;
-mod pace;
-mod readers;
-mod reading;
 mod reopening;
 mod serve_fault;
 mod serving;
@@ -33,9 +26,8 @@ pub use hub::MAX_SESSIONS;
 pub use journal_file::{DiskFile, JournalFile};
 pub use keys::{ServedDesk, ServedDirectory};
 pub use laws::{
-    copies_are_beginnings, crowd_outputs_are_bounded, crowds_show_one_run,
-    numbers_have_their_values, readers_answer_from_one_book, readers_follow, salts_have_their_size,
-    sessions_show_one_run,
+    crowd_outputs_are_bounded, crowds_show_one_run, numbers_have_their_values,
+    salts_have_their_size, sessions_show_one_run,
 };
 pub use listening::listen;
 pub use order::{DirectoryOrder, ListenOrder};

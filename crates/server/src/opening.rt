@@ -25,12 +25,7 @@ use textio::ProgramFault;
 const JOURNAL: &str = "journal: ";
 
 /// Says what the system said of the file of a journal, if it said anything.
-pub(crate) fn tell_said<E: Write>(
-    alloc: Global,
-    path: &str,
-    error: Option<io::Error>,
-    errors: &mut E,
-)
+fn tell_said<E: Write>(alloc: Global, path: &str, error: Option<io::Error>, errors: &mut E)
     ensures { TellsError (codes "journal: ") path.now (E.contents errors.old) (E.contents errors.new) }
 {
     let Some(error) = error else {
@@ -89,42 +84,6 @@ pub(crate) fn open_file<F: Files<File = File>, E: Write>(
             Err(why.fault)
         }
     }
-}
-
-/// Whether a file has no byte, and its copy of this path has some: what was kept is lost.
-fn has_lost_all<F: Files>(files: &F, disk: &Disk, copy: Option<&str>) -> bool {
-    let Some(copy) = copy else {
-        return false;
-    };
-    match (files.metadata(copy), disk.size()) {
-        (Ok(there), Ok(size)) => size == 0 && there.len() > 0,
-        _ => false,
-    }
-}
-
-/// The same as `open_file`, of a journal that may have a copy, unless it is empty and the copy is not: a new start in it would
-/// be another directory.
-pub(crate) fn open_copied<F: Files<File = File>, E: Write>(
-    alloc: Global,
-    files: &F,
-    path: &str,
-    copy: Option<&str>,
-    errors: &mut E,
-) -> Result<Disk, ProgramFault>
-    ensures still { OnOk result (errors.new ≡ errors.old) }
-    ensures err { IfErr result (λ fault. IsSystemFault fault × TellsWhy path.now fault (E.contents errors.old) (E.contents errors.new)) }
-{
-    let disk = match open_file(alloc, files, path, errors) {
-        Ok(disk) => disk,
-        Err(fault) => return Err(fault),
-    };
-    if !has_lost_all(files, &disk, copy) {
-        return Ok(disk);
-    }
-    let fault = ProgramFault::CannotWrite;
-    let error = io::Error::other("it is empty, and its copy is not");
-    tell_why(alloc, path, fault, Some(error), errors);
-    Err(fault)
 }
 
 /// Goes on with the directory of the file, or begins one in it. Where the system fails, a line to the errors says what it said.

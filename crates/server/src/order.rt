@@ -33,10 +33,6 @@ pub struct ListenOrder<'a> {
     pub idle: u64,
     /// Every how many seconds a report is written on the errors; 0 for never.
     pub report: u64,
-    /// The path of the file that gets a copy of the journal.
-    pub copy: Option<&'a str>,
-    /// The path of a copy that is followed in place of a journal; `-` for standard input.
-    pub follow: Option<&'a str>,
     /// Whether the end of standard input is an order to stop.
     pub until_eof: bool,
     /// The address to listen on, such as `127.0.0.1:7000`.

@@ -39,7 +39,7 @@ pub(crate) struct Reopened {
 }
 
 /// The program's fault for a journal that is refused.
-pub(crate) fn fault_of(refusal: Refusal) -> ProgramFault
+fn fault_of(refusal: Refusal) -> ProgramFault
     ensures { result ≡ of_refusal refusal }
 {
     match refusal {
@@ -50,7 +50,7 @@ pub(crate) fn fault_of(refusal: Refusal) -> ProgramFault
 }
 
 /// What the bytes of a journal open to, with the salts of the stream of this number to come.
-pub(crate) fn open_bytes(
+fn open_bytes(
     alloc: Global,
     keys: &Keys,
     bytes: &[u8],

@@ -1,16 +1,12 @@
 //! The sessions of a hub, for the loop over connections. Each hears its stream in parts that end no more than
 //! one message.
 ghost use Rattle.std.specs.Prelude.{◌≡◌, false};
-ghost use Rattle.book.specs.Shows.{index_of};
-ghost use Rattle.epochs.specs.DirectoryStates.{book, provider, HasKeysOf};
 ghost use Rattle.hub.specs.DeskRuns.{IsSoundDesk};
-ghost use Rattle.journal.specs.Opened.{CarriesOut};
 ghost use Rattle.server.specs.Sessions.{is_unkept, session_fault};
 
 use book::Keeper;
 use connections::{SessionFault, Sessions};
 use hub::{Desk, Event, Hub, HubRefusal, Service};
-use journal::Refusal;
 use nodehash::NodeHash;
 use rand_core::Rng;
 use sigiface::Signer;
@@ -79,15 +75,6 @@ where
     {
         self.hub.head();
     }
-
-    /// Carries out records on the directory: see `Hub::carry_out`.
-    pub(crate) fn carry_out(&mut self, bytes: &[u8]) -> Result<usize, Refusal>
-        ensures carries { CarriesOut (index_of (provider H.digest_of V.value_of S.signature_of self.old.hub.service.directory)) (book R.stream self.old.hub.service.directory) bytes.now result (book R.stream self.new.hub.service.directory) }
-        ensures keys { HasKeysOf self.old.hub.service.directory self.new.hub.service.directory }
-        ensures rest { (self.new.hub.service.keeper ≡ self.old.hub.service.keeper) × (self.new.hub.service.token ≡ self.old.hub.service.token) × (self.new.hub.sessions ≡ self.old.hub.sessions) }
-    {
-        self.hub.carry_out(bytes)
-    }
 }
 
 /// Why a session was not opened, or did not hear.
@@ -132,9 +119,6 @@ impl<D: Service + Drop> Sessions for HubSessions<D> {
 
     ghost ends = { λ before session after. Ended D.answers before.hub session after.hub × (after.has_unkept ≡ before.has_unkept) };
 
-    // Nothing comes to them but by connections.
-    ghost begins = { λ before after. (after.hub ≡ before.hub) × (after.has_unkept ≡ before.has_unkept) };
-
     ghost is_unkept = { is_unkept };
 
     ghost any_unkept = { λ sessions. sessions.has_unkept };
@@ -146,8 +130,6 @@ impl<D: Service + Drop> Sessions for HubSessions<D> {
     ghost misses_as = { λ before session part why after missed. missed.1 };
 
     ghost ends_as = { λ before session after ended. ended.1 };
-
-    ghost begins_as = { λ before after same. same.1 };
 
     fn open(&mut self, session: usize) -> Result<(), SessionFault> {
         let Ok(number) = u32::try_from(session) else {
@@ -192,8 +174,6 @@ impl<D: Service + Drop> Sessions for HubSessions<D> {
         let mut nothing = Vec::new(self.alloc);
         let _ended = self.hub.event(&Event::End(number), &mut nothing);
     }
-
-    fn begin(&mut self) {}
 
     fn has_unkept(&self) -> bool {
         self.has_unkept

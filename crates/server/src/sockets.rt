@@ -3,19 +3,15 @@
 //! answers "wait", and asks the system nothing. Contracts know nothing of the bytes of a socket:
 //! `scripts/drive/listen.sh` shows what these calls do.
 
-ghost use Rattle.std.specs.Prelude.{◌≡◌, ◌≤◌, ℕ, length, take, IfOk, OnErr};
+ghost use Rattle.std.specs.Prelude.{◌≡◌, ◌≤◌, ℕ, length, IfOk};
 ghost use Rattle.std.specs.Io.{ReadsAtMost};
-ghost use Rattle.std.specs.Io.KnownBytes.{Consumes, Keeps};
 
 use crate::disk::Disk;
-use crate::journal_copy::JournalCopy;
-use crate::pace::Pace;
-use crate::stopping::{STANDARD_INPUT, StopInput};
+use crate::stopping::StopInput;
 use connections::{Connections, Ending, Reading, Sessions, Writing};
 use hub::MAX_SESSIONS;
 use mio::event::Event;
 use mio::net::{TcpListener, TcpStream};
-use mio::unix::SourceFd;
 use mio::{Events, Interest, Poll, Token};
 use std::alloc::{AllocError, Global};
 use std::io::{self, BufRead, Error, ErrorKind, Read, Write};
@@ -59,37 +55,8 @@ pub(crate) struct Sockets<'a, N, R> {
     listener: TcpListener,
     may_take: bool,
     places: Vec<Option<Socket>>,
-    beside: Beside<'a>,
-    /// The copy of the journal.
-    copy: Option<JournalCopy>,
+    disk: Option<&'a Disk>,
     stop: StopInput<'a, R>,
-}
-
-/// What belongs to a server beside its connections.
-#[derive(Clone, Copy)]
-pub(crate) struct Beside<'a> {
-    /// The disk of its journal.
-    pub(crate) disk: Option<&'a Disk>,
-    /// How it stands to what it follows.
-    pub(crate) pace: Option<&'a Pace>,
-}
-
-impl<'a> Beside<'a> {
-    /// Nothing.
-    pub(crate) fn nothing() -> Self {
-        Beside {
-            disk: None,
-            pace: None,
-        }
-    }
-
-    /// How a reader stands to what it follows.
-    pub(crate) fn following(pace: &'a Pace) -> Self {
-        Beside {
-            disk: None,
-            pace: Some(pace),
-        }
-    }
 }
 
 /// Listens on the first of the address's addresses that it can.
@@ -103,11 +70,9 @@ fn bind<N: Net>(net: &N, address: &str) -> io::Result<TcpListener> {
 }
 
 /// Tries again as long as a call is interrupted.
-pub(crate) fn read_some<R: Read>(reader: &mut R, room: &mut [u8]) -> io::Result<usize>
+fn read_some<R: Read>(reader: &mut R, room: &mut [u8]) -> io::Result<usize>
     ensures room { length room.new ≡ length room.old }
     ensures bound { ReadsAtMost result room.new }
-    ensures ok { IfOk result (λ count. Consumes (R.remaining reader.old) (R.remaining reader.new) (take count room.new)) }
-    ensures err { OnErr result (Keeps (R.remaining reader.old) (R.remaining reader.new)) }
 {
     for _ in 0..u64::MAX {
         match reader.read(room) {
@@ -231,8 +196,7 @@ impl<'a, N: Net + Clock, R: BufRead> Sockets<'a, N, R> {
         system: &'a N,
         address: &str,
         sessions: usize,
-        beside: Beside<'a>,
-        copy: Option<JournalCopy>,
+        disk: Option<&'a Disk>,
     ) -> io::Result<Self> {
         let poll = Poll::new(system)?;
         let mut listener = bind(system, address)?;
@@ -250,8 +214,7 @@ impl<'a, N: Net + Clock, R: BufRead> Sockets<'a, N, R> {
             listener,
             may_take: true,
             places,
-            beside,
-            copy,
+            disk,
             stop: StopInput::none(),
         })
     }
@@ -259,44 +222,6 @@ impl<'a, N: Net + Clock, R: BufRead> Sockets<'a, N, R> {
     /// Takes the end of an input as an order to stop.
     pub(crate) fn stop_at_end_of(&mut self, input: &'a mut R) {
         self.stop = StopInput::new(self.poll.registry(), input);
-    }
-
-    /// Has the system report when standard input, which is followed, can be read. What it cannot report never waits, and is
-    /// read again and again.
-    pub(crate) fn follow_input(&self, pace: &Pace) {
-        let registered = self
-            .poll
-            .registry()
-            .register(&mut SourceFd(&STANDARD_INPUT), INPUT, Interest::READABLE);
-        if registered.is_ok() {
-            pace.is_reported();
-        }
-    }
-
-    /// For how long a round may wait by what is followed, of so long at most.
-    fn follow_for(&self, most: u64) -> u64 {
-        let Some(pace) = self.beside.pace else {
-            return most;
-        };
-        if pace.is_to_be_asked() {
-            // What is left, if anything is, is reported again.
-            let again = self
-                .poll
-                .registry()
-                .reregister(&mut SourceFd(&STANDARD_INPUT), INPUT, Interest::READABLE);
-            if let Err(why) = again {
-                pace.lose(why);
-            }
-        }
-        pace.wait(most)
-    }
-
-    /// Whether nothing more is followed. This is an order to stop.
-    fn has_followed(&self) -> bool {
-        match self.beside.pace {
-            Some(pace) => pace.is_over(),
-            None => false,
-        }
     }
 
     /// The address that it listens on, with the port that the system chose.
@@ -331,12 +256,7 @@ impl<'a, N: Net + Clock, R: BufRead> Sockets<'a, N, R> {
         for event in &self.events {
             match event.token() {
                 LISTENER => self.may_take = true,
-                INPUT => {
-                    self.stop.mark();
-                    if let Some(pace) = self.beside.pace {
-                        pace.mark();
-                    }
-                }
+                INPUT => self.stop.mark(),
                 Token(place) => {
                     if let Some(Some(socket)) = self.places.get_mut(place) {
                         socket.mark(event);
@@ -349,18 +269,14 @@ impl<'a, N: Net + Clock, R: BufRead> Sockets<'a, N, R> {
 
 impl<N: Net + Clock, R: BufRead, S: Sessions> Connections<S> for Sockets<'_, N, R> {
     ghost use Rattle.std.specs.Prelude.{⊤};
-    ghost use Rattle.server.specs.Copying.{any_broken};
 
     // Contracts do not know what happens to a socket.
     ghost has = { λ _ _. ⊤ };
-
-    ghost any_uncopied = { λ sockets. any_broken sockets.copy };
 
     ghost passes = { λ _ _ _ _ _ _. tt };
 
     fn wait(&mut self, _sessions: &S, most: u64) -> u64 {
         let most = if self.stop.waits() { most } else { 0 };
-        let most = self.follow_for(most);
         if most > 0 {
             self.poll_for(Duration::from_millis(most));
         }
@@ -372,7 +288,7 @@ impl<N: Net + Clock, R: BufRead, S: Sessions> Connections<S> for Sockets<'_, N, 
     }
 
     fn is_stopped(&mut self, _sessions: &S) -> bool {
-        self.stop.has_ended(self.poll.registry()) || self.has_followed()
+        self.stop.has_ended(self.poll.registry())
     }
 
     fn take(&mut self, place: usize) -> bool {
@@ -434,7 +350,7 @@ impl<N: Net + Clock, R: BufRead, S: Sessions> Connections<S> for Sockets<'_, N, 
 
     fn report(&self, alloc: Global) -> Result<String, AllocError> {
         let open = self.places.iter().filter(|place| place.is_some()).count();
-        let Some(disk) = self.beside.disk else {
+        let Some(disk) = self.disk else {
             return format!(in alloc; "connections={open}");
         };
         // A journal that once failed takes no record any more.
@@ -442,31 +358,16 @@ impl<N: Net + Clock, R: BufRead, S: Sessions> Connections<S> for Sockets<'_, N, 
             Some(_) => " edits=refused",
             None => "",
         };
-        let copy = match &self.copy {
-            Some(copy) if copy.is_broken() => " copy=ended",
-            _ => "",
-        };
         match disk.size() {
-            Ok(size) => format!(in alloc; "connections={open} journal={size}{end}{copy}"),
-            Err(_) => format!(in alloc; "connections={open} journal=unknown{end}{copy}"),
+            Ok(size) => format!(in alloc; "connections={open} journal={size}{end}"),
+            Err(_) => format!(in alloc; "connections={open} journal=unknown{end}"),
         }
     }
 
     fn sync(&mut self, _sessions: &S) -> bool {
-        let Some(disk) = self.beside.disk else {
-            return true;
-        };
-        match &mut self.copy {
-            // What is on the disk is copied before an answer tells of it.
-            Some(copy) => copy.follow(disk),
-            None => disk.sync().is_ok(),
-        }
-    }
-
-    fn is_uncopied(&self) -> bool {
-        match &self.copy {
-            Some(copy) => copy.is_broken(),
-            None => false,
+        match self.disk {
+            Some(disk) => disk.sync().is_ok(),
+            None => true,
         }
     }
 }

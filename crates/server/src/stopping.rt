@@ -7,7 +7,7 @@ use std::io::{BufRead, ErrorKind};
 use std::os::fd::RawFd;
 
 /// The file handle of standard input.
-pub(crate) const STANDARD_INPUT: RawFd = 0;
+const STANDARD_INPUT: RawFd = 0;
 
 /// How often an input is read that needs no report, before others have their turn.
 const READS_AT_ONCE: usize = 64;

@@ -298,18 +298,6 @@ pub(super) static SUBCOMMANDS: [Subcommand; 8] = [
             NONCE,
             JOURNAL,
             Argument {
-                name: "copy",
-                value: "FILE",
-                help: "The file that gets what is in the journal, once that is on its disk",
-                kind: Kind::Text,
-            },
-            Argument {
-                name: "follow",
-                value: "FILE",
-                help: "Follow such a file, and answer from it; - for standard input",
-                kind: Kind::Text,
-            },
-            Argument {
                 name: "count",
                 value: "N",
                 help: "How many connections are answered; 0 for no end",

@@ -8,7 +8,7 @@ use Rattle.connections.proofs.places.tell_all.Goals as goal
 pub loop-place-preserved : goal.loop-place-preserved
 loop-place-preserved g c =
     let place = c.loop-place.place in
-    toured g.S.Sessions.opens g.S.Sessions.refuses g.S.Sessions.hears g.S.Sessions.misses g.S.Sessions.ends g.S.Sessions.begins g.C.Connections.has (Telling c.args.round.is_synced) c.args.round.idle c.args.round.now c.args.round.stopped 0 0 0 0 c.args.work.now.wanting c.loop-place.work.wanting c.tell_at.new.work.wanting place
+    toured g.S.Sessions.opens g.S.Sessions.refuses g.S.Sessions.hears g.S.Sessions.misses g.S.Sessions.ends g.C.Connections.has (Telling c.args.round.is_synced) c.args.round.idle c.args.round.now c.args.round.stopped 0 0 0 0 c.args.work.now.wanting c.loop-place.work.wanting c.tell_at.new.work.wanting place
     (IsKnownBusy c.args.work.now.is_busy) (IsKnownBusy c.loop-place.work.is_busy) (λ (acts : History). Below (Served c.args.round.idle) place acts × KnowsPause c.args.round.idle place c.args.work.now.pause c.loop-place.work.is_busy c.loop-place.work.pause acts)
     (λ (after : History). Served c.args.round.idle place after × KnowsPauseAt c.args.round.idle place c.loop-place.work.is_busy c.loop-place.work.pause c.tell_at.new.work.is_busy c.tell_at.new.work.pause after)
     (λ (acts : History). Below (Served c.args.round.idle) (place + 1) acts × KnowsPause c.args.round.idle (place + 1) c.args.work.now.pause c.tell_at.new.work.is_busy c.tell_at.new.work.pause acts) c.args.connections.now c.loop-place.connections c.tell_at.new.connections c.args.sessions.now c.loop-place.sessions c.tell_at.new.sessions
@@ -20,7 +20,7 @@ returns g c =
     let idle = c.args.round.idle in
     let end : c.loop-place.place ≡ length c.args.places.now = search rules in
     let size : length c.loop-place.places ≡ length c.args.places.now = c.loop-place.auto.places in
-    toured_so g.S.Sessions.opens g.S.Sessions.refuses g.S.Sessions.hears g.S.Sessions.misses g.S.Sessions.ends g.S.Sessions.begins g.C.Connections.has (Telling c.args.round.is_synced) idle c.args.round.now c.args.round.stopped 0 0 c.args.work.now.wanting c.loop-place.work.wanting
+    toured_so g.S.Sessions.opens g.S.Sessions.refuses g.S.Sessions.hears g.S.Sessions.misses g.S.Sessions.ends g.C.Connections.has (Telling c.args.round.is_synced) idle c.args.round.now c.args.round.stopped 0 0 c.args.work.now.wanting c.loop-place.work.wanting
     (IsKnownBusy c.args.work.now.is_busy) (λ (acts : History). Below (Served idle) c.loop-place.place acts × KnowsPause idle c.loop-place.place c.args.work.now.pause c.loop-place.work.is_busy c.loop-place.work.pause acts)
     (λ (acts : History). AreServed idle acts × KnowsPause idle (length c.args.places.now) c.args.work.now.pause c.loop-place.work.is_busy c.loop-place.work.pause acts)
     c.args.connections.now c.loop-place.connections c.args.sessions.now c.loop-place.sessions c.args.places.now c.loop-place.places

@@ -11,14 +11,14 @@ use Rattle.connections.proofs.slots.tell_at.Goals as goal
 pub returns-in-Err : goal.returns-in-Err
 returns-in-Err g c = λ start acts known at time order busy fits.
     let a = c.in-Err.ensures.happens acts (known.0, known.2) at time order (fits_here c.in-Some.talk (course acts c.args.place) (rw c.in-Some.is at fits)) in
-    let leads = leads_adds g.S.Sessions.opens g.S.Sessions.refuses g.S.Sessions.hears g.S.Sessions.misses g.S.Sessions.ends g.S.Sessions.begins start acts a.0 c.args.sessions.now c.args.place a.1 known.1 in
+    let leads = leads_adds g.S.Sessions.opens g.S.Sessions.refuses g.S.Sessions.hears g.S.Sessions.misses g.S.Sessions.ends start acts a.0 c.args.sessions.now c.args.place a.1 known.1 in
     let b = c.close.ensures c.args.round.idle start a.0 (a.2.0, leads, a.2.1) a.3 in
     (b.0, stays_counted c.args.place 0 (lost_by c.in-Err.why) c.args.work.now.wanting _ acts b.0 (search rules) (stays_both c.args.place 0 0 0 0 (lost_by c.in-Err.why) acts a.0 b.0 (stays_adds c.args.place 0 acts a.0 a.1) b.1), b.2, none_fits (course b.0 c.args.place) b.3, (there_none (course b.0 c.args.place) (IsServed c.args.round.idle b.0 c.args.place) b.3, pause_busy c.args.round.idle c.args.place c.args.work.now.pause _ c.args.work.now.is_busy b.0 b.4))
 
 pub returns-in-Ok : goal.returns-in-Ok
 returns-in-Ok g c = λ start acts known at time order busy fits.
     let a = c.in-Ok.ensures.happens acts (known.0, known.2) at time order (fits_here c.in-Some.talk (course acts c.args.place) (rw c.in-Some.is at fits)) in
-    let leads = leads_adds g.S.Sessions.opens g.S.Sessions.refuses g.S.Sessions.hears g.S.Sessions.misses g.S.Sessions.ends g.S.Sessions.begins start acts a.0 c.args.sessions.now c.args.place a.1 known.1 in
+    let leads = leads_adds g.S.Sessions.opens g.S.Sessions.refuses g.S.Sessions.hears g.S.Sessions.misses g.S.Sessions.ends start acts a.0 c.args.sessions.now c.args.place a.1 known.1 in
     let stays = stays_adds c.args.place 0 acts a.0 a.1 in (
       a.0,
       stays_counted c.args.place 0 0 c.args.work.now.wanting _ acts a.0 (search rules) stays,

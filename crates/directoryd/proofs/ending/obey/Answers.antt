@@ -35,7 +35,8 @@ pub returns-in-Serve : goal.returns-in-Serve
 returns-in-Serve g c = rw (c.in-Serve.is, c.done-in-Serve.ensures, without_zero c.serve_keyed.result) (is_zero c.serve_keyed.result, c.serve_keyed.ensures)
 
 pub returns-in-Listen : goal.returns-in-Listen
-returns-in-Listen g c = rw c.in-Listen.is (Keeps-refl _, c.listen_paired.ensures)
+returns-in-Listen g c =
+    rw (c.in-Listen.is, c.done-in-Listen.ensures, without_zero c.listen_keyed.result) (is_zero c.listen_keyed.result, Keeps-refl _, c.listen_keyed.ensures)
 
 pub returns-in-Ask : goal.returns-in-Ask
 returns-in-Ask g c = rw c.in-Ask.is c.ask_keyed.ensures

@@ -12,16 +12,13 @@ use Rattle.server.proofs.listening.answer_crowd.Goals as goal
 
 pub returns-clause-shown : goal.returns-clause-shown
 returns-clause-shown g c = λ has.
-    let all = c.answer_all.ensures.happens has in
-    let happened = all.2 in
+    let happened = c.answer_all.ensures.happens has in
     let answers = DeskAnswers sha256 keyed_value keyed_signature chacha_salts g.K.Keeper.kept g.K.Keeper.failed in
     let told = crowd_answered answers (λ sessions. sessions.hub) c.args.sessions.now happened.0 c.answer_all.new.sessions
     (hub_leads answers (λ sessions. sessions.hub) is_unkept (λ sessions. sessions.has_unkept) c.args.sessions.now happened.0 c.answer_all.new.sessions happened.1.1) in
     let shown = lines_show_honest_run sha256 keyed_value keyed_signature chacha_salts g.K.Keeper.kept g.K.Keeper.failed KeyedAccepts KeyedVerifies
     c.args.sessions.now.hub.service told.0 c.answer_all.new.sessions.hub.service c.head.ensures.well c.head-2.ensures.well told.2
     in (
-      all.0,
-      (λ told. (all.1 told).0),
       happened.0,
       happened.1.0,
       record { sound = happened.1.2; within = happened.2; ended = happened.3; fair = happened.4; whole = happened.5; inside = happened.6 },

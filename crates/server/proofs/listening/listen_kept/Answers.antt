@@ -15,5 +15,5 @@ returns-clause-tells g c =
       c.in_ok-keys.keys,
       c.in_ok-keys.ensures,
       told c.in_ok-keys.keys c.args.path.now c.in-Ok-open_journal.hub.service _ _ _ _ _ _ (c.in-Ok-open_journal.ensures.ok.1, c.in-Ok-open_journal.ensures.ok.2, c.in-Ok-open_journal.ensures.ok.3, c.in-Ok-open_journal.ensures.ok.4)
-          c.listen_copied.ensures.tells,
+          c.listen_from.ensures.tells,
     ))

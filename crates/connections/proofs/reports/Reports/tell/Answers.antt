@@ -1,12 +1,10 @@
-use Rattle.std.proofs.Common.{◌≡◌, ℕ, Bool, subst, sym}
-use Rattle.connections.specs.Telling.{TellsLines}
+use Rattle.std.proofs.Common.{rules, ◌≡◌, ◌<◌, ◌∙◌}
+use Rattle.connections.specs.Telling.{line_text, Report}
+use Rattle.connections.proofs.Wanting.{report_of}
 use Rattle.connections.proofs.reports.Reports.tell.Goals as goal
 
-pub returns-clause-lines : goal.returns-clause-lines
-returns-clause-lines g c = λ told count start lines.
-    let same : c.tell_uncopied.new.self.every ≡ c.args.self.now.every = c.tell_uncopied.ensures.every.0 in
-    let still : c.tell_report.new.self.is_uncopied ≡ c.tell_uncopied.new.self.is_uncopied = c.tell_report.ensures.every.2 in
-    let middle = c.tell_uncopied.ensures.lines c.args.self.now.every told count start lines in
-    subst (λ (every : ℕ). TellsLines every c.tell_report.new.self.is_uncopied told count start (g.E.Write.contents c.tell_report.new.errors)) same
-    (subst (λ (b : Bool). TellsLines c.tell_uncopied.new.self.every b told count start (g.E.Write.contents c.tell_report.new.errors)) (sym still)
-    (c.tell_report.ensures.lines c.tell_uncopied.new.self.is_uncopied told count start (subst (λ (every : ℕ). TellsLines every c.tell_uncopied.new.self.is_uncopied told count start (g.E.Write.contents c.tell_uncopied.new.errors)) (sym same) middle)))
+pub returns-in-Ok-clause-lines : goal.returns-in-Ok-clause-lines
+returns-in-Ok-clause-lines g c = λ told count start lines.
+    let wanted : 0 < c.args.self.now.every = search rules in
+    let text : c.deref.result.now ≡ line_text (Report c.in-Ok.ensures.0) = c.deref.ensures.value ∙ c.in-Ok.ensures.1 in
+    report_of c.args.self.now.every count start _ _ c.write_text-told.result told c.in-Ok.ensures.0 c.deref.result.now text wanted lines c.write_text-told.ensures.ok c.write_text-told.ensures.err

@@ -11,7 +11,7 @@ use Rattle.connections.proofs.talk.Talk.attend.Goals as goal
 
 pub returns-then-not-may_read : goal.returns-then-not-may_read
 returns-then-not-may_read g c =
-    attends_last g.S.Sessions.opens g.S.Sessions.refuses g.S.Sessions.hears g.S.Sessions.misses g.S.Sessions.ends g.S.Sessions.begins g.C.Connections.has g.met.C.Connections.passes c.args.place c.args.connections.now c.args.sessions.now c.args.self.now c.hear_rest.result c.hear_rest.new.sessions c.hear_rest.new.self
+    attends_last g.S.Sessions.opens g.S.Sessions.refuses g.S.Sessions.hears g.S.Sessions.misses g.S.Sessions.ends g.C.Connections.has g.met.C.Connections.passes c.args.place c.args.connections.now c.args.sessions.now c.args.self.now c.hear_rest.result c.hear_rest.new.sessions c.hear_rest.new.self
     c.hear_rest.ensures.hears c.hear_rest.ensures.all c.hear_rest.ensures.nothing (λ ready. search (rules, c.may_read.ensures.1 ready))
 
 pub returns-in_err-hear_new-in-Bytes : goal.returns-in_err-hear_new-in-Bytes
@@ -24,7 +24,7 @@ returns-in_err-hear_new-in-Bytes g c =
     let bytes : List ℕ = take c.in-Bytes.count c.read.new.room in
     let some : 1 ≤ length bytes = grind (arith, common_steps) in
     let few : length bytes ≤ 4096 = grind (arith, common_steps) in
-    rw passed (attends_stop g.S.Sessions.opens g.S.Sessions.refuses g.S.Sessions.hears g.S.Sessions.misses g.S.Sessions.ends g.S.Sessions.begins g.C.Connections.has g.met.C.Connections.passes c.args.place c.args.connections.now c.args.sessions.now c.args.self.now c.read.new.self
+    rw passed (attends_stop g.S.Sessions.opens g.S.Sessions.refuses g.S.Sessions.hears g.S.Sessions.misses g.S.Sessions.ends g.C.Connections.has g.met.C.Connections.passes c.args.place c.args.connections.now c.args.sessions.now c.args.self.now c.read.new.self
     (KeepsCourse bytes c.args.self.now.output.items None c.args.self.now.is_over) c.in_err-hear_new-in-Bytes.field-0.0 c.hear_new.new.sessions c.hear_new.new.self
     (λ (idle : ℕ) (acts : History) knows hearing unread here.
     let a = come_to g.C.Connections.has idle c.args.place acts c.args.connections.now c.read.new.self (Reads bytes) _ tt
@@ -42,7 +42,7 @@ returns-in_ok-hear_new-in-Bytes g c =
     let bytes : List ℕ = take c.in-Bytes.count c.read.new.room in
     let some : 1 ≤ length bytes = grind (arith, common_steps) in
     let few : length bytes ≤ 4096 = grind (arith, common_steps) in
-    attends_both g.S.Sessions.opens g.S.Sessions.refuses g.S.Sessions.hears g.S.Sessions.misses g.S.Sessions.ends g.S.Sessions.begins g.C.Connections.has g.met.C.Connections.passes c.args.place c.args.connections.now c.args.sessions.now c.args.self.now c.read.new.self
+    attends_both g.S.Sessions.opens g.S.Sessions.refuses g.S.Sessions.hears g.S.Sessions.misses g.S.Sessions.ends g.C.Connections.has g.met.C.Connections.passes c.args.place c.args.connections.now c.args.sessions.now c.args.self.now c.read.new.self
     (KeepsCourse bytes c.args.self.now.output.items None c.args.self.now.is_over) c.hear_new.new.sessions c.hear_new.new.self
     (λ (idle : ℕ) (acts : History) knows hearing unread here.
     let a = come_to g.C.Connections.has idle c.args.place acts c.args.connections.now c.read.new.self (Reads bytes) _ tt
@@ -55,7 +55,7 @@ pub returns-in-End : goal.returns-in-End
 returns-in-End g c =
     let yes : IsTrue c.may_read.result = search rules in
     let ready : (c.args.self.now.input.items ≡ []) × (c.args.self.now.is_over ≡ false) × (length c.args.self.now.output.items ≤ 65536) = c.may_read.ensures.0 yes in
-    attends_first g.S.Sessions.opens g.S.Sessions.refuses g.S.Sessions.hears g.S.Sessions.misses g.S.Sessions.ends g.S.Sessions.begins g.C.Connections.has g.met.C.Connections.passes c.args.place c.args.connections.now c.args.sessions.now c.args.self.now c.read.new.self (Ok true) (record c.args.self.now { is_over = true })
+    attends_first g.S.Sessions.opens g.S.Sessions.refuses g.S.Sessions.hears g.S.Sessions.misses g.S.Sessions.ends g.C.Connections.has g.met.C.Connections.passes c.args.place c.args.connections.now c.args.sessions.now c.args.self.now c.read.new.self (Ok true) (record c.args.self.now { is_over = true })
     (λ idle acts knows hearing unread here.
     let a = come_to g.C.Connections.has idle c.args.place acts c.args.connections.now c.read.new.self IsOver _ tt
     (c.read.ensures.end c.in-End.is acts) knows
@@ -67,7 +67,7 @@ pub returns-in-Wait : goal.returns-in-Wait
 returns-in-Wait g c =
     let yes : IsTrue c.may_read.result = search rules in
     let ready : (c.args.self.now.input.items ≡ []) × (c.args.self.now.is_over ≡ false) × (length c.args.self.now.output.items ≤ 65536) = c.may_read.ensures.0 yes in
-    attends_first g.S.Sessions.opens g.S.Sessions.refuses g.S.Sessions.hears g.S.Sessions.misses g.S.Sessions.ends g.S.Sessions.begins g.C.Connections.has g.met.C.Connections.passes c.args.place c.args.connections.now c.args.sessions.now c.args.self.now c.read.new.self (Ok false) c.args.self.now
+    attends_first g.S.Sessions.opens g.S.Sessions.refuses g.S.Sessions.hears g.S.Sessions.misses g.S.Sessions.ends g.C.Connections.has g.met.C.Connections.passes c.args.place c.args.connections.now c.args.sessions.now c.args.self.now c.read.new.self (Ok false) c.args.self.now
     (λ idle acts knows hearing unread here.
     let a = come_to g.C.Connections.has idle c.args.place acts c.args.connections.now c.read.new.self IsSilent _ tt
     (c.read.ensures.wait c.in-Wait.is acts) knows
@@ -79,7 +79,7 @@ pub returns-in-Fault : goal.returns-in-Fault
 returns-in-Fault g c =
     let yes : IsTrue c.may_read.result = search rules in
     let ready : (c.args.self.now.input.items ≡ []) × (c.args.self.now.is_over ≡ false) × (length c.args.self.now.output.items ≤ 65536) = c.may_read.ensures.0 yes in
-    attends_first g.S.Sessions.opens g.S.Sessions.refuses g.S.Sessions.hears g.S.Sessions.misses g.S.Sessions.ends g.S.Sessions.begins g.C.Connections.has g.met.C.Connections.passes c.args.place c.args.connections.now c.args.sessions.now c.args.self.now c.read.new.self (Err Fault) c.args.self.now
+    attends_first g.S.Sessions.opens g.S.Sessions.refuses g.S.Sessions.hears g.S.Sessions.misses g.S.Sessions.ends g.C.Connections.has g.met.C.Connections.passes c.args.place c.args.connections.now c.args.sessions.now c.args.self.now c.read.new.self (Err Fault) c.args.self.now
     (λ idle acts knows hearing unread here.
     let a = come_to g.C.Connections.has idle c.args.place acts c.args.connections.now c.read.new.self Fails _ tt
     (c.read.ensures.fault c.in-Fault.is acts) knows

@@ -9,5 +9,5 @@ returns-in-Err-clause-hears g c =
     let few : c.in_ok-heard.heard ≤ length c.args.bytes.now = c.in_ok-heard.ensures.hears.0.1 in
     let not : c.in_ok-heard.heard ≢ length c.args.bytes.now = search rules in
     let full : FULL_OUTPUT < length c.hear_parts.new.output.items = only_full c.in_ok-heard.ensures.all not in
-    heard_lost g.S.Sessions.opens g.S.Sessions.refuses g.S.Sessions.hears g.S.Sessions.misses g.S.Sessions.ends g.S.Sessions.begins {X = Unit {0}} (λ _. true) c.args.place c.args.sessions.now c.args.bytes.now c.args.self.now.output.items c.args.self.now.idle_since c.args.self.now.is_over
+    heard_lost g.S.Sessions.opens g.S.Sessions.refuses g.S.Sessions.hears g.S.Sessions.misses g.S.Sessions.ends {X = Unit {0}} (λ _. true) c.args.place c.args.sessions.now c.args.bytes.now c.args.self.now.output.items c.args.self.now.idle_since c.args.self.now.is_over
     c.in_ok-heard.heard c.hear_parts.new.sessions c.hear_parts.new.output.items (λ _ _. ⊤) c.in_ok-heard.ensures.hears (drop_some c.in_ok-heard.heard c.args.bytes.now few not) full
