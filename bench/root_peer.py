@@ -12,7 +12,8 @@ All programs have to print one root for the same items, or the status is 1. The 
 
 - seconds: the processor's time, user and system; least, median and greatest of several runs, of all programs in turn
 - ratio: that of directoryd divided by that of the peer of the same build
-- of digests: that of directoryd divided by that of as many digests, of interior nodes and of leaves, all at once
+- of digests: that of directoryd, but for reading and sorting the items, divided by that of as many digests, of interior
+  nodes and of leaves, all at once, just before; the median
 - bytes an item: the peak of resident memory, divided by the number of items
 - growth: the time of an item, of the longest random list divided by that of the shortest
 - but for a start: the same, once the time of a run over no items is taken off both
@@ -20,6 +21,8 @@ All programs have to print one root for the same items, or the status is 1. The 
 
 import os
 import random
+import shutil
+import statistics
 import subprocess
 import sys
 import tempfile
@@ -27,7 +30,7 @@ from typing import NamedTuple
 
 sys.dont_write_bytecode = True
 
-from bench import TEXTS, TEXT_ROUNDS, TEXT_RUNS, Spread, peak_memory, print_processor, run_over, steps_of, table, write_items
+from bench import TEXTS, TEXT_ROUNDS, Spread, peak_memory, print_processor, run_over, steps_of, table, write_items
 
 V2, V3 = "x86-64-v2", "x86-64-v3"
 SELF, PEER = "directoryd", "peer"
@@ -38,7 +41,7 @@ COMPARED, NONCE = (0, 1, 2, 10_000), "5a" * 32
 RUNS = {0: 40, 1_000: 40, 100_000: 10, 1_000_000: 5}
 SHORTEST, LONGEST = 1_000, 1_000_000
 # The worst shapes: the pairs, the items below one prefix, the bits of that; and the runs.
-PAIRS, BELOW, PREFIX, SHAPE_RUNS = 10_000, 10_000, 200, 3
+PAIRS, BELOW, PREFIX, SHAPE_RUNS = 10_000, 10_000, 200, 7
 
 
 class Program(NamedTuple):
@@ -93,14 +96,26 @@ def digests_of(path):
 # ---- measures
 
 
-def digest_times():
-    """By build, what a digest of an interior node takes and one of a leaf, all at once, where a program measures it."""
+def measures():
+    """The program that measures digests, by build, where it is there."""
+    found = {V2: os.environ.get("MEASURE", "crates/measure/out/measure"), V3: os.environ.get("MEASURE_V3", "")}
+    return {build: name for build, name in found.items() if os.access(name, os.X_OK)}
+
+
+def digest_time(name, digests):
+    """The time of so many digests, all at once, of which half but one are of interior nodes and the others of leaves."""
+    interior, leaf = (step.seconds / (TEXTS * TEXT_ROUNDS) for step in steps_of([name, "texts", f"{TEXTS}", f"{TEXT_ROUNDS}"], 4)[1][1::2])
+    return digests // 2 * interior + (digests + 1) // 2 * leaf
+
+
+def digest_ratios(those, items, digests, reading, count):
+    """By build, the median of the times of directoryd, but for reading, each divided by that of its digests just before."""
     found = {}
-    for build, name in ((V2, os.environ.get("MEASURE", "crates/measure/out/measure")), (V3, os.environ.get("MEASURE_V3", ""))):
-        if os.access(name, os.X_OK):
-            words = [name, "texts", f"{TEXTS}", f"{TEXT_ROUNDS}"]
-            taken = [[step.seconds for step in steps_of(words, 4)[1]] for _ in range(TEXT_RUNS)]
-            found[build] = tuple(min(times) / (TEXTS * TEXT_ROUNDS) for times in list(zip(*taken))[1::2])
+    for program in those:
+        name = measures().get(program.build)
+        if program.name == SELF and name:
+            taken = [(digest_time(name, digests), run_over(program.words, items, b"root ")[2]) for _ in range(count)]
+            found[program.build] = statistics.median((whole - reading[program]) / alone for alone, whole in taken)
     return found
 
 
@@ -146,28 +161,44 @@ def ratio(those, build, number_of):
     return f"{by_name[SELF] / by_name[PEER]:.2f}" if len(by_name) == 2 else "-"
 
 
+def reading_times(those, items, count):
+    """The least of the times that each directoryd takes to read and to sort the items: with a malformed line behind them it
+    does no more."""
+    with open(items, "a", encoding="ascii") as file:
+        file.write("x\n")
+    found = {}
+    for program in those:
+        if program.name == SELF:
+            found[program] = min(time_of_refusal(program, items) for _ in range(count))
+    return found
+
+
+def time_of_refusal(program, items):
+    with open(items, "rb") as file:
+        process = subprocess.Popen(program.words, stdin=file, stdout=subprocess.DEVNULL, stderr=subprocess.DEVNULL)
+        _, status, usage = os.wait4(process.pid, 0)
+    process.returncode = status
+    if os.waitstatus_to_exitcode(status) != 1:
+        sys.exit(f"{' '.join(program.words)} does not refuse a malformed line")
+    return usage.ru_utime + usage.ru_stime
+
+
 class Measured(NamedTuple):
-    """A list of items, the digests of its root, and by program the times and the peak of memory."""
+    """A list of items, the digests of its root, by program the times and the peak of memory, and by build the
+    ratio to the digests."""
 
     name: str
     size: int
     digests: int
     times: dict
     memory: dict
+    of_digests: dict
 
-    def of_digests(self, those, build, each):
-        """The time of directoryd by that of its digests. Half of them but one are of interior nodes."""
-        least = [self.times[program].least for program in those if program.build == build and program.name == SELF]
-        if not least or build not in each:
-            return "-"
-        interior, other = each[build]
-        return f"{least[0] / (self.digests // 2 * interior + (self.digests + 1) // 2 * other):.2f}"
-
-    def time_rows(self, those, each):
+    def time_rows(self, those):
         for build in builds_of(those):
             spread = cells(those, build, 3, lambda program: self.times[program].cells(1, 4))
             part = ratio(those, build, lambda program: self.times[program].least)
-            yield [self.name, f"{self.digests:,}", build, *spread, part, self.of_digests(those, build, each)]
+            yield [self.name, f"{self.digests:,}", build, *spread, part, f"{self.of_digests[build]:.2f}" if build in self.of_digests else "-"]
 
     def memory_cells(self, program):
         return [f"{self.memory[program] / 2**20:.1f}", f"{self.memory[program] / self.size:.0f}"]
@@ -181,7 +212,12 @@ class Measured(NamedTuple):
 def measured(those, name, size, items, count):
     times = times_in_turn(those, name, items, count)
     memory = {program: peak_memory(program.words, items) for program in those if size}
-    return Measured(name, size, digests_of(items), times, memory)
+    digests = digests_of(items)
+    ratios = {}
+    if size:
+        shutil.copyfile(items, f"{items}.refused")
+        ratios = digest_ratios(those, items, digests, reading_times(those, f"{items}.refused", count), count)
+    return Measured(name, size, digests, times, memory, ratios)
 
 
 def measure_all(those, folder):
@@ -214,8 +250,7 @@ def main(builds):
         compare(those, folder)
         lists = list(measure_all(those, folder))
     of_each = [SELF, "median", "greatest", PEER, "median", "greatest", "ratio", "of digests"]
-    times = digest_times()
-    rows = [row for each in lists for row in each.time_rows(those, times)]
+    rows = [row for each in lists for row in each.time_rows(those)]
     table("root of items, seconds", ["items", "digests", "built for", *of_each], rows)
     head = ["items", "built for", f"{SELF}, MiB", "bytes an item", f"{PEER}, MiB", "bytes an item", "ratio"]
     table("peak memory", head, [row for each in lists if each.size for row in each.memory_rows(those)])

@@ -58,7 +58,7 @@ def path_text(tree, index):
         case Other(other, commitment):
             end = f"other {other.hex()} {commitment.hex()}"
     siblings = "".join(f"sibling {sibling.hex()}\n" for sibling in path.siblings)
-    return f"level {len(path.siblings)}\n{siblings}{end}\nroot {tree.root().hex()}\n"
+    return f"level {len(path.siblings)}\n{end}\n{siblings}root {tree.root().hex()}\n"
 
 
 def answers(tree, index):
@@ -83,7 +83,7 @@ def compare(programs):
                     same += 1
                 else:
                     other += 1
-                    print(f"{words[0]} of {name}: {sorted(found)}, wanted {wanted}")
+                    print(f"{words[0]} of {name}: {str(sorted(found))[:300]}, wanted {str(wanted)[:300]}")
     return same, other
 
 

@@ -11,7 +11,6 @@ pub mod Handed
 pub mod Heard
 pub mod HonestRoots
 pub mod Joined
-pub mod Parts
 pub mod Listed
 pub mod Outcomes
 pub mod Placed

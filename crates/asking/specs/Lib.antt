@@ -7,7 +7,6 @@ pub mod Exchanges
 pub mod FinalBindings
 pub mod Following
 pub mod Joining
-pub mod Parts
 pub mod Noting
 pub mod Recalled
 pub mod Refused

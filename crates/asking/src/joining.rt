@@ -1,15 +1,13 @@
 // A monitor of a name joins the others, and begins to watch.
-ghost use Rattle.std.specs.Prelude.{◌≡◌, ◌≢◌, ◌↔◌, ◌++◌, ℕ, List, IfErr, IfOk, Any, IsTrue, None, Option, OnErr, OnOk, Err, Ok, option_map};
+ghost use Rattle.std.specs.Prelude.{◌≡◌, ◌≢◌, ◌↔◌, ℕ, IfErr, IfOk, Any, IsTrue, None, Option, OnErr, OnOk, Err, Ok, option_map};
 ghost use Rattle.client.specs.declared.client_refusal.Refusal.TheVariants.{Memory};
 ghost use Rattle.memory.specs.Watching.{IsAwaited};
 ghost use Rattle.asking.specs.Askers.{asker_changes, asker_earlier, asker_key, asker_known, asker_marks};
 ghost use Rattle.asking.specs.Exchanges.{ExchangesFrames};
 ghost use Rattle.monitor.specs.declared.monitor_refusal.Refusal.{Refusal as MonitorRefusal};
 ghost use Rattle.rootchain.specs.Promises.{signed_promise_bytes};
-ghost use Rattle.rootchain.specs.declared.signed_promise.SignedPromise.{SignedPromise as Promised};
 ghost use Rattle.asking.specs.Asking.{HandsTo};
 ghost use Rattle.asking.specs.Joining.{first_expected, noted_for, own_for, AllHand, BeginsAt, BeginsSome, BeginsSomeAt, BeginsWatch, IsJoined, IsLaterPromise, IsLatest, IsLeftToWatch, RefusesOne, Retraces, RetracesOne, StartsFrom, watched_told, WatchesNew, WatchesSome};
-ghost use Rattle.asking.specs.Parts.{AreOthers, IsPartFor};
 ghost use Rattle.asking.specs.Recalled.{TellsAlarms};
 ghost use Rattle.asking.specs.Reports.{report_of, Report, Tells};
 ghost use Rattle.asking.specs.Scenes.{scene, HaltsAfter, StaysWhole};
@@ -141,8 +139,7 @@ where
         ensures finals { (self.new).finals ≡ (self.old).finals }
     {
         let own = client_from(self.alloc, &mut self.checks, &self.client, self.key, first)?;
-        let (marks, changes) = (&self.marks, &self.changes);
-        let earlier = part_for(&self.earlier, name);
+        let (marks, earlier, changes) = (&self.marks, &self.earlier, &self.changes);
         let last = last_before(marks, earlier, changes, name, first.body.epoch);
         let start = expected_at_first(last, key);
         let mut monitor = Monitor::from_start(self.alloc, own, name.copied(), start);
@@ -291,39 +288,6 @@ where
         Ok(()) => Ok(Some(root.body.epoch)),
         Err(why) => Err(why),
     }
-}
-
-/// The part of promises in which those for a name are: it begins and ends with one. The others are passed over once.
-fn part_for<'a>(promises: &'a [SignedPromise], name: &Name) -> &'a [SignedPromise]
-    ensures { IsPartFor name.now promises.entry.now result.now }
-{
-    up_to_last(from_first(promises, name), name)
-}
-
-/// The promises from the first one for a name on.
-fn from_first<'a>(promises: &'a [SignedPromise], name: &Name) -> &'a [SignedPromise]
-    ensures { (front : List Promised) × (promises.entry.now ≡ front ++ result.now) × AreOthers name.now front }
-{
-    for place in 0..promises.len() {
-        if promises[place].promise.name == *name {
-            return promises.split_at(place).1;
-        }
-    }
-    promises.split_at(promises.len()).1
-}
-
-/// The promises up to the last one for a name.
-fn up_to_last<'a>(promises: &'a [SignedPromise], name: &Name) -> &'a [SignedPromise]
-    ensures { (behind : List Promised) × (promises.entry.now ≡ result.now ++ behind) × AreOthers name.now behind }
-{
-    let mut end = promises.len();
-    while 0 < end {
-        if promises[end - 1].promise.name == *name {
-            return promises.split_at(end).0;
-        }
-        end -= 1;
-    }
-    promises.split_at(end).0
 }
 
 /// The changes of this run that a monitor of a name is given: all of them if the name has a mark. Without one a run

@@ -3,7 +3,6 @@ pub mod Splits
 pub mod Left
 pub mod Joined
 pub mod Indexed
-pub mod Named
 pub mod OneWord
 pub mod FoundTexts
 pub mod OneItem

@@ -4,7 +4,6 @@ pub mod Lines
 pub mod Words
 pub mod Memories
 pub mod PromiseIndex
-pub mod MarkIndex
 pub mod Views
 pub mod Taking
 pub mod Watching

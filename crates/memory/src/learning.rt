@@ -63,25 +63,10 @@ impl Memory {
         ensures grows { StartsWith lines.new.items lines.old.items }
     {
         for signed in promises {
-            self.learn_promise(signed, is_own, lines)?;
+            let signed = signed.copied();
+            self.learn(Item::Promised(Promised { signed, is_own }), lines)?;
         }
         Ok(())
-    }
-
-    /// Takes a promise, and appends its line if it is new. A function clears the room of its copies when it is called, so this
-    /// one is called for a promise alone.
-    fn learn_promise(
-        &mut self,
-        signed: &SignedPromise,
-        is_own: bool,
-        lines: &mut Vec<u8>,
-    ) -> Result<(), AllocError>
-        ensures ok { OnOk result ((news : List Remembered) × LearnsOne (promised_item is_own signed.now) self.old news self.new × (lines.new.items ≡ lines.old.items ++ items_text news)) }
-        ensures err { OnErr result (self.new ≡ self.old) }
-        ensures grows { StartsWith lines.new.items lines.old.items }
-    {
-        let signed = signed.copied();
-        self.learn(Item::Promised(Promised { signed, is_own }), lines)
     }
 
     /// Takes replies that stated keys with Final, where none is remembered for their names, and appends the lines of
@@ -201,21 +186,6 @@ impl Memory {
         if !may_be(line, kind) {
             return Ok(());
         }
-        self.learn_read(alloc, line, kind, lines)
-    }
-
-    /// Reads a line, takes its item if it is of this kind, and appends its line if it is new.
-    fn learn_read(
-        &mut self,
-        alloc: Global,
-        line: &[u8],
-        kind: Kind,
-        lines: &mut Vec<u8>,
-    ) -> Result<(), AllocError>
-        ensures ok { OnOk result ((news : List Remembered) × LearnsLine kind line.now self.old news self.new × (lines.new.items ≡ lines.old.items ++ items_text news)) }
-        ensures err { OnErr result (self.new ≡ self.old) }
-        ensures grows { StartsWith lines.new.items lines.old.items }
-    {
         let Some(item) = read_item(alloc, line)? else {
             return Ok(());
         };
@@ -269,25 +239,6 @@ impl Memory {
         if self.has_mark(monitor.name()) {
             return Ok(());
         }
-        self.begin_new(monitor, lines)
-    }
-
-    /// Marks where the watching begins of the name of a monitor, which has no mark yet.
-    fn begin_new<H, V, S>(
-        &mut self,
-        monitor: &Monitor<H, V, S>,
-        lines: &mut Vec<u8>,
-    ) -> Result<(), AllocError>
-    where
-        H: NodeHash,
-        V: VufCheck,
-        S: Verifier,
-        requires { All (λ mark. mark.name ≢ monitor.now.name) self.old.marks }
-        ensures ok { OnOk result ((news : List Remembered) × BeginsOne monitor.now self.old news self.new × (lines.new.items ≡ lines.old.items ++ items_text news)) }
-        ensures takes { OnOk result ((news : List Remembered) × TakesAll news self.old self.new × (lines.new.items ≡ lines.old.items ++ items_text news)) }
-        ensures err { OnErr result (self.new ≡ self.old) }
-        ensures grows { StartsWith lines.new.items lines.old.items }
-    {
         let epoch = begins_behind(monitor);
         let name = monitor.name().copied();
         let since = epoch;

@@ -6,8 +6,7 @@ ghost use Rattle.memory.specs.Watching.{IsAwaited};
 ghost use Rattle.memory.specs.Lists.{HasNoRepeat, IsLeft};
 ghost use Rattle.memory.specs.Memories.{signed_of};
 
-use crate::marks::Marks;
-use crate::{Alarm, Promised, is_awaited};
+use crate::{Alarm, Mark, Promised, is_awaited};
 use encoding::Name;
 use rootchain::SignedPromise;
 
@@ -21,7 +20,7 @@ pub(crate) fn drop_alarms(alarms: &mut Vec<Alarm>, name: &Name) -> usize
     before - alarms.len()
 }
 
-pub(crate) fn leave_promises(promises: &mut Vec<Promised>, marks: &Marks, tested: &[SignedPromise])
+pub(crate) fn leave_promises(promises: &mut Vec<Promised>, marks: &[Mark], tested: &[SignedPromise])
     ensures left { IsLeft (IsNeeded tested.now marks.now) promises.old.items promises.new.items }
     ensures once { HasNoRepeat (map signed_of promises.old.items) → HasNoRepeat (map signed_of promises.new.items) }
 {
@@ -29,7 +28,7 @@ pub(crate) fn leave_promises(promises: &mut Vec<Promised>, marks: &Marks, tested
 }
 
 /// Whether a promise is not among these, or is the owner's own and awaited by a mark.
-fn is_needed(promised: &Promised, marks: &Marks, tested: &[SignedPromise]) -> bool
+fn is_needed(promised: &Promised, marks: &[Mark], tested: &[SignedPromise]) -> bool
     ensures { IsTrue result ↔ IsNeeded tested.now marks.now promised.now }
 {
     is_untested(&promised.signed, tested)
@@ -56,11 +55,13 @@ fn is_same(one: &SignedPromise, other: &SignedPromise) -> bool
 }
 
 /// Whether a mark awaits the promise.
-fn has_awaiting(signed: &SignedPromise, marks: &Marks) -> bool
+fn has_awaiting(signed: &SignedPromise, marks: &[Mark]) -> bool
     ensures { IsTrue result ↔ Any (IsAwaited signed.now) marks.now }
 {
-    match marks.place_of(&signed.promise.name) {
-        Some(place) => is_awaited(signed, &marks.items()[place]),
-        None => false,
+    for mark in marks {
+        if is_awaited(signed, mark) {
+            return true;
+        }
     }
+    false
 }

@@ -17,7 +17,6 @@ mod laws;
 mod learning;
 mod leaving;
 mod mark;
-mod marks;
 mod memory;
 mod promised;
 mod promises;

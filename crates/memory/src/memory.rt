@@ -6,11 +6,10 @@ ghost use Rattle.memory.specs.Taking.{Takes};
 ghost use Rattle.memory.specs.Texts.{items_text, memory_text, TellsAgain};
 ghost use Rattle.memory.specs.declared.item.Item.TheVariants as items;
 
-use crate::copying::{copied_alarms, copied_finals, copied_lines};
+use crate::copying::{copied_alarms, copied_finals, copied_lines, copied_marks};
 use crate::leaving::drop_alarms;
-use crate::marks::Marks;
 use crate::promises::Promises;
-use crate::putting::{put_alarm, put_evidence, put_final};
+use crate::putting::{place_of_mark, put_alarm, put_evidence, put_final, put_mark};
 use crate::telling::{
     push_alarms, push_alarms_of, push_finals, push_lines, push_marks, push_promises,
 };
@@ -26,7 +25,7 @@ use std::marker::Model;
 #[derive(Drop)]
 pub struct Memory {
     promises: Promises,
-    marks: Marks,
+    marks: Vec<Mark>,
     finals: Vec<FinalSeen>,
     alarms: Vec<Alarm>,
     evidence: Vec<EvidenceLine>,
@@ -51,7 +50,7 @@ impl Memory {
     {
         Memory {
             promises: Promises::new(alloc),
-            marks: Marks::new(alloc),
+            marks: Vec::new(alloc),
             finals: Vec::new(alloc),
             alarms: Vec::new(alloc),
             evidence: Vec::new(alloc),
@@ -67,7 +66,7 @@ impl Memory {
         ensures { IfOk result (λ copy. copy ≡ self.now) }
     {
         let promises = self.promises.copied(alloc)?;
-        let marks = self.marks.copied(alloc)?;
+        let marks = copied_marks(alloc, &self.marks)?;
         let finals = copied_finals(alloc, &self.finals)?;
         let alarms = copied_alarms(alloc, &self.alarms)?;
         let evidence = copied_lines(alloc, &self.evidence)?;
@@ -99,7 +98,7 @@ impl Memory {
     pub fn marks(&self) -> &[Mark]
         ensures { result.now ≡ self.now.marks }
     {
-        self.marks.items()
+        &self.marks
     }
 
     /// The first reply for each name that stated a key with Final.
@@ -127,8 +126,8 @@ impl Memory {
     pub fn mark_of(&self, name: &Name) -> Option<&Mark>
         ensures { MatchOption result (All (λ mark. mark.name ≢ name.now) self.now.marks) (λ mark. Contains self.now.marks mark.now × (mark.now.name ≡ name.now)) }
     {
-        match self.marks.place_of(name) {
-            Some(place) => Some(&self.marks.items()[place]),
+        match place_of_mark(&self.marks, name) {
+            Some(place) => Some(&self.marks[place]),
             None => None,
         }
     }
@@ -146,7 +145,7 @@ impl Memory {
     {
         match item {
             Item::Promised(promised) => self.promises.put(promised),
-            Item::Watched(mark) => self.marks.put(mark),
+            Item::Watched(mark) => put_mark(&mut self.marks, mark),
             Item::Final(seen) => put_final(&mut self.finals, seen),
             Item::Alarm(alarm) => put_alarm(&mut self.alarms, alarm),
             Item::Evidence(line) => put_evidence(&mut self.evidence, line),
@@ -178,7 +177,7 @@ impl Memory {
         ensures grows { StartsWith text.new.items text.old.items }
     {
         push_promises(text, self.promises.items())?;
-        push_marks(text, self.marks.items())?;
+        push_marks(text, &self.marks)?;
         self.write_found(text)
     }
 

@@ -1,15 +1,14 @@
 // The promises of a memory, with an index that tells at once that a promise is new.
 
-ghost use Rattle.std.specs.Prelude.{◌≡◌, ◌≢◌, ◌↔◌, ◌∷◌, ◌++◌, ◌<◌, ◌||◌, [], length, map, slice_index_or, All, Any, IfOk, IfSome, IsTrue, MatchBool, MatchOption, OnErr, OnOk};
+ghost use Rattle.std.specs.Prelude.{◌≡◌, ◌≢◌, ◌↔◌, ◌∷◌, ◌++◌, ◌<◌, ◌||◌, [], length, map, slice_index_or, All, Any, IfOk, IsTrue, MatchBool, MatchOption, OnErr, OnOk};
 ghost use Rattle.memory.specs.Leaving.{IsNeeded};
 ghost use Rattle.memory.specs.Lists.{HasNoRepeat, IsLeft};
 ghost use Rattle.memory.specs.Memories.{signed_of};
 ghost use Rattle.memory.specs.Taking.{PutsPromised};
 ghost use Rattle.memory.specs.declared.promised.Promised.{Promised as PromisedMade};
 
-use crate::Promised;
 use crate::leaving::leave_promises;
-use crate::marks::Marks;
+use crate::{Mark, Promised};
 use rootchain::SignedPromise;
 use std::alloc::{AllocError, Global};
 use std::collections::BTreeSet;
@@ -90,7 +89,7 @@ impl Promises {
     }
 
     /// Drops each of these promises, which were tested, but for the owner's own that a mark awaits.
-    pub(crate) fn leave(&mut self, marks: &Marks, tested: &[SignedPromise])
+    pub(crate) fn leave(&mut self, marks: &[Mark], tested: &[SignedPromise])
         ensures left { IsLeft (IsNeeded tested.now marks.now) self.old self.new }
         ensures once { HasNoRepeat (map signed_of self.old) → HasNoRepeat (map signed_of self.new) }
     {
@@ -108,19 +107,8 @@ impl Promises {
         Ok(())
     }
 
-    /// Where the promise stands, if it does. The last one is compared before the index is asked.
-    fn place_of(&self, signed: &SignedPromise) -> Option<usize>
-        ensures { MatchOption result (All (λ kept. kept.signed ≢ signed.now) self.now)
-            (λ place. (place < length self.now) × ((d : PromisedMade) → (slice_index_or self.now place d).signed ≡ signed.now)) }
-    {
-        match place_if_last(&self.list, signed) {
-            Some(place) => Some(place),
-            None => self.place_by_index(signed),
-        }
-    }
-
     /// Where the promise stands, if it does. The last promises are compared first.
-    fn place_by_index(&self, signed: &SignedPromise) -> Option<usize>
+    fn place_of(&self, signed: &SignedPromise) -> Option<usize>
         ensures { MatchOption result (All (λ kept. kept.signed ≢ signed.now) self.now)
             (λ place. (place < length self.now) × ((d : PromisedMade) → (slice_index_or self.now place d).signed ≡ signed.now)) }
     {
@@ -129,21 +117,6 @@ impl Promises {
         } else {
             None
         }
-    }
-}
-
-/// Where the promise stands, if it is the last one.
-fn place_if_last(promises: &[Promised], signed: &SignedPromise) -> Option<usize>
-    ensures { IfSome result (λ place. (place < length promises.now) × ((d : PromisedMade) → (slice_index_or promises.now place d).signed ≡ signed.now)) }
-{
-    if promises.is_empty() {
-        return None;
-    }
-    let place = promises.len() - 1;
-    if promises[place].signed == *signed {
-        Some(place)
-    } else {
-        None
     }
 }
 

@@ -1,14 +1,54 @@
 // Lists that take an element: it is joined to the one that has its key, or is put behind the others. Each function
 // returns whether the list is another one now.
 
-ghost use Rattle.std.specs.Prelude.{◌≡◌, ◌≢◌, ◌↔◌, map, All, Any, Contains, IfOk, IsTrue, MatchBool, OnErr};
+ghost use Rattle.std.specs.Prelude.{◌≡◌, ◌≢◌, ◌↔◌, ◌<◌, length, map, slice_index_or, All, Any, Contains, IfOk, IsTrue, MatchBool, MatchOption, OnErr};
 ghost use Rattle.memory.specs.Lists.{HasNoRepeat};
-ghost use Rattle.memory.specs.Memories.{final_name};
-ghost use Rattle.memory.specs.Taking.{PutsAlarm, PutsEvidence, PutsFinal};
+ghost use Rattle.memory.specs.Memories.{final_name, name_of};
+ghost use Rattle.memory.specs.Taking.{PutsAlarm, PutsEvidence, PutsFinal, PutsMark};
+ghost use Rattle.memory.specs.declared.mark.Mark.{Mark};
 
-use crate::{Alarm, EvidenceLine, FinalSeen};
+use crate::{Alarm, EvidenceLine, FinalSeen, Mark};
 use encoding::Name;
 use std::alloc::AllocError;
+
+pub(crate) fn put_mark(marks: &mut Vec<Mark>, new: Mark) -> Result<bool, AllocError>
+    ensures puts { IfOk result (λ is_new. PutsMark new marks.old.items marks.new.items
+        × MatchBool is_new (marks.new.items ≢ marks.old.items) (marks.new.items ≡ marks.old.items)) }
+    ensures err { OnErr result (marks.new.items ≡ marks.old.items) }
+    ensures once { HasNoRepeat (map name_of marks.old.items) → HasNoRepeat (map name_of marks.new.items) }
+{
+    match place_of_mark(marks, &new.name) {
+        Some(place) => {
+            let is_new = differs(&marks[place], &new);
+            marks[place] = new;
+            Ok(is_new)
+        }
+        None => {
+            marks.push(new)?;
+            Ok(true)
+        }
+    }
+}
+
+/// Whether two marks differ.
+fn differs(kept: &Mark, new: &Mark) -> bool
+    ensures { MatchBool result (kept.now ≢ new.now) (kept.now ≡ new.now) }
+{
+    kept != new
+}
+
+/// Where the mark of a name stands, if there is one.
+pub(crate) fn place_of_mark(marks: &[Mark], name: &Name) -> Option<usize>
+    ensures { MatchOption result (All (λ kept. kept.name ≢ name.now) marks.now)
+        (λ place. (place < length marks.now) × ((d : Mark) → (slice_index_or marks.now place d).name ≡ name.now)) }
+{
+    for place in 0..marks.len() {
+        if marks[place].name == *name {
+            return Some(place);
+        }
+    }
+    None
+}
 
 pub(crate) fn put_final(finals: &mut Vec<FinalSeen>, new: FinalSeen) -> Result<bool, AllocError>
     ensures puts { IfOk result (λ is_new. PutsFinal new finals.old.items finals.new.items

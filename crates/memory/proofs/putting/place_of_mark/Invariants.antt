@@ -1,6 +1,6 @@
 use Rattle.std.proofs.Common.{◌<◌, ◌≢◌, ℕ, get_or}
 use Rattle.memory.specs.declared.mark.Mark.{Mark}
-use Rattle.memory.proofs.marks.place_among.Given as goal
+use Rattle.memory.proofs.putting.place_of_mark.Given as goal
 
 -- none so far has the name
 abbrev pub invariant-loop-place : goal.invariant-loop-place

@@ -2,7 +2,7 @@ use Rattle.std.proofs.Common.{◌∙◌, sym}
 use Rattle.std.proofs.lemmas.Bool.{false≢true}
 use Rattle.memory.specs.PromiseIndex.{IsIndexed}
 use Rattle.memory.proofs.Indexed.{has-text, unindexed}
-use Rattle.memory.proofs.promises.Promises.place_by_index.Goals as goal
+use Rattle.memory.proofs.promises.Promises.place_of.Goals as goal
 
 pub returns-else-contains : goal.returns-else-contains
 returns-else-contains c =
