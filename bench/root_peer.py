@@ -104,7 +104,9 @@ def measures():
 
 def digest_time(name, digests):
     """The time of so many digests, all at once, of which half but one are of interior nodes and the others of leaves."""
-    interior, leaf = (step.seconds / (TEXTS * TEXT_ROUNDS) for step in steps_of([name, "texts", f"{TEXTS}", f"{TEXT_ROUNDS}"], 4)[1][1::2])
+    words = [name, "texts", f"{TEXTS}", f"{TEXT_ROUNDS}"]
+    _, (_, interiors, _, leaves) = steps_of(words, 4)
+    interior, leaf = (step.seconds / (TEXTS * TEXT_ROUNDS) for step in (interiors, leaves))
     return digests // 2 * interior + (digests + 1) // 2 * leaf
 
 

@@ -1,10 +1,14 @@
 # What the scripts beside this one share.
 
+# The folder of the kit.
+kit_folder() {
+    dirname "$(dirname "$(readlink -f "$(command -v rt)")")"
+}
+
 # Builds a library that is loaded before the C library, with the kit's compiler or another one: library SOURCE OUTPUT
 library() {
-    local kit compiler
-    kit=$(dirname "$(dirname "$(readlink -f "$(command -v rt)")")")
-    compiler=$kit/toolchain/bin/clang
+    local compiler
+    compiler=$(kit_folder)/toolchain/bin/clang
     [ -x "$compiler" ] || compiler=cc
     "$compiler" -O1 -fPIC -shared -nostdlib -o "$2" "$1"
 }
@@ -13,7 +17,7 @@ library() {
 # They are then in `kit` and `libraries`. The status is 1 if one is not there.
 find_libraries() {
     local folder name library
-    kit=$(dirname "$(dirname "$(readlink -f "$(command -v rt)")")")
+    kit=$(kit_folder)
     libraries=(--extern "std=$kit/rlibs/std.rlib" -L "dependency=$kit/rlibs")
     libraries+=(--antt-project "$kit/rattle/logic/antt-project.json" --logic-built "$kit/logic_built")
     for folder in crates/*/out/rlib; do
